@@ -21,8 +21,8 @@ fn main(rt: HostRuntime) -> ExitCode {
         Ok(code) => code,
         Err(fault) => {
             // If standard error fails too, only the exit status reports the fault.
-            let told = eprintln!(rt; "bench: {fault}");
-            drop(told);
+            let reported = eprintln!(rt; "bench: {fault}");
+            drop(reported);
             ExitCode::FAILURE
         }
     }
@@ -38,7 +38,7 @@ fn run(rt: &HostRuntime) -> Result<ExitCode, Fault> {
     match read_task(alloc, &words) {
         Ok(Some(task)) => measure(rt, alloc, &task),
         Ok(None) => Err(Fault::Label),
-        Err(error) => told(rt, error),
+        Err(error) => reported(rt, error),
     }
 }
 
@@ -74,7 +74,7 @@ fn read_indexes(rt: &HostRuntime, alloc: Global, task: &Task) -> Result<IndexSet
 }
 
 // Prints help, or the error in the command line.
-fn told(rt: &HostRuntime, error: Error) -> Result<ExitCode, Fault> {
+fn reported(rt: &HostRuntime, error: Error) -> Result<ExitCode, Fault> {
     if error.kind() == ErrorKind::OutOfMemory {
         return Err(Fault::NoMemory);
     }

@@ -7,6 +7,6 @@ before mark [] = []
 before mark (b ∷ bytes) = if b == mark then [] else b ∷ before mark bytes
 
 -- The bytes after the first mark, or none.
-abbrev pub after : ℕ → List ℕ → List ℕ
-after mark [] = []
-after mark (b ∷ bytes) = if b == mark then bytes else after mark bytes
+abbrev pub rest_after : ℕ → List ℕ → List ℕ
+rest_after mark [] = []
+rest_after mark (b ∷ bytes) = if b == mark then bytes else rest_after mark bytes

@@ -1,7 +1,7 @@
 //! Parts of texts: what stands before and after a mark, and numbers.
 ghost use Rattle.std.specs.Prelude.{◌≡◌, ◌==◌};
 ghost use Rattle.std.specs.List.{position};
-ghost use Rattle.common.specs.Splits.{before, after};
+ghost use Rattle.common.specs.Splits.{before, rest_after};
 ghost use Rattle.common.specs.Numbers.{number_of};
 
 /// The position of the first mark.
@@ -24,7 +24,7 @@ pub fn prefix(text: &[u8], mark: u8) -> &[u8]
 
 /// The bytes after the first mark, or none.
 pub fn after(text: &[u8], mark: u8) -> &[u8]
-    ensures { result.now ≡ after mark text.now }
+    ensures { result.now ≡ rest_after mark text.now }
 {
     match place_of(text, mark) {
         Some(at) => &text[at + 1..],

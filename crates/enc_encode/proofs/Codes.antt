@@ -16,7 +16,7 @@ use Rattle.enc_model.specs.declared.Mode.TheVariants.{Html, Fatal}
 use Rattle.enc_model.specs.Index.{Index}
 use Rattle.enc_model.specs.Encode.{Shift, InAscii, InRoman, InJis, Written, Wrote, Restore, Unmappable, Encoder}
 use Rattle.enc_model.specs.Encode.{Coded, led_by}
-use Rattle.enc_model.specs.Encode.{reference, coded, joined, all_codes, after_written, settled, code_within}
+use Rattle.enc_model.specs.Encode.{reference, coded, joined_code, all_codes, after_written, settled, code_within}
 use Rattle.enc_model.specs.Encode.{plain_code, code_of, IsNoRestore, Tables, is_jis, shift_jis_encoder, euc_jp_encoder}
 use Rattle.enc_model.specs.Encode.{iso2022_encoder, single_encoder, utf8_bytes, utf8_encoder, encoder}
 use Rattle.enc_model.proofs.Coding.{ArePlain, reference_plain, coded_is}
@@ -29,10 +29,10 @@ use Rattle.enc_encode.specs.Code.{final, written_of}
 use Rattle.enc_encode.specs.Held.{own_byte}
 
 -- the encoder writes it as it is from here
-abbrev StandsFor : Encoder → Shift → ℕ → Type 0
-StandsFor f s x = f s x ≡ Wrote (x ∷ []) s
+abbrev WritesAsIs : Encoder → Shift → ℕ → Type 0
+WritesAsIs f s x = f s x ≡ Wrote (x ∷ []) s
 
-plain_run : (f : Encoder) (s : Shift) → ((x : ℕ) → 0x20 ≤ x → x < 0x5C → StandsFor f s x) → (r : List ℕ) → ArePlain r →
+plain_run : (f : Encoder) (s : Shift) → ((x : ℕ) → 0x20 ≤ x → x < 0x5C → WritesAsIs f s x) → (r : List ℕ) → ArePlain r →
     all_codes (plain_code f) s r ≡ record { bytes = r; state = s; fault = None }
 plain_run f s each [] p = refl
 plain_run f s each (x ∷ r) p =
@@ -46,7 +46,7 @@ AtUnmappable _ P = Unit {0}
 
 -- at an error its state takes plain characters as they are
 abbrev HasPlain : Encoder → Type 0
-HasPlain f = (s : Shift) (c x : ℕ) → 0x20 ≤ x → x < 0x5C → AtUnmappable (settled f c (f s c)) (λ z. StandsFor f z x)
+HasPlain f = (s : Shift) (c x : ℕ) → 0x20 ≤ x → x < 0x5C → AtUnmappable (settled f c (f s c)) (λ z. WritesAsIs f z x)
 
 anywhere : (w : Written) (P : Shift → Type 0) → ((z : Shift) → P z) → AtUnmappable w P
 anywhere (Wrote b s) P h = tt
@@ -54,7 +54,7 @@ anywhere (Restore b s) P h = tt
 anywhere (Unmappable b s d) P h = h s
 
 iso_plain : (i k : Index) (z : Shift) (x : ℕ) → is_jis z ≡ false → 0x20 ≤ x → x < 0x5C
-    → StandsFor (iso2022_encoder i k) z x
+    → WritesAsIs (iso2022_encoder i k) z x
 unfolding iso2022_encoder
 iso_plain i k InAscii x e l h = grind (arith, nat_tests)
 iso_plain i k InRoman x e l h = grind (arith, nat_tests)
@@ -78,30 +78,30 @@ encoder_plain t encodings.Utf8 s c x l h = tt
 encoder_plain t encodings.Utf16Be s c x l h = tt
 encoder_plain t encodings.Utf16Le s c x l h = tt
 encoder_plain t encodings.ShiftJis s c x l h =
-    let f = shift_jis_encoder t.jis0208 in anywhere (settled f c (f s c)) (λ z. StandsFor f z x)
+    let f = shift_jis_encoder t.jis0208 in anywhere (settled f c (f s c)) (λ z. WritesAsIs f z x)
     (λ z. grind (arith, nat_tests))
 encoder_plain t encodings.EucJp s c x l h =
-    let f = euc_jp_encoder t.jis0208 in anywhere (settled f c (f s c)) (λ z. StandsFor f z x)
+    let f = euc_jp_encoder t.jis0208 in anywhere (settled f c (f s c)) (λ z. WritesAsIs f z x)
     (λ z. grind (arith, nat_tests))
 encoder_plain t encodings.Iso2022Jp s c x l h =
     let f = iso2022_encoder t.jis0208 t.katakana in
-    weaker (settled f c (f s c)) (λ z. is_jis z ≡ false) (λ z. StandsFor f z x)
+    weaker (settled f c (f s c)) (λ z. is_jis z ≡ false) (λ z. WritesAsIs f z x)
     (λ z o. iso_plain t.jis0208 t.katakana z x o l h) (iso_out t.jis0208 t.katakana s c)
 encoder_plain t e s c x l h =
-    let f = single_encoder (t.single e) in anywhere (settled f c (f s c)) (λ z. StandsFor f z x)
+    let f = single_encoder (t.single e) in anywhere (settled f c (f s c)) (λ z. WritesAsIs f z x)
     (λ z. grind (arith, nat_tests))
 
 -- THE CODE OF ONE CHARACTER
 
-joined_end : (r : Coded) → joined r (λ next. record { bytes = []; state = next; fault = None }) ≡ r
+joined_end : (r : Coded) → joined_code r (λ next. record { bytes = []; state = next; fault = None }) ≡ r
 joined_end r = go r.fault refl
   where
-    go : (z : Option ℕ) → r.fault ≡ z → joined r (λ next. record { bytes = []; state = next; fault = None }) ≡ r
+    go : (z : Option ℕ) → r.fault ≡ z → joined_code r (λ next. record { bytes = []; state = next; fault = None }) ≡ r
     go None e = rw (e, append-nil) refl
     go (Some d) e = rw e refl
 
 within_final : (f : Encoder) (mode : Mode) (w : Written)
-    → ((x : ℕ) → 0x20 ≤ x → x < 0x5C → AtUnmappable w (λ z. StandsFor f z x)) →
+    → ((x : ℕ) → 0x20 ≤ x → x < 0x5C → AtUnmappable w (λ z. WritesAsIs f z x)) →
     code_within mode (all_codes (plain_code f)) w ≡ final mode w
 within_final f mode (Wrote b s) p = refl
 within_final f mode (Restore b s) p = refl
@@ -155,31 +155,31 @@ not_again (code.Unmappable b s d) n = tt
 
 -- A RUN OF ASCII
 
-ascii_stands : (t : Tables) (e : Encoding) (s : Shift) (x : ℕ) → (e ≡ encodings.Iso2022Jp → ⊥) → x < 128
-    → StandsFor (encoder t e) s x
+ascii_as_is : (t : Tables) (e : Encoding) (s : Shift) (x : ℕ) → (e ≡ encodings.Iso2022Jp → ⊥) → x < 128
+    → WritesAsIs (encoder t e) s x
 unfolding shift_jis_encoder euc_jp_encoder single_encoder
-ascii_stands t encodings.Utf8 s x n l = grind (arith, nat_tests)
-ascii_stands t encodings.Utf16Be s x n l = grind (arith, nat_tests)
-ascii_stands t encodings.Utf16Le s x n l = grind (arith, nat_tests)
-ascii_stands t encodings.ShiftJis s x n l = grind (arith, nat_tests)
-ascii_stands t encodings.EucJp s x n l = grind (arith, nat_tests)
-ascii_stands t encodings.Iso2022Jp s x n l = absurd (n refl)
-ascii_stands t e s x n l = grind (arith, nat_tests)
+ascii_as_is t encodings.Utf8 s x n l = grind (arith, nat_tests)
+ascii_as_is t encodings.Utf16Be s x n l = grind (arith, nat_tests)
+ascii_as_is t encodings.Utf16Le s x n l = grind (arith, nat_tests)
+ascii_as_is t encodings.ShiftJis s x n l = grind (arith, nat_tests)
+ascii_as_is t encodings.EucJp s x n l = grind (arith, nat_tests)
+ascii_as_is t encodings.Iso2022Jp s x n l = absurd (n refl)
+ascii_as_is t e s x n l = grind (arith, nat_tests)
 
-stands_code : (f : Encoder) (mode : Mode) (s : Shift) (x : ℕ) → StandsFor f s x → code_of f mode s x ≡ record {
+as_is_code : (f : Encoder) (mode : Mode) (s : Shift) (x : ℕ) → WritesAsIs f s x → code_of f mode s x ≡ record {
   bytes = x ∷ [];
   state = s;
   fault = None;
 }
-stands_code f mode s x e = rw e refl
+as_is_code f mode s x e = rw e refl
 
-ascii_run : (f : Encoder) (mode : Mode) (s : Shift) (xs : List ℕ) → ((x : ℕ) → x < 128 → StandsFor f s x)
+ascii_run : (f : Encoder) (mode : Mode) (s : Shift) (xs : List ℕ) → ((x : ℕ) → x < 128 → WritesAsIs f s x)
     → All (λ b. b < 128) xs →
     all_codes (code_of f mode) s xs ≡ record { bytes = xs; state = s; fault = None }
 ascii_run f mode s [] each a = refl
 ascii_run f mode s (x ∷ xs) each a =
     rw (
-      stands_code f mode s x (each x (All-head (λ b. b < 128) x xs a)),
+      as_is_code f mode s x (each x (All-head (λ b. b < 128) x xs a)),
       ascii_run f mode s xs each
           (All-tail (λ b. b < 128) x xs a),
     ) refl
@@ -190,21 +190,21 @@ pub ascii_code : (t : Tables) (e : Encoding) (mode : Mode) (s : Shift) (xs : Lis
     coded (encoder t e) mode s xs ≡ record { bytes = xs; state = s; fault = None }
 ascii_code t e mode s xs n a =
     coded_is (encoder t e) (encoder_steady t e) mode s xs ∙ ascii_run (encoder t e) mode s xs
-    (λ x l. ascii_stands t e s x n l) a
+    (λ x l. ascii_as_is t e s x n l) a
 
 -- A RUN OF ASCII THAT STANDS FOR ITSELF
 
-own_stands : (t : Tables) (e : Encoding) (s : Shift) (x : ℕ) → own_byte e s x ≡ true → StandsFor (encoder t e) s x
+own_as_is : (t : Tables) (e : Encoding) (s : Shift) (x : ℕ) → own_byte e s x ≡ true → WritesAsIs (encoder t e) s x
 unfolding shift_jis_encoder euc_jp_encoder single_encoder iso2022_encoder
-own_stands t encodings.Iso2022Jp InAscii x h = grind (arith, nat_tests, h)
-own_stands t encodings.Iso2022Jp InRoman x h = absurd cc
-own_stands t encodings.Iso2022Jp InJis x h = absurd cc
-own_stands t encodings.Utf8 s x h = grind (arith, nat_tests, h)
-own_stands t encodings.Utf16Be s x h = grind (arith, nat_tests, h)
-own_stands t encodings.Utf16Le s x h = grind (arith, nat_tests, h)
-own_stands t encodings.ShiftJis s x h = grind (arith, nat_tests, h)
-own_stands t encodings.EucJp s x h = grind (arith, nat_tests, h)
-own_stands t e s x h = grind (arith, nat_tests, h)
+own_as_is t encodings.Iso2022Jp InAscii x h = grind (arith, nat_tests, h)
+own_as_is t encodings.Iso2022Jp InRoman x h = absurd cc
+own_as_is t encodings.Iso2022Jp InJis x h = absurd cc
+own_as_is t encodings.Utf8 s x h = grind (arith, nat_tests, h)
+own_as_is t encodings.Utf16Be s x h = grind (arith, nat_tests, h)
+own_as_is t encodings.Utf16Le s x h = grind (arith, nat_tests, h)
+own_as_is t encodings.ShiftJis s x h = grind (arith, nat_tests, h)
+own_as_is t encodings.EucJp s x h = grind (arith, nat_tests, h)
+own_as_is t e s x h = grind (arith, nat_tests, h)
 
 own_run : (t : Tables) (e : Encoding) (mode : Mode) (s : Shift) (xs : List ℕ)
     → All (λ x. own_byte e s x ≡ true) xs →
@@ -213,7 +213,7 @@ own_run t e mode s [] a = refl
 own_run t e mode s (x ∷ xs) a =
     let own = λ (x : ℕ). own_byte e s x ≡ true in
     rw (
-      stands_code (encoder t e) mode s x (own_stands t e s x (All-head own x xs a)),
+      as_is_code (encoder t e) mode s x (own_as_is t e s x (All-head own x xs a)),
       own_run t e mode s xs (All-tail own x xs a),
     ) refl
 

@@ -66,15 +66,15 @@ two n l h = sym (decimal_step n l (omega (arith, h))
     ∙ ap (λ z. z ++ (48 + n % 10) ∷ []) (decimal_digit (n / 10) (omega (arith, h))))
 
 -- one digit behind those of the tenth
-behind : (n : ℕ) (digits : List ℕ) → 10 ≤ n → n < 100000 → digits ≡ decimal (n / 10)
+digit_after : (n : ℕ) (digits : List ℕ) → 10 ≤ n → n < 100000 → digits ≡ decimal (n / 10)
     → digits ++ (48 + n % 10) ∷ [] ≡ decimal n
-behind n digits l h e = ap (λ z. z ++ (48 + n % 10) ∷ []) e ∙ sym (decimal_step n l (omega (arith, h)))
+digit_after n digits l h e = ap (λ z. z ++ (48 + n % 10) ∷ []) e ∙ sym (decimal_step n l (omega (arith, h)))
 
 pub three : (n : ℕ) → 100 ≤ n → n < 1000
     → (48 + n / 100 % 10) ∷ (48 + n / 10 % 10) ∷ (48 + n % 10) ∷ [] ≡ decimal n
 three n l h =
     let first : n / 100 % 10 ≡ n / 10 / 10 = omega (arith, h) in
-    behind n ((48 + n / 100 % 10) ∷ (48 + n / 10 % 10) ∷ []) (omega (arith, l)) (omega (arith, h))
+    digit_after n ((48 + n / 100 % 10) ∷ (48 + n / 10 % 10) ∷ []) (omega (arith, l)) (omega (arith, h))
     (ap (λ i. (48 + i) ∷ (48 + n / 10 % 10) ∷ []) first ∙ two (n / 10) (omega (arith, l)) (omega (arith, h)))
 
 pub four : (n : ℕ) → 1000 ≤ n → n < 10000
@@ -82,7 +82,7 @@ pub four : (n : ℕ) → 1000 ≤ n → n < 10000
 four n l h =
     let first : n / 1000 % 10 ≡ n / 10 / 100 % 10 = omega arith in
     let second : n / 100 % 10 ≡ n / 10 / 10 % 10 = omega arith in
-    behind n ((48 + n / 1000 % 10) ∷ (48 + n / 100 % 10) ∷ (48 + n / 10 % 10) ∷ []) (omega (arith, l))
+    digit_after n ((48 + n / 1000 % 10) ∷ (48 + n / 100 % 10) ∷ (48 + n / 10 % 10) ∷ []) (omega (arith, l))
     (omega (arith, h)) (ap₂ (λ i k. (48 + i) ∷ (48 + k) ∷ (48 + n / 10 % 10) ∷ []) first second
     ∙ three (n / 10) (omega (arith, l)) (omega (arith, h)))
 
@@ -93,7 +93,7 @@ five n l h =
     let first : n / 10000 % 10 ≡ n / 10 / 1000 % 10 = omega arith in
     let second : n / 1000 % 10 ≡ n / 10 / 100 % 10 = omega arith in
     let third : n / 100 % 10 ≡ n / 10 / 10 % 10 = omega arith in
-    behind n ((48 + n / 10000 % 10) ∷ (48 + n / 1000 % 10) ∷ (48 + n / 100 % 10) ∷ (48 + n / 10 % 10) ∷ [])
+    digit_after n ((48 + n / 10000 % 10) ∷ (48 + n / 1000 % 10) ∷ (48 + n / 100 % 10) ∷ (48 + n / 10 % 10) ∷ [])
     (omega (arith, l)) h (ap₂ (λ i k. (48 + i) ∷ (48 + k) ∷ (48 + n / 100 % 10) ∷ (48 + n / 10 % 10) ∷ []) first second
     ∙ ap (λ i. (48 + n / 10 / 1000 % 10) ∷ (48 + n / 10 / 100 % 10) ∷ (48 + i) ∷ (48 + n / 10 % 10) ∷ []) third
     ∙ four (n / 10) (omega (arith, l)) (omega (arith, h)))

@@ -4,24 +4,24 @@ use Rattle.std.proofs.Common.{arith, length, take, drop, get_or, append_assoc, a
 use Rattle.std.proofs.lemmas.List.{take_more, get_or-take}
 use Rattle.std.proofs.lemmas.Str.{IsUtf8-past_char}
 use Rattle.std.specs.Str.{IsUtf8}
-use Rattle.enc_index.specs.Entries.{found}
+use Rattle.enc_index.specs.Entries.{found_pointer}
 use Rattle.enc_encode.specs.Letters.{AreLetters, IsLetter}
 use Rattle.enc_encode.specs.Runs.{FirstGiven, RunPrefix}
-use Rattle.enc_encode.specs.Singles.{FewPointers, IsSingle}
+use Rattle.enc_encode.specs.Singles.{FewPointers, IsSingleByte}
 use Rattle.enc_encode.proofs.Puts.{two_at}
 use Rattle.enc_encode.proofs.RunPrefixes.{run_none, run_more}
 use Rattle.enc_encode.proofs.Twos.{two_begin}
 
-pointer_few : (at : List ℕ) (c p : ℕ) → FewPointers at → found at c ≡ Some p → p < 128
+pointer_few : (at : List ℕ) (c p : ℕ) → FewPointers at → found_pointer at c ≡ Some p → p < 128
 pointer_few at c p few is = subst (λ o. IfSome o (λ p. p < 128)) is (few c)
 
-single_by : (at : List ℕ) (c p b : ℕ) → 128 ≤ c → found at c ≡ Some p → b ≡ p + 0x80 → IsSingle at c (b ∷ [])
+single_by : (at : List ℕ) (c p b : ℕ) → 128 ≤ c → found_pointer at c ≡ Some p → b ≡ p + 0x80 → IsSingleByte at c (b ∷ [])
 single_by at c p b outside is own = inr (outside, p, is, ap (λ z. z ∷ []) own)
 
 -- a letter's byte is the one that the encoding has
 letter_given : (at : List ℕ) (low byte count lead trail b : ℕ) (more : List ℕ) → FewPointers at
     → AreLetters at low byte count → IsLetter low byte count lead trail b → IsUtf8 (lead ∷ trail ∷ more)
-    → FirstGiven (IsSingle at) (lead ∷ trail ∷ more) (b ∷ []) more
+    → FirstGiven (IsSingleByte at) (lead ∷ trail ∷ more) (b ∷ []) more
 letter_given at low byte count lead trail b more few are is u =
     let lowest = are.lowest in
     let highest = are.highest in
@@ -57,11 +57,11 @@ module _ (at text lanes bytes held : List ℕ) (low byte count n : ℕ) (few : F
       (here (2 * k) (omega (arith, l, most))) (each k l))
 
   pub letters_run : (m : ℕ) → m ≤ n
-      → RunPrefix (IsSingle at) text (drop (2 * m) text) held (held ++ take m bytes) × IsUtf8 (drop (2 * m) text)
-  letters_run zero l = (run_none (IsSingle at) text held (held ++ []) (append-nil held), u)
+      → RunPrefix (IsSingleByte at) text (drop (2 * m) text) held (held ++ take m bytes) × IsUtf8 (drop (2 * m) text)
+  letters_run zero l = (run_none (IsSingleByte at) text held (held ++ []) (append-nil held), u)
   letters_run (suc m) l =
       let before = letters_run m (omega (arith, l)) in
-      let gives = IsSingle at in
+      let gives = IsSingleByte at in
       let b = get_or bytes m 0 in
       let rest = drop (2 * m) text in
       let left = drop (2 * suc m) text in

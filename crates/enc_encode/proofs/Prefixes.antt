@@ -22,12 +22,12 @@ use Rattle.enc_model.proofs.Utf8Bytes.{ascii_chars, ascii_utf8}
 use Rattle.enc_encode.specs.declared.error.EncodeError.{EncodeError}
 use Rattle.enc_encode.specs.declared.shift.ShiftState.{ShiftState}
 use Rattle.enc_encode.specs.declared.shift.ShiftState.TheVariants.{Roman, Jis}
-use Rattle.enc_encode.specs.Held.{Passed, Kept, HeldPrefix, IsOwnPrefix, own_byte}
+use Rattle.enc_encode.specs.Held.{Passed, HoldsCode, HeldPrefix, IsOwnPrefix, own_byte}
 use Rattle.enc_encode.specs.Reasons.{Gave}
 use Rattle.enc_encode.specs.State.{shift_of, shifted, EncoderState, code_from}
 use Rattle.enc_encode.proofs.Codes.{own_code}
 use Rattle.enc_encode.specs.Runs.{IsCoded, RunPrefix}
-use Rattle.enc_encode.proofs.Helds.{all_held, held_more, kept_given, kept_then, kept_error, nothing_appended}
+use Rattle.enc_encode.proofs.Helds.{all_held, held_more, held_given, held_then, held_error, nothing_appended}
 use Rattle.enc_encode.proofs.RunPrefixes.{char_own, char_one, coded_run}
 use Rattle.enc_encode.proofs.Runs.{gave_nothing, gave_stop}
 
@@ -84,10 +84,10 @@ prefix_of_prefix text lanes n e few = ap (take n) e ∙ take-take n 32 text few
 module _ (t : Tables) (e : EncoderState) {Z : Type 0} where
   -- ASCII that stands for itself
   pub ascii_held : (to : Encoding) (text lanes : List ℕ) (n : ℕ) (s : ShiftState) (old : Vec ℕ Z) (held : List ℕ)
-      (new : Vec ℕ Z) (mid kept : List ℕ) → to ≡ e.to →
-      IsOwnPrefix to (shift_of s) text lanes n → Passed old held [] new mid → kept ≡ mid ++ take n lanes →
-      HeldPrefix (code_from t (shifted e (shift_of s))) text (drop n text) old held new kept (Ok s)
-  ascii_held to text lanes n s old held new mid kept same own p k =
+      (new : Vec ℕ Z) (mid still_held : List ℕ) → to ≡ e.to →
+      IsOwnPrefix to (shift_of s) text lanes n → Passed old held [] new mid → still_held ≡ mid ++ take n lanes →
+      HeldPrefix (code_from t (shifted e (shift_of s))) text (drop n text) old held new still_held (Ok s)
+  ascii_held to text lanes n s old held new mid still_held same own p k =
       let prefix = take n text in
       let ascii = prefix_ascii to (shift_of s) text lanes n own in
       let code : code_from t (shifted e (shift_of s)) (chars prefix) ≡ record {
@@ -102,34 +102,34 @@ module _ (t : Tables) (e : EncoderState) {Z : Type 0} where
         prefix = prefix;
         parts = sym (take-append-drop n text);
         own = ascii_utf8 prefix ascii;
-        code = subst (λ z. Kept z old held new kept (Ok s)) (sym code) (
+        code = subst (λ z. HoldsCode z old held new still_held (Ok s)) (sym code) (
           refl,
           refl,
-          held_more prefix kept
+          held_more prefix still_held
               (k ∙ ap (λ z. mid ++ z) (prefix_of_prefix text lanes n own.lanes_are own.few)) p,
         );
       }
 
   -- one character
   pub char_held : (text rest : List ℕ) (c : ℕ) (s : ShiftState) (old : Vec ℕ Z) (held : List ℕ) (new : Vec ℕ Z)
-      (kept : List ℕ) (r : Result ShiftState EncodeError) →
-      IsUtf8 text → text ≡ encode c ++ rest → Kept (coded (encoder t e.to) e.mode (shift_of s) (c ∷ [])) old held new
-      kept r →
-      HeldPrefix (code_from t (shifted e (shift_of s))) text rest old held new kept r
-  char_held text rest c s old held new kept r u parts k =
+      (still_held : List ℕ) (r : Result ShiftState EncodeError) →
+      IsUtf8 text → text ≡ encode c ++ rest → HoldsCode (coded (encoder t e.to) e.mode (shift_of s) (c ∷ [])) old held new
+      still_held r →
+      HeldPrefix (code_from t (shifted e (shift_of s))) text rest old held new still_held r
+  char_held text rest c s old held new still_held r u parts k =
       let own = char_own text rest c u parts in
       record {
         prefix = encode c;
         parts = parts;
         own = own;
-        code = subst (λ z. Kept (code_from t (shifted e (shift_of s)) z) old held new kept r) (sym (char_one c own)) k;
+        code = subst (λ z. HoldsCode (code_from t (shifted e (shift_of s)) z) old held new still_held r) (sym (char_one c own)) k;
       }
 
   -- characters whose bytes are known
-  pub coded_held : (text rest : List ℕ) (s : ShiftState) (out : Vec ℕ Z) (held kept : List ℕ)
-      → RunPrefix (IsCoded t e.to e.mode (shift_of s)) text rest held kept →
-      HeldPrefix (code_from t (shifted e (shift_of s))) text rest out held out kept (Ok s)
-  coded_held text rest s out held kept p =
+  pub coded_held : (text rest : List ℕ) (s : ShiftState) (out : Vec ℕ Z) (held still_held : List ℕ)
+      → RunPrefix (IsCoded t e.to e.mode (shift_of s)) text rest held still_held →
+      HeldPrefix (code_from t (shifted e (shift_of s))) text rest out held out still_held (Ok s)
+  coded_held text rest s out held still_held p =
       let code : code_from t (shifted e (shift_of s)) (chars p.prefix) ≡ record {
         bytes = p.bytes;
         state = shift_of s;
@@ -140,55 +140,55 @@ module _ (t : Tables) (e : EncoderState) {Z : Type 0} where
         prefix = p.prefix;
         parts = p.parts;
         own = p.own;
-        code = subst (λ z. Kept z out held out kept (Ok s)) (sym code)
-            (refl, refl, all_held out held p.bytes kept p.kept);
+        code = subst (λ z. HoldsCode z out held out still_held (Ok s)) (sym code)
+            (refl, refl, all_held out held p.bytes still_held p.grown);
       }
 
   -- no character yet
-  pub prefix_none : (text : List ℕ) (s : ShiftState) (out : Vec ℕ Z) (kept : List ℕ) → shift_of s ≡ e.shift → kept ≡ []
-      → HeldPrefix (code_from t e) text text out [] out kept (Ok s)
-  prefix_none text s out kept h none = record {
+  pub prefix_none : (text : List ℕ) (s : ShiftState) (out : Vec ℕ Z) (still_held : List ℕ) → shift_of s ≡ e.shift → still_held ≡ []
+      → HeldPrefix (code_from t e) text text out [] out still_held (Ok s)
+  prefix_none text s out still_held h none = record {
     prefix = [];
     parts = refl;
     own = IsUtf8-nil;
-    code = subst (λ z. Kept (code_from t e z) out [] out kept (Ok s)) (sym chars-nil)
-        (subst (λ z. Kept (code_from t e []) out [] out z (Ok s)) (sym none)
-        (kept_given (code_from t e []) out [] out out (Ok s) (nothing_appended out) (gave_nothing t e out s h)));
+    code = subst (λ z. HoldsCode (code_from t e z) out [] out still_held (Ok s)) (sym chars-nil)
+        (subst (λ z. HoldsCode (code_from t e []) out [] out z (Ok s)) (sym none)
+        (held_given (code_from t e []) out [] out out (Ok s) (nothing_appended out) (gave_nothing t e out s h)));
   }
 
   -- one prefix more
-  pub prefix_then : (text rest left : List ℕ) (old : Vec ℕ Z) (held : List ℕ) (mid : Vec ℕ Z) (kept : List ℕ)
+  pub prefix_then : (text rest left : List ℕ) (old : Vec ℕ Z) (held : List ℕ) (mid : Vec ℕ Z) (still_held : List ℕ)
       (new : Vec ℕ Z) (last : List ℕ) (s : ShiftState) (r : Result ShiftState EncodeError) →
-      HeldPrefix (code_from t e) text rest old held mid kept (Ok s)
+      HeldPrefix (code_from t e) text rest old held mid still_held (Ok s)
       → HeldPrefix (code_from t (shifted e (shift_of s))) rest
-      left mid kept new last r →
+      left mid still_held new last r →
       HeldPrefix (code_from t e) text left old held new last r
-  prefix_then text rest left old held mid kept new last s r p q = record {
+  prefix_then text rest left old held mid still_held new last s r p q = record {
     prefix = p.prefix ++ q.prefix;
     parts = p.parts ∙ ap (λ z. p.prefix ++ z) q.parts ∙ sym (append_assoc p.prefix q.prefix left);
     own = IsUtf8-append p.prefix q.prefix p.own q.own;
-    code = subst (λ z. Kept (code_from t e z) old held new last r) (sym (chars-append p.prefix q.prefix p.own))
-        (kept_then t e (chars p.prefix) (chars q.prefix) old held mid kept new last s r p.code q.code);
+    code = subst (λ z. HoldsCode (code_from t e z) old held new last r) (sym (chars-append p.prefix q.prefix p.own))
+        (held_then t e (chars p.prefix) (chars q.prefix) old held mid still_held new last s r p.code q.code);
   }
 
   -- an error in a prefix is one of the text
-  pub prefix_error : (text rest : List ℕ) (old new : Vec ℕ Z) (kept : List ℕ) (d : EncodeError)
-      → HeldPrefix (code_from t e) text rest old [] new kept (Err d) →
+  pub prefix_error : (text rest : List ℕ) (old new : Vec ℕ Z) (still_held : List ℕ) (d : EncodeError)
+      → HeldPrefix (code_from t e) text rest old [] new still_held (Err d) →
       Gave (code_from t e (chars text)) old new (Err d)
-  prefix_error text rest old new kept d p =
+  prefix_error text rest old new still_held d p =
       subst (λ z. Gave (code_from t e z) old new (Err d))
       (sym (chars-append p.prefix rest p.own) ∙ ap chars (sym p.parts))
       (gave_stop t e (chars p.prefix) (chars rest) old new d
-      (kept_error (code_from t e (chars p.prefix)) old new kept d p.code))
+      (held_error (code_from t e (chars p.prefix)) old new still_held d p.code))
 
   -- nothing is left
-  pub prefix_all : (text rest : List ℕ) (old new : Vec ℕ Z) (kept : List ℕ) (s : ShiftState)
-      → HeldPrefix (code_from t e) text rest old [] new kept (Ok s) → true ≡ (length rest == 0) →
-      Kept (code_from t e (chars text)) old [] new kept (Ok s)
-  prefix_all text [] old new kept s p l =
-      subst (λ z. Kept (code_from t e (chars z)) old [] new kept (Ok s)) (sym (append-nil p.prefix)
+  pub prefix_all : (text rest : List ℕ) (old new : Vec ℕ Z) (still_held : List ℕ) (s : ShiftState)
+      → HeldPrefix (code_from t e) text rest old [] new still_held (Ok s) → true ≡ (length rest == 0) →
+      HoldsCode (code_from t e (chars text)) old [] new still_held (Ok s)
+  prefix_all text [] old new still_held s p l =
+      subst (λ z. HoldsCode (code_from t e (chars z)) old [] new still_held (Ok s)) (sym (append-nil p.prefix)
       ∙ sym p.parts) p.code
-  prefix_all text (b ∷ rest) old new kept s p l = absurd (grind (arith, nat_tests, l))
+  prefix_all text (b ∷ rest) old new still_held s p l = absurd (grind (arith, nat_tests, l))
 
 -- a text may be cut after ASCII
 pub own_cut : (to : Encoding) (s : Shift) (text lanes : List ℕ) (n : ℕ) → IsUtf8 text → IsOwnPrefix to s text lanes n

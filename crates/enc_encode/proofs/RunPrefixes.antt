@@ -16,7 +16,7 @@ use Rattle.enc_model.specs.Encode.{Shift, Encoder, Coded, Tables, code_of, coded
 use Rattle.enc_model.proofs.Coding.{coded_is}
 use Rattle.enc_model.proofs.Transcoding.{coded_both}
 use Rattle.enc_model.proofs.Steady.{encoder_steady}
-use Rattle.enc_encode.specs.Singles.{AreSingles, IsSingle}
+use Rattle.enc_encode.specs.Singles.{AreSingles, IsSingleByte}
 use Rattle.enc_encode.specs.Runs.{IsCoded, Stays, FirstGiven, AllGiven, RunPrefix}
 
 -- ONE CHARACTER
@@ -73,16 +73,16 @@ run_weaker gives are text rest held new h p = record {
   bytes = p.bytes;
   parts = p.parts;
   own = p.own;
-  kept = p.kept;
+  grown = p.grown;
   given = all_weaker gives are h (chars p.prefix) p.bytes p.given;
 }
 
 -- what a single-byte encoding has
 pub singles_coded : (t : Tables) (e : Encoding) (mode : Mode) (s : Shift) (at : List ℕ) → AreSingles (encoder t e) at
-    → (text rest held new : List ℕ) → RunPrefix (IsSingle at) text rest held new
+    → (text rest held new : List ℕ) → RunPrefix (IsSingleByte at) text rest held new
     → RunPrefix (IsCoded t e mode s) text rest held new
 singles_coded t e mode s at are text rest held new =
-    run_weaker (IsSingle at) (IsCoded t e mode s) text rest held new
+    run_weaker (IsSingleByte at) (IsCoded t e mode s) text rest held new
     (λ c b h. stays_coded t e mode s c b (are s c b h))
 
 -- what an encoder writes in its state
@@ -92,14 +92,14 @@ stays_run t e mode s text rest held new =
     run_weaker (Stays (encoder t e) s) (IsCoded t e mode s) text rest held new (stays_coded t e mode s)
 
 -- no character yet
-pub run_none : (gives : ℕ → List ℕ → Type 0) (text held kept : List ℕ) → kept ≡ held
-    → RunPrefix gives text text held kept
-run_none gives text held kept e = record {
+pub run_none : (gives : ℕ → List ℕ → Type 0) (text held still_held : List ℕ) → still_held ≡ held
+    → RunPrefix gives text text held still_held
+run_none gives text held still_held e = record {
   prefix = [];
   bytes = [];
   parts = refl;
   own = IsUtf8-nil;
-  kept = e ∙ sym (append-nil held);
+  grown = e ∙ sym (append-nil held);
   given = subst (λ z. AllGiven gives z []) (sym chars-nil) refl;
 }
 
@@ -130,41 +130,41 @@ all_both gives (x ∷ xs) ys a b p q = (
 
 all_ascii : (gives : ℕ → List ℕ → Type 0) → ((c : ℕ) → c < 128 → gives c (c ∷ [])) → (cs : List ℕ)
     → All (λ c. c < 128) cs → AllGiven gives cs cs
-all_ascii gives stands [] a = refl
-all_ascii gives stands (c ∷ cs) a = (
+all_ascii gives as_is [] a = refl
+all_ascii gives as_is (c ∷ cs) a = (
   c ∷ [],
   cs,
   refl,
-  stands c (All-head (λ c. c < 128) c cs a),
-  all_ascii gives stands cs (All-tail (λ c. c < 128) c cs a),
+  as_is c (All-head (λ c. c < 128) c cs a),
+  all_ascii gives as_is cs (All-tail (λ c. c < 128) c cs a),
 )
 
 -- one prefix after another
-pub run_both : (gives : ℕ → List ℕ → Type 0) (text rest left held kept new : List ℕ) → RunPrefix gives text rest held
-    kept
-    → RunPrefix gives rest left kept new → RunPrefix gives text left held new
-run_both gives text rest left held kept new p q = record {
+pub run_both : (gives : ℕ → List ℕ → Type 0) (text rest left held still_held new : List ℕ) → RunPrefix gives text rest held
+    still_held
+    → RunPrefix gives rest left still_held new → RunPrefix gives text left held new
+run_both gives text rest left held still_held new p q = record {
   prefix = p.prefix ++ q.prefix;
   bytes = p.bytes ++ q.bytes;
   parts = p.parts ∙ ap (λ z. p.prefix ++ z) q.parts ∙ sym (append_assoc p.prefix q.prefix left);
   own = IsUtf8-append p.prefix q.prefix p.own q.own;
-  kept = q.kept ∙ ap (λ z. z ++ q.bytes) p.kept ∙ append_assoc held p.bytes q.bytes;
+  grown = q.grown ∙ ap (λ z. z ++ q.bytes) p.grown ∙ append_assoc held p.bytes q.bytes;
   given = subst (λ z. AllGiven gives z (p.bytes ++ q.bytes)) (sym (chars-append p.prefix q.prefix p.own))
       (all_both gives (chars p.prefix) (chars q.prefix) p.bytes q.bytes p.given q.given);
 }
 
 -- one character more
-pub run_more : (gives : ℕ → List ℕ → Type 0) (text rest left held kept new b : List ℕ) → IsUtf8 rest
-    → RunPrefix gives text rest held kept → FirstGiven gives rest b left → new ≡ kept ++ b
+pub run_more : (gives : ℕ → List ℕ → Type 0) (text rest left held still_held new b : List ℕ) → IsUtf8 rest
+    → RunPrefix gives text rest held still_held → FirstGiven gives rest b left → new ≡ still_held ++ b
     → RunPrefix gives text left held new
-run_more gives text rest left held kept new b u p q e =
+run_more gives text rest left held still_held new b u p q e =
     let own = char_own rest left q.c u q.parts in
-    run_both gives text rest left held kept new p (record {
+    run_both gives text rest left held still_held new p (record {
       prefix = encode q.c;
       bytes = b;
       parts = q.parts;
       own = own;
-      kept = e;
+      grown = e;
       given = subst (λ z. AllGiven gives z b) (sym (char_one q.c own)) (b, [], sym (append-nil b), q.given, refl);
     })
 
@@ -172,14 +172,14 @@ run_more gives text rest left held kept new b u p q e =
 pub run_ascii : (gives : ℕ → List ℕ → Type 0) → ((c : ℕ) → c < 128 → gives c (c ∷ [])) → (text : List ℕ) (n : ℕ)
     (held new : List ℕ) → All (λ b. b < 128) (take n text) → new ≡ held ++ take n text
     → RunPrefix gives text (drop n text) held new
-run_ascii gives stands text n held new a e = record {
+run_ascii gives as_is text n held new a e = record {
   prefix = take n text;
   bytes = take n text;
   parts = sym (take-append-drop n text);
   own = ascii_utf8 (take n text) a;
-  kept = e;
+  grown = e;
   given = subst (λ z. AllGiven gives z (take n text)) (sym (ascii_chars (take n text) a))
-      (all_ascii gives stands (take n text) a);
+      (all_ascii gives as_is (take n text) a);
 }
 
 -- a text may be cut after ASCII

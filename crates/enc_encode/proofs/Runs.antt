@@ -1,7 +1,7 @@
 -- The codes of several characters, one after the other.
 use Rattle.std.proofs.Common.{ℕ, ◌≡◌, List, [], ◌++◌, Vec, Result, Ok, Err, Option, Some, None, refl, sym, append-nil}
 use Rattle.std.proofs.Common.{arith}
-use Rattle.enc_model.specs.Encode.{Tables, Shift, Coded, coded, coded_within, joined, encoder}
+use Rattle.enc_model.specs.Encode.{Tables, Shift, Coded, coded, coded_within, joined_code, encoder}
 use Rattle.enc_model.proofs.Coding.{coded_append}
 use Rattle.enc_model.proofs.Steady.{encoder_steady}
 use Rattle.enc_model.proofs.Transcoding.{coded_both, coded_fault}
@@ -43,10 +43,10 @@ module _ (t : Tables) (e : EncoderState) where
       (gave_after a.bytes (coded f e.mode (shift_of s) y) new r p.2 q)
 
   stopped_more : {Z : Type 0} (old new : Vec ℕ Z) (r : Coded) (m : Shift → Coded) → Stopped old r.bytes new
-      → Stopped old (joined r m).bytes new
+      → Stopped old (joined_code r m).bytes new
   stopped_more old new r m p = go r.fault refl
     where
-      go : (z : Option ℕ) → r.fault ≡ z → Stopped old (joined r m).bytes new
+      go : (z : Option ℕ) → r.fault ≡ z → Stopped old (joined_code r m).bytes new
       go None h = rw h (prefix (m r.state).bytes p)
       go (Some d) h = rw h p
 

@@ -6,10 +6,10 @@ use Rattle.enc_model.specs.declared.Encoding.{Encoding}
 use Rattle.enc_model.specs.declared.Encoding.TheVariants as encodings
 use Rattle.enc_model.specs.Index.{pointer}
 use Rattle.enc_model.specs.Encode.{Tables, encoder, single_encoder}
-use Rattle.enc_index.specs.Entries.{found}
-use Rattle.enc_encode.specs.Singles.{AreSingles, IsSingle}
+use Rattle.enc_index.specs.Entries.{found_pointer}
+use Rattle.enc_encode.specs.Singles.{AreSingles, IsSingleByte}
 
-pub ascii_single : (at : List ℕ) (c : ℕ) → c < 128 → IsSingle at c (c ∷ [])
+pub ascii_single : (at : List ℕ) (c : ℕ) → c < 128 → IsSingleByte at c (c ∷ [])
 ascii_single at c l = inl (l, refl)
 
 -- the encodings that have a single-byte index
@@ -26,7 +26,7 @@ single_is t encodings.Iso2022Jp a b c d f g = absurd (g refl)
 single_is t e a b c d f g = refl
 
 pub singles_are : (t : Tables) (e : Encoding) (at : List ℕ) → encoder t e ≡ single_encoder (t.single e)
-    → ((c : ℕ) → found at c ≡ pointer (t.single e) c) →
+    → ((c : ℕ) → found_pointer at c ≡ pointer (t.single e) c) →
     AreSingles (encoder t e) at
 unfolding single_encoder
 singles_are t e at is same s c bytes (inl h) =
@@ -39,7 +39,7 @@ singles_are t e at is same s c bytes (inr h) =
 -- the table that was found, if any
 pub singles_found : (t : Tables) (e : Encoding) (r : Option (Bor (List ℕ))) → encoder t e ≡ single_encoder (t.single e)
     →
-    MatchOption r ((c : ℕ) → pointer (t.single e) c ≡ None) (λ p. (c : ℕ) → found p.now c ≡ pointer (t.single e) c) →
+    MatchOption r ((c : ℕ) → pointer (t.single e) c ≡ None) (λ p. (c : ℕ) → found_pointer p.now c ≡ pointer (t.single e) c) →
     IfSome r (λ p. AreSingles (encoder t e) p.now)
 singles_found t e None is m = tt
 singles_found t e (Some p) is m = singles_are t e p.now is m

@@ -9,18 +9,18 @@ use Rattle.enc_encode.specs.declared.written.Written.{Written}
 use Rattle.enc_encode.specs.declared.written.Written.TheVariants.{Wrote, Restore, Unmappable}
 use Rattle.enc_encode.specs.State.{shift_of}
 
-abbrev pub bytes_of : Bytes → List ℕ
-bytes_of Zero = []
-bytes_of (One a) = a
-bytes_of (Two a) = a
-bytes_of (Three a) = a
-bytes_of (Four a) = a
-bytes_of (Five a) = a
+abbrev pub code_bytes : Bytes → List ℕ
+code_bytes Zero = []
+code_bytes (One a) = a
+code_bytes (Two a) = a
+code_bytes (Three a) = a
+code_bytes (Four a) = a
+code_bytes (Five a) = a
 
 abbrev pub written_of : Written → encode.Written
-written_of (Wrote b s) = encode.Wrote (bytes_of b) (shift_of s)
-written_of (Restore b s) = encode.Restore (bytes_of b) (shift_of s)
-written_of (Unmappable b s c) = encode.Unmappable (bytes_of b) (shift_of s) c
+written_of (Wrote b s) = encode.Wrote (code_bytes b) (shift_of s)
+written_of (Restore b s) = encode.Restore (code_bytes b) (shift_of s)
+written_of (Unmappable b s c) = encode.Unmappable (code_bytes b) (shift_of s) c
 
 -- what is written in the end: the bytes, and for an error the reference or nothing more
 abbrev pub final : Mode → encode.Written → encode.Coded

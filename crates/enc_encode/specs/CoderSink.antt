@@ -3,11 +3,11 @@ use Rattle.std.proofs.Common.{ℕ, ◌≡◌, List, [], ◌++◌, Option, Some, 
 use Rattle.std.proofs.Common.{subst}
 use Rattle.enc_feed.specs.Sink.{IsSink}
 use Rattle.enc_model.specs.declared.Mode.{Mode}
-use Rattle.enc_model.specs.Encode.{Encoder, Coded, led_by, coded, IsSteady}
+use Rattle.enc_model.specs.Encode.{Encoder, Coded, led_by, coded, IsSteadyEncoder}
 use Rattle.enc_model.specs.Transcode.{Coder, Took, Refused, IsReason}
 use Rattle.enc_model.proofs.Transcoding.{coded_none, coded_both, coded_fault}
 
-module _ (f : Encoder) (steady : IsSteady f) (mode : Mode) where
+module _ (f : Encoder) (steady : IsSteadyEncoder f) (mode : Mode) where
   took_both : (a b c : Coder) (x y : List ℕ) → Took f mode a x b → Took f mode b y c → Took f mode a (x ++ y) c
   took_both a b c x y p q =
       let r = coded f mode a.state x in

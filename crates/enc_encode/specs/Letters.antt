@@ -1,6 +1,6 @@
 -- Letters that a single-byte encoding has one after another.
 use Rattle.std.specs.Prelude.{ℕ, List, [], ◌∷◌, ◌≡◌, ◌<◌, ◌≤◌, ◌+◌, ◌*◌, ◌%◌, Some}
-use Rattle.enc_index.specs.Entries.{found}
+use Rattle.enc_index.specs.Entries.{found_pointer}
 
 -- characters of two bytes, told by what lead and trail count, where the lead counts 64: 12416 more than the code point.
 -- From the lowest on so many have bytes one after another, the first this one
@@ -8,7 +8,7 @@ pub record AreLetters (at : List ℕ) (low byte count : ℕ) : Type 0 where
   pub lowest : 12416 ≤ low
   pub highest : low + count ≤ 14464
   pub each : (c : ℕ) → low ≤ c + 12416 → c + 12416 < low + count
-      → (p : ℕ) × (found at c ≡ Some p) × (p + 128 + low ≡ byte + (c + 12416))
+      → (p : ℕ) × (found_pointer at c ≡ Some p) × (p + 128 + low ≡ byte + (c + 12416))
 
 -- what leads and trails count
 abbrev pub pair_codes : List ℕ → List ℕ

@@ -31,5 +31,5 @@ pub record RunPrefix (gives : ℕ → List ℕ → Type 0) (text rest held new :
   pub bytes : List ℕ
   pub parts : text ≡ prefix ++ rest
   pub own : IsUtf8 prefix
-  pub kept : new ≡ held ++ bytes
+  pub grown : new ≡ held ++ bytes
   pub given : AllGiven gives (chars prefix) bytes

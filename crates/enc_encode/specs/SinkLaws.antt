@@ -3,7 +3,7 @@ use Rattle.std.proofs.Common.{ℕ, ◌≡◌, ◌≤◌, List, ◌++◌, Option,
 use Rattle.std.proofs.Common.{length-append, Vec, vec_capacity}
 use Rattle.std.specs.declared.alloc.Global.{Global}
 use Rattle.enc_feed.specs.Sink.{IsSink}
-use Rattle.enc_model.specs.Encode.{Shift, Coded, encoder, joined}
+use Rattle.enc_model.specs.Encode.{Shift, Coded, encoder, joined_code}
 use Rattle.enc_model.specs.Transcode.{Took, Refused}
 use Rattle.enc_model.specs.Indexes.{tables}
 use Rattle.enc_model.proofs.Coding.{coded_append}
@@ -26,10 +26,10 @@ room_after old mid x y e c h =
     length-append old.items x in let i : length mid.items ≡ length (old.items ++ x) = ap length e in
     omega (arith, l, m, i, c, h)
 
-room_joined : (old : Vec ℕ Global) (r : Coded) (m : Shift → Coded) → NoRoom old r.bytes → NoRoom old (joined r m).bytes
+room_joined : (old : Vec ℕ Global) (r : Coded) (m : Shift → Coded) → NoRoom old r.bytes → NoRoom old (joined_code r m).bytes
 room_joined old r m p = go r.fault refl
   where
-    go : (z : Option ℕ) → r.fault ≡ z → NoRoom old (joined r m).bytes
+    go : (z : Option ℕ) → r.fault ≡ z → NoRoom old (joined_code r m).bytes
     go None h = rw h (room_prefix old r.bytes (m r.state).bytes p)
     go (Some d) h = rw h p
 

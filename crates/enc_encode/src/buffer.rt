@@ -2,12 +2,12 @@
 
 ghost use Rattle.std.specs.Prelude.{◌≡◌, ◌<◌, ◌≤◌, ◌+◌, ◌++◌, [], ℕ, OnOk, OnErr, IfSome, length};
 ghost use Rattle.std.specs.Prelude.{◌↔◌, IsSomeAnd, IsTrue, slice_get, take, vec_capacity};
-ghost use Rattle.enc_encode.specs.Code.{bytes_of};
+ghost use Rattle.enc_encode.specs.Code.{code_bytes};
 ghost use Rattle.enc_encode.specs.Growth.{Appended, Stopped};
 ghost use Rattle.enc_encode.specs.Held.{Passed};
 ghost use Rattle.enc_encode.specs.Letters.{AreLetters};
 ghost use Rattle.enc_encode.specs.Runs.{IsCoded, RunPrefix, Stays};
-ghost use Rattle.enc_encode.specs.Singles.{AreSingles, FewPointers, IsSingle};
+ghost use Rattle.enc_encode.specs.Singles.{AreSingles, FewPointers, IsSingleByte};
 ghost use Rattle.enc_encode.specs.State.{shift_of};
 ghost use Rattle.enc_model.specs.declared.Mode.TheVariants.{Html};
 ghost use Rattle.enc_model.specs.Encode.{encoder, reference};
@@ -88,7 +88,7 @@ impl Buffer {
     #[inline(always)]
     fn push(&mut self, bytes: Bytes)
         requires { length self.old + 5 ≤ ROOM }
-        ensures put { self.new ≡ self.old ++ bytes_of bytes }
+        ensures put { self.new ≡ self.old ++ code_bytes bytes }
         ensures few { length self.new ≤ length self.old + 5 }
     {
         match bytes {
@@ -115,7 +115,7 @@ impl Buffer {
     /// Puts the first so many bytes of some lanes after the others. All lanes are stored, so that nothing depends on
     /// how many.
     #[inline(always)]
-    pub fn push_front(&mut self, lanes: [u8; LANES], count: usize)
+    pub fn push_prefix(&mut self, lanes: [u8; LANES], count: usize)
         requires few { count ≤ LANES }
         requires room { length self.old + LANES ≤ ROOM }
         ensures { self.new ≡ self.old ++ take count lanes }
@@ -137,7 +137,7 @@ impl Buffer {
     ) -> &'a str
         requires few { FewPointers pointers.now }
         requires letters { AreLetters pointers.now letters.low letters.byte letters.count }
-        ensures { RunPrefix (IsSingle pointers.now) text.now result.now self.old self.new }
+        ensures { RunPrefix (IsSingleByte pointers.now) text.now result.now self.old self.new }
     {
         let mut len = self.len;
         let mut rest = text;
@@ -281,7 +281,7 @@ impl Buffer {
     #[inline(always)]
     #[tactic(auto, using(crate::proofs::Helds::held_more))]
     pub fn hold(&mut self, bytes: Bytes, out: &mut Vec<u8>) -> Result<(), AllocError>
-        ensures ok { OnOk result (Passed out.old self.old (bytes_of bytes) out.new self.new) }
+        ensures ok { OnOk result (Passed out.old self.old (code_bytes bytes) out.new self.new) }
         ensures err { OnErr result (Stopped out.old self.old out.new) }
     {
         self.make_room(out)?;
@@ -297,7 +297,7 @@ impl Buffer {
         c: char,
         out: &mut Vec<u8>,
     ) -> Result<(), AllocError>
-        ensures ok { OnOk result (Passed out.old self.old (bytes_of bytes ++ reference c) out.new self.new) }
+        ensures ok { OnOk result (Passed out.old self.old (code_bytes bytes ++ reference c) out.new self.new) }
         ensures err { OnErr result (Stopped out.old self.old out.new) }
     {
         self.make_room(out)?;

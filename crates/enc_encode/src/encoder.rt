@@ -8,7 +8,7 @@ ghost use Rattle.std.specs.Str.{chars};
 ghost use Rattle.enc_encode.specs.State.{EncoderState, shift_of, code_of_shift, code_of_shift_of, shifted, coder};
 ghost use Rattle.enc_encode.specs.State.{code_from};
 ghost use Rattle.enc_encode.specs.Growth.{NoRoom};
-ghost use Rattle.enc_encode.specs.Held.{Kept, HeldPrefix, IsOwnPrefix, own_byte};
+ghost use Rattle.enc_encode.specs.Held.{HoldsCode, HeldPrefix, IsOwnPrefix, own_byte};
 ghost use Rattle.enc_encode.specs.Letters.{AreLetters};
 ghost use Rattle.enc_encode.specs.Loops.{IsLoopOf};
 ghost use Rattle.enc_encode.specs.Reasons.{Gave, Explains, reason_of};
@@ -29,7 +29,7 @@ use crate::written::Written;
 use crate::written_out::write_out;
 use enc_index::{IndexSet, Kind, Pointers};
 use enc_model::{Encoding, Mode};
-use lane_kernels::{ascii_chunk, ascii_front, plain_chunk_2022};
+use lane_kernels::{ascii_chunk, ascii_prefix, plain_chunk_2022};
 use std::alloc::AllocError;
 use std::marker::Model;
 
@@ -83,7 +83,7 @@ fn own_lanes(to: Encoding, shift: ShiftState, lanes: &[u8; LANES]) -> usize
 fn are_ascii(bytes: &[u8]) -> bool
     ensures { OnTrue result (All (λ b. b < 128) bytes.now) }
 {
-    ascii_front(bytes) == bytes.len()
+    ascii_prefix(bytes) == bytes.len()
 }
 
 /// Whether a text's first character is ASCII.
@@ -192,7 +192,7 @@ impl Encoder {
         ensures given { let f = encoder (tables set.now) self.old.to in
             Given (Took f self.old.mode) (λ a x e b. Refused f self.old.mode a x (reason_of e) b)
             (coder self.old out.old.items) (c ∷ []) (coder self.new out.new.items) result }
-        ensures kept { (self.new.to ≡ self.old.to) × (self.new.mode ≡ self.old.mode) }
+        ensures unchanged { (self.new.to ≡ self.old.to) × (self.new.mode ≡ self.old.mode) }
         ensures unchanged { OnErr result (self.new ≡ self.old) }
         ensures errors { Explains (code_from (tables set.now) self.old (c ∷ [])) out.old out.new result }
         ensures capacity { OnOk result (vec_capacity out.old ≤ vec_capacity out.new) }
@@ -259,7 +259,7 @@ impl Encoder {
         ensures given { (t : Tables) → let f = encoder t self.old.to in
             Given (Took f self.old.mode) (λ a x e b. Refused f self.old.mode a x (reason_of e) b)
             (coder self.old out.old.items) run.now (coder self.new out.new.items) result }
-        ensures kept { (self.new.to ≡ self.old.to) × (self.new.mode ≡ self.old.mode) }
+        ensures unchanged { (self.new.to ≡ self.old.to) × (self.new.mode ≡ self.old.mode) }
         ensures unchanged { OnErr result (self.new ≡ self.old) }
         ensures errors { (t : Tables) → Explains (code_from t self.old run.now) out.old out.new result }
         ensures capacity { OnOk result (vec_capacity out.old ≤ vec_capacity out.new) }
@@ -281,7 +281,7 @@ impl Encoder {
         out: &mut Vec<u8>,
     ) -> Result<ShiftState, EncodeError>
         requires { IsLoopOf LOOP self.now.to }
-        ensures { Kept (coded (encoder (tables set.now) self.now.to) self.now.mode (shift_of shift) (c ∷ [])) out.old
+        ensures { HoldsCode (coded (encoder (tables set.now) self.now.to) self.now.mode (shift_of shift) (c ∷ [])) out.old
             held.old out.new held.new result }
     {
         let to = encoding_of::<LOOP>(self.to);
@@ -333,7 +333,7 @@ impl Encoder {
     {
         if let Some((lanes, prefix)) = own_prefix(to, shift, text) {
             held.make_room(out)?;
-            held.push_front(*lanes, prefix);
+            held.push_prefix(*lanes, prefix);
             return Ok((shift, &text[prefix..]));
         }
         let mut chars = text.chars();
@@ -450,7 +450,7 @@ impl Encoder {
         ensures given { let f = encoder (tables set.now) self.old.to in
             Given (Took f self.old.mode) (λ a x e b. Refused f self.old.mode a x (reason_of e) b)
             (coder self.old out.old.items) (chars run.now) (coder self.new out.new.items) result }
-        ensures kept { (self.new.to ≡ self.old.to) × (self.new.mode ≡ self.old.mode) }
+        ensures unchanged { (self.new.to ≡ self.old.to) × (self.new.mode ≡ self.old.mode) }
         ensures unchanged { OnErr result (self.new ≡ self.old) }
         ensures errors { Explains (code_from (tables set.now) self.old (chars run.now)) out.old out.new result }
         ensures capacity { OnOk result (vec_capacity out.old ≤ vec_capacity out.new) }

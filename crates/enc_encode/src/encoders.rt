@@ -1,10 +1,10 @@
 //! What each encoder gives for one character.
 
 ghost use Rattle.std.specs.Prelude.{◌≡◌, ◌<◌, ◌≤◌, ◌+◌, ◌/◌, ◌%◌, ◌∷◌, [], IfSome, Some};
-ghost use Rattle.enc_encode.specs.Code.{written_of, bytes_of};
+ghost use Rattle.enc_encode.specs.Code.{written_of, code_bytes};
 ghost use Rattle.enc_encode.specs.Pairs.{ArePairPointers, JisPointers};
 ghost use Rattle.enc_encode.specs.State.{shift_of};
-ghost use Rattle.enc_index.specs.Entries.{found};
+ghost use Rattle.enc_index.specs.Entries.{found_pointer};
 ghost use Rattle.enc_model.specs.Encode.{utf8_bytes, minus, shift_jis_pointer, below_8836, encoder, single_encoder};
 ghost use Rattle.enc_model.specs.Encode.{Tables, Wrote, InJis, shift_jis_encoder, euc_jp_encoder, iso2022_encoder};
 ghost use Rattle.enc_model.specs.Index.{Index, pointer, pointer_sjis};
@@ -18,7 +18,7 @@ use enc_model::Encoding;
 
 /// The bytes of a character in UTF-8.
 fn utf8(c: char) -> Bytes
-    ensures { bytes_of result ≡ utf8_bytes c }
+    ensures { code_bytes result ≡ utf8_bytes c }
 {
     let c = c as u32;
     match c {
@@ -177,7 +177,7 @@ fn shift_jis_wide(pointers: &Pointers, shift: ShiftState, c: char) -> Option<(u8
     requires bounded { JisPointers pointers.now }
     requires from { 0x3000 ≤ c }
     requires to { c ≤ 0xFF60 }
-    ensures { (jis0208 : Index) → found pointers.now c ≡ pointer_sjis jis0208 c → IfSome result
+    ensures { (jis0208 : Index) → found_pointer pointers.now c ≡ pointer_sjis jis0208 c → IfSome result
         (λ r. shift_jis_encoder jis0208 (shift_of shift) c ≡ Wrote (r.0 ∷ r.1 ∷ []) (shift_of shift)) }
 {
     Some(shift_jis_pair(pointers.find(c)?))
@@ -189,7 +189,7 @@ fn shift_jis_wide(pointers: &Pointers, shift: ShiftState, c: char) -> Option<(u8
 fn euc_jp_wide(pointers: &Pointers, shift: ShiftState, c: char) -> Option<(u8, u8)>
     requires from { 0x3000 ≤ c }
     requires to { c ≤ 0xFF60 }
-    ensures { (jis0208 : Index) → found pointers.now c ≡ pointer jis0208 c → IfSome result
+    ensures { (jis0208 : Index) → found_pointer pointers.now c ≡ pointer jis0208 c → IfSome result
         (λ r. euc_jp_encoder jis0208 (shift_of shift) c ≡ Wrote (r.0 ∷ r.1 ∷ []) (shift_of shift)) }
 {
     Some(pair_of_94(0xA1, below_8836(pointers.find(c)?)?))
@@ -201,7 +201,7 @@ fn euc_jp_wide(pointers: &Pointers, shift: ShiftState, c: char) -> Option<(u8, u
 fn iso2022_wide(pointers: &Pointers, c: char) -> Option<(u8, u8)>
     requires from { 0x3000 ≤ c }
     requires to { c ≤ 0xFF60 }
-    ensures { (jis0208 katakana : Index) → found pointers.now c ≡ pointer jis0208 c → IfSome result
+    ensures { (jis0208 katakana : Index) → found_pointer pointers.now c ≡ pointer jis0208 c → IfSome result
         (λ r. iso2022_encoder jis0208 katakana InJis c ≡ Wrote (r.0 ∷ r.1 ∷ []) InJis) }
 {
     Some(pair_of_94(0x21, below_8836(pointers.find(c)?)?))

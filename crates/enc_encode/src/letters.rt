@@ -3,7 +3,7 @@
 ghost use Rattle.std.specs.Prelude.{◌≡◌, ◌<◌, ◌≤◌, ◌+◌, ◌*◌, ◌%◌, ℕ, Some, IfSome, ltb, map, slice_index, length};
 ghost use Rattle.std.specs.Bool.{OnTrue};
 ghost use Rattle.std.specs.List.{prefix_len};
-ghost use Rattle.enc_index.specs.Entries.{found};
+ghost use Rattle.enc_index.specs.Entries.{found_pointer};
 ghost use Rattle.enc_encode.specs.Letters.{AreLetters, IsLetter, pair_codes};
 ghost use Rattle.enc_encode.specs.Singles.{FewPointers};
 ghost use Rattle.lane_kernels.specs.Classes.{first_set};
@@ -31,7 +31,7 @@ pub struct Letters {
 
 /// Whether a code point has a pointer.
 fn has_pointer(pointers: &Pointers, c: u32, pointer: u32) -> bool
-    ensures { OnTrue result (found pointers.now c ≡ Some pointer) }
+    ensures { OnTrue result (found_pointer pointers.now c ≡ Some pointer) }
 {
     match char::from_u32(c) {
         Some(c) => match pointers.find(c) {
@@ -46,7 +46,7 @@ fn has_pointer(pointers: &Pointers, c: u32, pointer: u32) -> bool
 fn count_letters(pointers: &Pointers, pointer: u32) -> u32
     requires { pointer < 128 }
     ensures few { result ≤ 128 }
-    ensures each { (k : ℕ) → k < result → found pointers.now (FIRST + k) ≡ Some (pointer + k) }
+    ensures each { (k : ℕ) → k < result → found_pointer pointers.now (FIRST + k) ≡ Some (pointer + k) }
 {
     let mut count = 0;
     while count < 128 && has_pointer(pointers, FIRST + count, pointer + count) {

@@ -4,7 +4,7 @@ ghost use Rattle.std.specs.Prelude.{◌≡◌, ◌<◌, ◌≤◌, ◌+◌, ◌+
 ghost use Rattle.std.specs.Str.{IsUtf8};
 ghost use Rattle.enc_encode.specs.Letters.{AreLetters};
 ghost use Rattle.enc_encode.specs.Runs.{FirstGiven, RunPrefix};
-ghost use Rattle.enc_encode.specs.Singles.{FewPointers, IsSingle};
+ghost use Rattle.enc_encode.specs.Singles.{FewPointers, IsSingleByte};
 
 use crate::buffer::{LANES, ROOM};
 use crate::letters::{LETTERS_AT_ONCE, Letters, TWO_BYTES, lettered};
@@ -18,7 +18,7 @@ use std::simd::prelude::*;
 fn first_single(pointers: &Pointers, lead: u8, trail: u8) -> Option<u8>
     requires { FewPointers pointers.now }
     ensures { IfSome result
-        (λ byte. (more : List ℕ) → IsUtf8 (lead ∷ trail ∷ more) → FirstGiven (IsSingle pointers.now)
+        (λ byte. (more : List ℕ) → IsUtf8 (lead ∷ trail ∷ more) → FirstGiven (IsSingleByte pointers.now)
         (lead ∷ trail ∷ more) (byte ∷ []) more) }
 {
     let c = (lead as u32 * 64 + trail as u32).wrapping_sub(TWO_BYTES);
@@ -42,7 +42,7 @@ fn put_singles<'a>(
     requires few { FewPointers pointers.now }
     requires room { from ≤ ROOM }
     ensures more { (from ≤ result.1) × (result.1 ≤ ROOM) }
-    ensures run { RunPrefix (IsSingle pointers.now) text.now result.0.now (take from held.old)
+    ensures run { RunPrefix (IsSingleByte pointers.now) text.now result.0.now (take from held.old)
         (take result.1 held.new) }
 {
     let bytes = text.as_bytes();
@@ -159,7 +159,7 @@ fn put_letters<'a>(
     requires letters { AreLetters pointers.now letters.low letters.byte letters.count }
     requires room { from ≤ ROOM }
     ensures more { (from ≤ result.1) × (result.1 ≤ ROOM) }
-    ensures run { RunPrefix (IsSingle pointers.now) text.now result.0.now (take from held.old)
+    ensures run { RunPrefix (IsSingleByte pointers.now) text.now result.0.now (take from held.old)
         (take result.1 held.new) }
 {
     if letters.count == 0 || text.len() < LANES || ROOM - from < LETTERS_AT_ONCE {
@@ -185,7 +185,7 @@ pub fn put_run<'a>(
     requires letters { AreLetters pointers.now letters.low letters.byte letters.count }
     requires room { from ≤ ROOM }
     ensures more { (from ≤ result.1) × (result.1 ≤ ROOM) }
-    ensures run { RunPrefix (IsSingle pointers.now) text.now result.0.now (take from held.old)
+    ensures run { RunPrefix (IsSingleByte pointers.now) text.now result.0.now (take from held.old)
         (take result.1 held.new) }
 {
     let count = put_lanes(held, from, text.as_bytes());
@@ -199,7 +199,7 @@ pub fn put_run<'a>(
 pub fn put_last_ascii<'a>(held: &mut [u8; ROOM], from: usize, text: &'a str) -> (&'a str, usize)
     requires { from ≤ ROOM }
     ensures more { result.1 ≤ ROOM }
-    ensures run { (at : List ℕ) → RunPrefix (IsSingle at) text.now result.0.now (take from held.old)
+    ensures run { (at : List ℕ) → RunPrefix (IsSingleByte at) text.now result.0.now (take from held.old)
         (take result.1 held.new) }
 {
     let count = put_each(held, from, text.as_bytes());

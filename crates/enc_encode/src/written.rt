@@ -1,7 +1,7 @@
 //! What an encoder gives for one character.
 
 ghost use Rattle.std.specs.Prelude.{◌≡◌};
-ghost use Rattle.enc_encode.specs.Code.{bytes_of};
+ghost use Rattle.enc_encode.specs.Code.{code_bytes};
 
 use crate::shift::ShiftState;
 
@@ -19,7 +19,7 @@ pub enum Bytes {
 impl Bytes {
     /// The bytes.
     pub fn as_slice(&self) -> &[u8]
-        ensures { result.now ≡ bytes_of self.now }
+        ensures { result.now ≡ code_bytes self.now }
     {
         match self {
             Bytes::Zero => &[],

@@ -5,7 +5,7 @@ use Rattle.std.proofs.Common.{take-append-drop}
 use Rattle.std.proofs.lemmas.List.{take_more}
 use Rattle.enc_model.specs.declared.Answer.{Answer}
 use Rattle.enc_model.specs.declared.Answer.TheVariants.{Finished}
-use Rattle.enc_model.specs.Stream.{Step, Handler, Run, said, after, steps, all_bytes, quick, end_to, end_of, IsCalm}
+use Rattle.enc_model.specs.Stream.{HandlerStep, Handler, DecoderRun, points_of, text_then, steps, all_bytes, quick, end_to, run_to_end, IsCalm}
 use Rattle.enc_feed.specs.Sink.{Given, IsSink}
 use Rattle.enc_model.proofs.Steps.{steps_none, steps_one, steps_append, steps_end}
 
@@ -23,27 +23,27 @@ module _ {A E : Type 0} (takes : A → List ℕ → A → Type 0) (refuses : A �
   given_then a b c x y (Err e) t g = sink.later a b c x y e t g
 
 module _ {S : Type 0} (h : Handler S) where
-  end_case : (k : ℕ) (t : Step S) (a : Answer) → (a ≡ Finished → ⊥) →
-      (elim a as (λ _. Run S) [
+  end_case : (k : ℕ) (t : HandlerStep S) (a : Answer) → (a ≡ Finished → ⊥) →
+      (elim a as (λ _. DecoderRun S) [
         | Finished ↦ record { text = []; state = t.state }
-        | _ ↦ let r = all_bytes (quick h) t.state t.restored in after (said t.answer ++ r.text) (end_to k h r.state)
+        | _ ↦ let r = all_bytes (quick h) t.state t.restored in text_then (points_of t.answer ++ r.text) (end_to k h r.state)
       ])
-      ≡ (let r = all_bytes (quick h) t.state t.restored in after (said t.answer ++ r.text) (end_to k h r.state))
+      ≡ (let r = all_bytes (quick h) t.state t.restored in text_then (points_of t.answer ++ r.text) (end_to k h r.state))
   end_case k t Finished n = absurd (n refl)
   end_case k t _ n = refl
 
   -- an answer at the end that isn't the last
   end_is : (d k : ℕ) (s : S) (answer : Answer) (r : List ℕ) (next : S) → d ≡ suc k → (answer ≡ Finished → ⊥) →
       answer ≡ (h s None).answer → r ≡ (h s None).restored → next ≡ (h s None).state →
-      end_to d h s ≡ (let run = all_bytes (quick h) next r in after (said answer ++ run.text) (end_to k h run.state))
+      end_to d h s ≡ (let run = all_bytes (quick h) next r in text_then (points_of answer ++ run.text) (end_to k h run.state))
   end_is d k s answer r next ed n ea er en =
       let t = h s None in
       ap (λ z. end_to z h s) ed
       ∙ end_case k t t.answer (λ f. n (ea ∙ f))
-      ∙ ap (λ z. let run = all_bytes (quick h) t.state z in after (said t.answer ++ run.text) (end_to k h run.state))
+      ∙ ap (λ z. let run = all_bytes (quick h) t.state z in text_then (points_of t.answer ++ run.text) (end_to k h run.state))
       (sym er)
-      ∙ ap (λ z. let run = all_bytes (quick h) z r in after (said t.answer ++ run.text) (end_to k h run.state)) (sym en)
-      ∙ ap (λ z. let run = all_bytes (quick h) next r in after (said z ++ run.text) (end_to k h run.state)) (sym ea)
+      ∙ ap (λ z. let run = all_bytes (quick h) z r in text_then (points_of t.answer ++ run.text) (end_to k h run.state)) (sym en)
+      ∙ ap (λ z. let run = all_bytes (quick h) next r in text_then (points_of z ++ run.text) (end_to k h run.state)) (sym ea)
 
   -- what was given up to there, and what comes then
   pub end_given : {A X E : Type 0} (takes : A → List ℕ → A → Type 0) (refuses : A → List ℕ → E → A → Type 0)
@@ -52,14 +52,14 @@ module _ {S : Type 0} (h : Handler S) where
       d ≡ suc k → (answer ≡ Finished → ⊥) → answer ≡ (h s None).answer → r ≡ (h s None).restored
       → next ≡ (h s None).state →
       mid ≡ (all_bytes (quick h) next r).state →
-      takes a (said answer) b → takes b (all_bytes (quick h) next r).text m
+      takes a (points_of answer) b → takes b (all_bytes (quick h) next r).text m
       → Given takes refuses m (end_to k h mid).text c res →
       Given takes refuses a (end_to d h s).text c res
   end_given takes refuses sink d k s answer r next mid a b m c res ed n ea er en em t u g =
       let run = all_bytes (quick h) next r in
       subst (λ z. Given takes refuses a z.text c res) (sym (end_is d k s answer r next ed n ea er en))
-      (given_then takes refuses sink a m c (said answer ++ run.text) (end_to k h run.state).text res
-      (sink.both a b m (said answer) run.text t u)
+      (given_then takes refuses sink a m c (points_of answer ++ run.text) (end_to k h run.state).text res
+      (sink.both a b m (points_of answer) run.text t u)
       (subst (λ z. Given takes refuses m (end_to k h z).text c res) em g))
 
   -- a refusal up to there
@@ -68,12 +68,12 @@ module _ {S : Type 0} (h : Handler S) where
       (d k : ℕ) (s : S) (answer : Answer) (r : List ℕ) (next : S) (a c : A) (e : E) →
       d ≡ suc k → (answer ≡ Finished → ⊥) → answer ≡ (h s None).answer → r ≡ (h s None).restored
       → next ≡ (h s None).state →
-      refuses a (said answer ++ (all_bytes (quick h) next r).text) e c →
+      refuses a (points_of answer ++ (all_bytes (quick h) next r).text) e c →
       refuses a (end_to d h s).text e c
   end_refused takes refuses sink d k s answer r next a c e ed n ea er en g =
       let run = all_bytes (quick h) next r in
       subst (λ z. refuses a z.text e c) (sym (end_is d k s answer r next ed n ea er en))
-      (sink.more a c (said answer ++ run.text) (end_to k h run.state).text e g)
+      (sink.more a c (points_of answer ++ run.text) (end_to k h run.state).text e g)
 
   pub end_state : {X E : Type 0} (d k : ℕ) (s : S) (answer : Answer) (r : List ℕ) (next mid end : S) (res : Result X E)
       →
@@ -90,26 +90,26 @@ module _ {A E : Type 0} (takes : A → List ℕ → A → Type 0) (refuses : A �
   module _ {S : Type 0} (h : Handler S) (calm : IsCalm h) where
     -- the answer was refused
     pub step_refused : (s : S) (b : ℕ) (answer : Answer) (a c : A) (e : E) → answer ≡ (h s (Some b)).answer
-        → refuses a (said answer) e c →
+        → refuses a (points_of answer) e c →
         refuses a (steps h false s (b ∷ [])).text e c
     step_refused s b answer a c e i r =
         let t = h s (Some b) in
-        let n = sink.more a c (said t.answer) (all_bytes (quick h) t.state t.restored).text e
-        (subst (λ z. refuses a (said z) e c) i r) in
+        let n = sink.more a c (points_of t.answer) (all_bytes (quick h) t.state t.restored).text e
+        (subst (λ z. refuses a (points_of z) e c) i r) in
         subst (λ run. refuses a run.text e c) (sym (steps_one h calm s b)) n
 
     -- the answer was taken, and then what the restored bytes give
     pub step_rest : {X : Type 0} (s : S) (b : ℕ) (answer : Answer) (r : List ℕ) (next : S) (a m c : A)
         (res : Result X E) →
         answer ≡ (h s (Some b)).answer → r ≡ (h s (Some b)).restored → next ≡ (h s (Some b)).state →
-        takes a (said answer) m → Given takes refuses m (all_bytes (quick h) next r).text c res →
+        takes a (points_of answer) m → Given takes refuses m (all_bytes (quick h) next r).text c res →
         Given takes refuses a (steps h false s (b ∷ [])).text c res
     step_rest s b answer r next a m c res ea er en t g =
         let u = h s (Some b) in
         let g2 = subst (λ z. Given takes refuses m (all_bytes (quick h) z r).text c res) en g in
         let g3 = subst (λ z. Given takes refuses m (all_bytes (quick h) u.state z).text c res) er g2 in
-        let n = given_then takes refuses sink a m c (said u.answer) (all_bytes (quick h) u.state u.restored).text res
-        (subst (λ z. takes a (said z) m) ea t) g3 in
+        let n = given_then takes refuses sink a m c (points_of u.answer) (all_bytes (quick h) u.state u.restored).text res
+        (subst (λ z. takes a (points_of z) m) ea t) g3 in
         subst (λ run. Given takes refuses a run.text c res) (sym (steps_one h calm s b)) n
 
     -- one piece more
@@ -171,7 +171,7 @@ module _ {S : Type 0} (h : Handler S) (calm : IsCalm h) where
       state_more s next end (take i piece) (get_or piece i 0 ∷ []) e f ∙ ap (λ p. (steps h false s p).state)
       (sym (take_more piece i 0 l))
 
-  pub end_over : {X E : Type 0} (s end : S) (res : Result X E) → OnOk res (end ≡ (end_of h s).state)
+  pub end_over : {X E : Type 0} (s end : S) (res : Result X E) → OnOk res (end ≡ (run_to_end h s).state)
       → OnOk res (end ≡ (steps h true s []).state)
   end_over s end (Ok v) e = e ∙ ap (λ run. run.state) (sym (steps_end h calm s))
   end_over s end (Err v) e = tt

@@ -14,7 +14,7 @@ use Rattle.std.proofs.Common.{All}
 use lib.Utf8.{scalars, low_scalar}
 use Rattle.enc_model.specs.declared.Answer.{Answer}
 use Rattle.enc_model.specs.declared.Answer.TheVariants.{Point, Error, Nothing, Finished}
-use Rattle.enc_model.specs.Stream.{Handler, IsCalm, said, steps, quick, byte_of, all_bytes}
+use Rattle.enc_model.specs.Stream.{Handler, IsCalm, points_of, steps, quick, byte_run, all_bytes}
 use Rattle.enc_model.proofs.Steps.{steps_bytes}
 use Rattle.enc_feed.specs.Batches.{BatchTook, BatchRefused}
 use Rattle.std.proofs.Common.{take, drop, ◌-◌, length-drop}
@@ -67,38 +67,38 @@ still_text old new c u s e = ap is_utf8 e ∙ char_more old c u s
 
 -- a calm handler gives at most three characters a byte
 module _ {S : Type 0} (h : Handler S) (calm : IsCalm h) where
-  said_size : (a : Answer) → length (said a) ≤ 1
-  said_size (Point c) = omega arith
-  said_size Error = omega arith
-  said_size Nothing = omega arith
-  said_size Finished = omega arith
+  points_size : (a : Answer) → length (points_of a) ≤ 1
+  points_size (Point c) = omega arith
+  points_size Error = omega arith
+  points_size Nothing = omega arith
+  points_size Finished = omega arith
 
   quick_size : (s : S) (bs : List ℕ) → length (all_bytes (quick h) s bs).text ≤ length bs
   quick_size s [] = omega arith
   quick_size s (b ∷ bs) =
       let t = h s (Some b) in
       let i = quick_size t.state bs in
-      let o = said_size t.answer in
-      let l = length-append (said t.answer) (all_bytes (quick h) t.state bs).text in
+      let o = points_size t.answer in
+      let l = length-append (points_of t.answer) (all_bytes (quick h) t.state bs).text in
       omega (arith, i, o, l)
 
-  bytes_size : (s : S) (bs : List ℕ) → length (all_bytes (byte_of h) s bs).text ≤ 3 * length bs
+  bytes_size : (s : S) (bs : List ℕ) → length (all_bytes (byte_run h) s bs).text ≤ 3 * length bs
   bytes_size s [] = omega arith
   bytes_size s (b ∷ bs) =
       let t = h s (Some b) in
-      let r = byte_of h s b in
+      let r = byte_run h s b in
       let again = all_bytes (quick h) t.state t.restored in
       let i = bytes_size r.state bs in
-      let o = said_size t.answer in
+      let o = points_size t.answer in
       let q = quick_size t.state t.restored in
       let f = calm.few s b in
-      let l = length-append (said t.answer) again.text in
-      let m = length-append r.text (all_bytes (byte_of h) r.state bs).text in
+      let l = length-append (points_of t.answer) again.text in
+      let m = length-append r.text (all_bytes (byte_run h) r.state bs).text in
       omega (arith, i, o, q, f, l, m)
 
   pub steps_size : (s : S) (bs : List ℕ) → length (steps h false s bs).text ≤ 3 * length bs
   steps_size s bs = let b =
-      bytes_size s bs in let e : length (steps h false s bs).text ≡ length (all_bytes (byte_of h) s bs).text =
+      bytes_size s bs in let e : length (steps h false s bs).text ≡ length (all_bytes (byte_run h) s bs).text =
       ap (λ r. length r.text) (steps_bytes h calm s bs) in omega (arith, b, e)
 
   -- so there is room for the text of so many bytes

@@ -13,9 +13,9 @@ use Rattle.enc_model.proofs.Utf8Bytes.{ascii_chars, ascii_utf8}
 use Rattle.enc_feed.proofs.Gathered.{text_more, took_text}
 
 -- some of what was stored after the first n bytes
-pub prefix_kept : (old new bytes : List ℕ) (n k m : ℕ) → n ≤ length old → k ≤ m → m ≤ length bytes
+pub prefix_unchanged : (old new bytes : List ℕ) (n k m : ℕ) → n ≤ length old → k ≤ m → m ≤ length bytes
     → take (n + length (take m bytes)) new ≡ take n old ++ take m bytes → take (n + k) new ≡ take n old ++ take k bytes
-prefix_kept old new bytes n k m long few many e =
+prefix_unchanged old new bytes n k m long few many e =
     let first = take n old in
     let more = take m bytes in
     let count : length first ≡ n = length-take-le n old long in

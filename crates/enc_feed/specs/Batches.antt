@@ -13,6 +13,6 @@ BatchRefused old given why new = 3072 < length old + 4 * length given
 
 -- Two by two, the bytes represent the characters.
 abbrev pub ArePairs : (ℕ → ℕ → ℕ → Type 0) → List ℕ → List ℕ → Type 0
-ArePairs stand_for [] [] = Unit {0}
-ArePairs stand_for (a ∷ b ∷ bytes) (c ∷ given) = stand_for a b c × ArePairs stand_for bytes given
-ArePairs stand_for _ _ = ⊥
+ArePairs represent [] [] = Unit {0}
+ArePairs represent (a ∷ b ∷ bytes) (c ∷ given) = represent a b c × ArePairs represent bytes given
+ArePairs represent _ _ = ⊥

@@ -35,7 +35,7 @@ pub trait AsciiFinder {
 /// A reader of double-byte characters.
 pub trait PairReader {
     // These two bytes represent this character, by the characters that are ready for pointers.
-    ghost stand_for: { List (Option ℕ) → ℕ → ℕ → ℕ → Type 0 };
+    ghost represent: { List (Option ℕ) → ℕ → ℕ → ℕ → Type 0 };
 
     /// The character of two bytes, if it is ready.
     fn ready_pair<'a>(
@@ -44,7 +44,7 @@ pub trait PairReader {
         first: u8,
         second: u8,
     ) -> Option<&'a Utf8Char>
-        ensures { IfSome result (λ c. stand_for ready.now first second c.now) };
+        ensures { IfSome result (λ c. represent ready.now first second c.now) };
 }
 
 /// Bytes, up to a fixed count.
@@ -217,7 +217,7 @@ impl Room {
         requires text { is_utf8 self.old ≡ true }
         requires room { length self.old + 4 * length bytes.now ≤ ROOM }
         ensures within { result ≤ length bytes.now }
-        ensures took { (given : List ℕ) × ArePairs (P.stand_for ready.now) (take result bytes.now) given
+        ensures took { (given : List ℕ) × ArePairs (P.represent ready.now) (take result bytes.now) given
             × BatchTook self.old given self.new }
         ensures text { is_utf8 self.new ≡ true }
     {
@@ -353,7 +353,7 @@ impl Batch {
 
     /// Appends the first `prefix` bytes, which are ASCII; 32 are stored at once.
     #[inline(always)]
-    pub fn push_front(&mut self, bytes: &[u8], prefix: usize)
+    pub fn push_prefix(&mut self, bytes: &[u8], prefix: usize)
         requires many { LANES ≤ length bytes.now }
         requires within { prefix ≤ LANES }
         requires ascii { All (λ b. b < 128) (take prefix bytes.now) }
@@ -373,7 +373,7 @@ impl Batch {
     ) -> usize
         requires room { length self.old + 4 * length bytes.now ≤ ROOM }
         ensures within { result ≤ length bytes.now }
-        ensures took { (given : List ℕ) × ArePairs (P.stand_for ready.now) (take result bytes.now) given
+        ensures took { (given : List ℕ) × ArePairs (P.represent ready.now) (take result bytes.now) given
             × BatchTook self.old given self.new }
     {
         self.room.store_pairs(reader, ready, bytes)

@@ -4,7 +4,7 @@ ghost use Rattle.std.specs.Prelude.{◌≡◌, ◌≤◌, length, ◌<◌, [], �
 ghost use Rattle.std.specs.Prelude.{IfErr, take, ◌+◌, ◌*◌};
 ghost use Rattle.enc_feed.specs.AsciiPrefix.{IsAsciiPrefix};
 ghost use Rattle.enc_feed.specs.Batches.{BatchTook};
-ghost use Rattle.enc_model.specs.Stream.{Handler, IsCalm, restored_bytes, said, steps, quick, all_bytes};
+ghost use Rattle.enc_model.specs.Stream.{Handler, IsCalm, restored_bytes, points_of, steps, quick, all_bytes};
 ghost use Rattle.enc_model.specs.Stream.{end_to};
 ghost use Rattle.enc_feed.specs.Sink.{Given};
 
@@ -13,11 +13,11 @@ use crate::batch::{BLOCK, Batch, ROOM};
 use enc_model::{Answer, Restored};
 
 /// An ASCII prefix of at least this many bytes goes to the sink as it is.
-const LONG_FRONT: usize = 64;
+const LONG_PREFIX: usize = 64;
 
 /// The most bytes of an ASCII prefix that go to the sink at once: few enough to be still in the L1 cache when the sink
 /// copies them.
-const FRONT_STEP: usize = 4096;
+const PREFIX_STEP: usize = 4096;
 
 /// A decoder's state with its handler (Encoding Standard, section 4.1).
 pub trait Decoder {
@@ -51,8 +51,8 @@ pub trait BlockDecoder: Decoder {
 
 /// Gives the sink the character of an answer; an error gives U+FFFD.
 #[inline(always)]
-fn say<S: Sink>(answer: Answer, sink: &mut S) -> Result<(), S::Refusal>
-    ensures { Given S.takes S.refuses sink.old (said answer) sink.new result }
+fn emit<S: Sink>(answer: Answer, sink: &mut S) -> Result<(), S::Refusal>
+    ensures { Given S.takes S.refuses sink.old (points_of answer) sink.new result }
 {
     match answer {
         Answer::Point(c) => sink.put(c),
@@ -74,7 +74,7 @@ fn again<D: Decoder, S: Sink>(
     ensures state { OnOk result (state.new ≡ (quick (D.handler tables.now) state.old byte).state) }
 {
     let (answer, _restored) = state.read(tables, Some(byte));
-    say(answer, sink)
+    emit(answer, sink)
 }
 
 /// Reads the restored bytes.
@@ -113,7 +113,7 @@ fn step<D: Decoder, S: Sink>(
     ensures state { OnOk result (state.new ≡ (steps (D.handler tables.now) false state.old (byte ∷ [])).state) }
 {
     let (answer, restored) = state.read(tables, Some(byte));
-    say(answer, sink)?;
+    emit(answer, sink)?;
     reread(state, tables, restored, sink)
 }
 
@@ -156,7 +156,7 @@ pub fn decode_each<D: Decoder>(state: &mut D, tables: &D::Tables, bytes: &[u8], 
 fn next_prefix<D: BlockDecoder>(state: &D, tables: &D::Tables, rest: &[u8]) -> usize
     ensures { IsAsciiPrefix (D.handler tables.now) state.now rest.now result }
 {
-    let end = FRONT_STEP.min(rest.len());
+    let end = PREFIX_STEP.min(rest.len());
     state.prefix(tables, &rest[..end])
 }
 
@@ -178,7 +178,7 @@ fn advance<D: BlockDecoder, S: Sink>(
         (λ n. state.new ≡ (steps (D.handler tables.now) false state.old (take n rest.now)).state) }
 {
     let prefix = next_prefix(state, tables, rest);
-    if LONG_FRONT <= prefix {
+    if LONG_PREFIX <= prefix {
         sink.ascii(&rest[..prefix])?;
         return Ok(prefix);
     }
@@ -228,7 +228,7 @@ fn give_prefixes<D: BlockDecoder, S: Sink>(
     while at < piece.len() {
         let rest = &piece[at..];
         let prefix = next_prefix(state, tables, rest);
-        if prefix < LONG_FRONT.min(rest.len()) {
+        if prefix < LONG_PREFIX.min(rest.len()) {
             return Ok(at);
         }
         sink.ascii(&rest[..prefix])?;
@@ -278,7 +278,7 @@ fn finish_within<D: Decoder, S: Sink>(
     if let Answer::Finished = answer {
         return Ok(());
     }
-    say(answer, sink)?;
+    emit(answer, sink)?;
     reread(state, tables, restored, sink)?;
     finish_within(state, tables, calls - 1, sink)
 }

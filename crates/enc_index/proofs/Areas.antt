@@ -11,17 +11,17 @@ use Rattle.std.specs.Char.{IsScalar, InScalarRange, OutOfScalarRange}
 use Rattle.enc_model.specs.Index.{Index, code}
 use Rattle.enc_model.specs.Indexes.{IndexSet}
 use Rattle.enc_index.specs.Scalars.{is_scalar}
-use Rattle.enc_index.specs.Entries.{pairs_from, AreScalars, ascends}
+use Rattle.enc_index.specs.Entries.{pairs_from, AreScalarEntries, ascends}
 use Rattle.enc_index.specs.Sets.{IsIndex, IsIndexSet}
 use Rattle.enc_index.proofs.Lookups.{code_of_none}
 use Rattle.enc_index.proofs.Reading.{none}
 use Rattle.std.specs.Int.{to_be_bytes, w32}
-use Rattle.enc_index.specs.Area.{nth_file, flag, spot_of, entry_of, entry_at, area_byte, IsAreaOf, word_of, scalar_of}
+use Rattle.enc_index.specs.Area.{nth_file, flag, spot_of, entry_of, entry_at, area_byte, IsAreaOf, word_of, scalar_in_entry}
 use Rattle.enc_index.specs.Area.{IsFileIn}
 use Rattle.enc_index.specs.Compared.{HasFiles, HasMargins}
 
 pub from_scalar : (word : ℕ) (r : Option ℕ) → SomeIff r (IsScalar word) word
-    → MatchOption r (OutOfScalarRange word) (λ _. InScalarRange word) → r ≡ scalar_of word
+    → MatchOption r (OutOfScalarRange word) (λ _. InScalarRange word) → r ≡ scalar_in_entry word
 from_scalar word None v h = let none : is_scalar word ≡ false = grind (arith, nat_tests, h) in rw none refl
 from_scalar word (Some c) v h = let one : is_scalar word ≡ true = grind (arith, nat_tests, h) in rw one (ap Some v.1)
 
@@ -33,7 +33,7 @@ scalar_of_scalar word true e = e
 scalar_of_scalar word false e = tt
 
 pub codes_scalar : (codes : List (Option ℕ)) (n : ℕ) (word : ℕ → ℕ) → length codes ≡ n
-    → ((k : ℕ) → k < n → slice_index_or codes k None ≡ scalar_of (word k)) → AreScalars codes
+    → ((k : ℕ) → k < n → slice_index_or codes k None ≡ scalar_in_entry (word k)) → AreScalarEntries codes
 codes_scalar codes n word e h k =
     elim (cases_lt k (length codes)) [
       | inl l ↦ rw (h k (omega arith)) (scalar_of_scalar (word k) (is_scalar (word k)) refl)
@@ -86,7 +86,7 @@ none_below low bound (pair ∷ index) p a l =
     grind (arith, nat_tests, rest, from)
 
 entry_scalar : (index : Index) (pointers p : ℕ) (o : Option ℕ) → IsIndex pointers index → code index p ≡ o
-    → scalar_of (unwrap_or o 0xFFFFFFFF) ≡ o
+    → scalar_in_entry (unwrap_or o 0xFFFFFFFF) ≡ o
 entry_scalar index pointers p None v e = refl
 entry_scalar index pointers p (Some c) v e = rw (code_scalar 0 pointers index p c v e) refl
 
@@ -155,12 +155,12 @@ dense q bound (Some c ∷ entries) (pair ∷ index) e a h =
 -- a file's table that was read from an area
 pub file_given : (area : List ℕ) (file start pointers : ℕ) (index : Index) (codes : List (Option ℕ))
     → IsFileIn area file start pointers (Some index) → length codes ≡ pointers →
-    ((k : ℕ) → k < pointers → slice_index_or codes k None ≡ scalar_of (word_of area (start + k)))
+    ((k : ℕ) → k < pointers → slice_index_or codes k None ≡ scalar_in_entry (word_of area (start + k)))
     → pairs_from 0 codes ≡ index
 file_given area file start pointers index codes f e h =
     dense 0 pointers codes index (omega arith) f.valid (λ k l.
     let inside : k < pointers = omega arith in
-    h k inside ∙ ap scalar_of (f.words k inside) ∙ entry_scalar index pointers k (code index k) f.valid refl
+    h k inside ∙ ap scalar_in_entry (f.words k inside) ∙ entry_scalar index pointers k (code index k) f.valid refl
     ∙ ap (code index) (omega arith))
 
 -- a file that was not set has another flag
@@ -170,7 +170,7 @@ not_flagged area file start pointers f e = let zero_flag = f.flagged in omega ar
 
 pub file_back : (area : List ℕ) (file start pointers : ℕ) (codes : List (Option ℕ)) (table : Index)
     (index : Option Index) → slice_index area file ≡ 1 → table ≡ pairs_from 0 codes → length codes ≡ pointers →
-    ((k : ℕ) → k < pointers → slice_index_or codes k None ≡ scalar_of (word_of area (start + k)))
+    ((k : ℕ) → k < pointers → slice_index_or codes k None ≡ scalar_in_entry (word_of area (start + k)))
     → IsFileIn area file start pointers index → Some table ≡ index
 file_back area file start pointers codes table None e t n h f = absurd (not_flagged area file start pointers f e)
 file_back area file start pointers codes table (Some index) e t n h f =

@@ -4,22 +4,22 @@ use Rattle.std.proofs.Common.{refl, arith, append_assoc}
 use Rattle.std.proofs.lemmas.Bool.Decides.{nat_tests}
 use Rattle.std.proofs.lemmas.List.{drop_more, drop_all, take_more, take_all, length-drop}
 use Rattle.common.specs.Splits.{before}
-use Rattle.enc_index.specs.Files.{after, without_spaces}
+use Rattle.enc_index.specs.Files.{rest_if_any, without_spaces}
 
 module _ (mark : ℕ) (bytes : List ℕ) (i : ℕ) (h : i < length bytes) where
   pub before_here : get_or bytes i 0 ≡ mark → before mark (drop i bytes) ≡ []
   before_here e = rw (drop_more bytes i 0 h) (grind (arith, nat_tests, e))
 
-  pub after_here : get_or bytes i 0 ≡ mark → after mark (drop i bytes) ≡ Some (drop (i + 1) bytes)
-  unfolding after
+  pub after_here : get_or bytes i 0 ≡ mark → rest_if_any mark (drop i bytes) ≡ Some (drop (i + 1) bytes)
+  unfolding rest_if_any
   after_here e = rw (drop_more bytes i 0 h) (grind (arith, nat_tests, e))
 
   before_next : (get_or bytes i 0 ≡ mark → ⊥) → before mark (drop i bytes) ≡ get_or bytes i 0 ∷ before mark
       (drop (i + 1) bytes)
   before_next e = rw (drop_more bytes i 0 h) (grind (arith, nat_tests, e))
 
-  pub after_next : (get_or bytes i 0 ≡ mark → ⊥) → after mark (drop i bytes) ≡ after mark (drop (i + 1) bytes)
-  unfolding after
+  pub after_next : (get_or bytes i 0 ≡ mark → ⊥) → rest_if_any mark (drop i bytes) ≡ rest_if_any mark (drop (i + 1) bytes)
+  unfolding rest_if_any
   after_next e = rw (drop_more bytes i 0 h) (grind (arith, nat_tests, e))
 
   pub prefix_next : (get_or bytes i 0 ≡ mark → ⊥) → take i bytes ++ before mark (drop i bytes) ≡ take (i + 1)
@@ -29,8 +29,8 @@ module _ (mark : ℕ) (bytes : List ℕ) (i : ℕ) (h : i < length bytes) where
 pub before_end : (mark : ℕ) (bytes : List ℕ) (i : ℕ) → length bytes ≤ i → before mark (drop i bytes) ≡ []
 before_end mark bytes i h = rw (drop_all i bytes h) refl
 
-pub after_end : (mark : ℕ) (bytes : List ℕ) (i : ℕ) → length bytes ≤ i → after mark (drop i bytes) ≡ None
-unfolding after
+pub after_end : (mark : ℕ) (bytes : List ℕ) (i : ℕ) → length bytes ≤ i → rest_if_any mark (drop i bytes) ≡ None
+unfolding rest_if_any
 after_end mark bytes i h = rw (drop_all i bytes h) refl
 
 pub spaces_here : (bytes : List ℕ) (i : ℕ) → i < length bytes → (get_or bytes i 0 ≡ 32 → ⊥)

@@ -4,22 +4,22 @@ use Rattle.std.proofs.Common.{Option, Some, None, refl, arith, slice_index_or, �
 use Rattle.std.proofs.lemmas.Bool.Decides.{nat_tests}
 use Rattle.std.proofs.lemmas.List.{drop_more, drop_all, get_or-set_same, get_or-set_other}
 use Rattle.enc_model.specs.Index.{Index, pointer_where, least}
-use Rattle.enc_index.specs.Entries.{pairs_from, entry, found}
+use Rattle.enc_index.specs.Entries.{pairs_from, entry, found_pointer}
 
 -- a pointer below the least of two is the least of three
 below_both : (p q : ℕ) (r : Option ℕ) → p < q → least p r ≡ Some p → least p (least q r) ≡ Some p
 below_both p q None h e = grind (arith, nat_tests)
 below_both p q (Some r) h e = grind (arith, nat_tests, e)
 
-least_below : (keeps : ℕ → Bool) (c p q : ℕ) (entries : List (Option ℕ)) → p < q
-    → least p (pointer_where keeps (pairs_from q entries) c) ≡ Some p
+least_below : (includes : ℕ → Bool) (c p q : ℕ) (entries : List (Option ℕ)) → p < q
+    → least p (pointer_where includes (pairs_from q entries) c) ≡ Some p
 unfolding pairs_from pointer_where
-least_below keeps c p q [] h = refl
-least_below keeps c p q (None ∷ entries) h = least_below keeps c p (suc q) entries (omega arith)
-least_below keeps c p q (Some d ∷ entries) h =
-    let rest = least_below keeps c p (suc q) entries (omega arith) in
-    let r = pointer_where keeps (pairs_from (suc q) entries) c in
-    elim ((d == c) && keeps q) as (λ b. least p (cond b (least q r) r) ≡ Some p)
+least_below includes c p q [] h = refl
+least_below includes c p q (None ∷ entries) h = least_below includes c p (suc q) entries (omega arith)
+least_below includes c p q (Some d ∷ entries) h =
+    let rest = least_below includes c p (suc q) entries (omega arith) in
+    let r = pointer_where includes (pairs_from (suc q) entries) c in
+    elim ((d == c) && includes q) as (λ b. least p (cond b (least q r) r) ≡ Some p)
     [ true ↦ below_both p q r h rest | false ↦ rest ]
 
 -- the pairs from an entry on
@@ -33,40 +33,40 @@ pub from_some : (entries : List (Option ℕ)) (i c : ℕ) → i < length entries
 unfolding pairs_from
 from_some entries i c h e = rw (drop_more entries i None h, e, add-one) refl
 
-module _ (keeps : ℕ → Bool) (entries : List (Option ℕ)) (i j : ℕ) (next : i + 1 ≡ j) (h : i < length entries) where
+module _ (includes : ℕ → Bool) (entries : List (Option ℕ)) (i j : ℕ) (next : i + 1 ≡ j) (h : i < length entries) where
   -- the least pointers among the entries from a place on
   abbrev from : ℕ → ℕ → Option ℕ
-  from k c = pointer_where keeps (pairs_from k (drop k entries)) c
+  from k c = pointer_where includes (pairs_from k (drop k entries)) c
 
   pub past_none : slice_index_or entries i None ≡ None → (c : ℕ) → from i c ≡ from j c
   past_none e c = rw (from_none entries i h e, next) refl
 
-  skipped : (d c : ℕ) (rest : Index) → keeps i ≡ false → pointer_where keeps ((i, d) ∷ rest) c ≡ pointer_where keeps
+  skipped : (d c : ℕ) (rest : Index) → includes i ≡ false → pointer_where includes ((i, d) ∷ rest) c ≡ pointer_where includes
       rest c
   unfolding pointer_where
   skipped d c rest k = rw k
-      (elim (d == c) as (λ b. cond (b && false) (least i (pointer_where keeps rest c))
-      (pointer_where keeps rest c) ≡ pointer_where keeps rest c) [ true ↦ refl | false ↦ refl ])
+      (elim (d == c) as (λ b. cond (b && false) (least i (pointer_where includes rest c))
+      (pointer_where includes rest c) ≡ pointer_where includes rest c) [ true ↦ refl | false ↦ refl ])
 
-  pub past_unusable : (d : ℕ) → slice_index_or entries i None ≡ Some d → keeps i ≡ false → (c : ℕ) → from i c ≡ from j c
+  pub past_unusable : (d : ℕ) → slice_index_or entries i None ≡ Some d → includes i ≡ false → (c : ℕ) → from i c ≡ from j c
   past_unusable d e k c = rw (from_some entries i d h e, next) (skipped d c _ k)
 
-  taken : (d c : ℕ) (rest : Index) → keeps i ≡ true → least i (pointer_where keeps rest c) ≡ Some i
-      → pointer_where keeps ((i, d) ∷ rest) c ≡ cond (d == c) (Some i) (pointer_where keeps rest c)
+  taken : (d c : ℕ) (rest : Index) → includes i ≡ true → least i (pointer_where includes rest c) ≡ Some i
+      → pointer_where includes ((i, d) ∷ rest) c ≡ cond (d == c) (Some i) (pointer_where includes rest c)
   unfolding pointer_where
   taken d c rest k l = rw k
-      (elim (d == c) as (λ b. cond (b && true) (least i (pointer_where keeps rest c))
-      (pointer_where keeps rest c) ≡ cond b (Some i) (pointer_where keeps rest c)) [ true ↦ l | false ↦ refl ])
+      (elim (d == c) as (λ b. cond (b && true) (least i (pointer_where includes rest c))
+      (pointer_where includes rest c) ≡ cond b (Some i) (pointer_where includes rest c)) [ true ↦ l | false ↦ refl ])
 
-  pub past_taken : (d : ℕ) → slice_index_or entries i None ≡ Some d → keeps i ≡ true → (c : ℕ)
+  pub past_taken : (d : ℕ) → slice_index_or entries i None ≡ Some d → includes i ≡ true → (c : ℕ)
       → from i c ≡ cond (d == c) (Some i) (from j c)
-  past_taken d e k c = rw (from_some entries i d h e, next) (taken d c _ k (least_below keeps c i j _ (omega arith)))
+  past_taken d e k c = rw (from_some entries i d h e, next) (taken d c _ k (least_below includes c i j _ (omega arith)))
 
 -- after the last entry there is nothing
-pub from_nothing : (keeps : ℕ → Bool) (entries : List (Option ℕ)) (c : ℕ)
-    → pointer_where keeps (pairs_from (length entries) (drop (length entries) entries)) c ≡ None
+pub from_nothing : (includes : ℕ → Bool) (entries : List (Option ℕ)) (c : ℕ)
+    → pointer_where includes (pairs_from (length entries) (drop (length entries) entries)) c ≡ None
 unfolding pairs_from pointer_where
-from_nothing keeps entries c = rw (drop_all (length entries) entries (omega arith)) refl
+from_nothing includes entries c = rw (drop_all (length entries) entries (omega arith)) refl
 
 -- TABLES BY CODE POINT
 
@@ -76,7 +76,7 @@ nowhere (suc n) zero d = refl
 nowhere (suc n) (suc c) d = nowhere n c d
 
 -- an empty table gives nothing
-pub found_none : (n c : ℕ) → found (replicate n 0xFFFF) c ≡ None
+pub found_none : (n c : ℕ) → found_pointer (replicate n 0xFFFF) c ≡ None
 found_none n c = rw (nowhere n c 0xFFFF) refl
 
 entry_some : (p : ℕ) → p < 0xFFFF → entry p ≡ Some p
@@ -84,10 +84,10 @@ entry_some p below = grind (arith, nat_tests)
 
 -- an entry that is written is given, and the others are as before
 pub found_set : (pointers : List ℕ) (d p c : ℕ) → d < length pointers → p < 0xFFFF
-    → found (set pointers d p) c ≡ cond (d == c) (Some p) (found pointers c)
+    → found_pointer (set pointers d p) c ≡ cond (d == c) (Some p) (found_pointer pointers c)
 found_set pointers d p c inside below = go (d == c) refl
   where
-    go : (b : Bool) → (d == c) ≡ b → found (set pointers d p) c ≡ cond b (Some p) (found pointers c)
+    go : (b : Bool) → (d == c) ≡ b → found_pointer (set pointers d p) c ≡ cond b (Some p) (found_pointer pointers c)
     go true e = let same : d ≡ c =
         grind (arith, nat_tests, e) in rw (← same, get_or-set_same pointers d p 0xFFFF inside) (entry_some p below)
     go false e = let other : c ≢ d =

@@ -19,9 +19,9 @@ pub code_of_none : (p : ℕ) → code [] p ≡ None
 unfolding code
 code_of_none p = refl
 
-pub pointer_of_none : (keeps : ℕ → Bool) (c : ℕ) → pointer_where keeps [] c ≡ None
+pub pointer_of_none : (includes : ℕ → Bool) (c : ℕ) → pointer_where includes [] c ≡ None
 unfolding pointer_where
-pointer_of_none keeps c = refl
+pointer_of_none includes c = refl
 
 -- below the first pointer there is nothing
 code_below : (q : ℕ) (entries : List (Option ℕ)) (p : ℕ) → p < q → code (pairs_from q entries) p ≡ None

@@ -5,7 +5,7 @@ use Rattle.std.proofs.lemmas.List.{drop_more, drop_all}
 use Rattle.std.proofs.lemmas.Grind.{pow_more}
 use Rattle.std.proofs.Math.Nat.{mul-le-mul_right, pow-le-pow_right}
 use Rattle.std.specs.Char.{digit_value}
-use Rattle.enc_index.specs.Files.{onward}
+use Rattle.enc_index.specs.Files.{number_onward}
 
 -- one digit more
 pub grown : (radix value i digit : ℕ) → value < radix ^ i → digit < radix → value * radix + digit < radix ^ (i + 1)
@@ -30,17 +30,17 @@ room_for_radix radix value i most r fits h v = let a =
 
 pub onward_next : (radix value : ℕ) (digits : List ℕ) (i : ℕ) → i < length digits
     → digit_value (get_or digits i 0) < radix →
-    onward radix value (drop i digits) ≡ onward radix (value * radix + digit_value (get_or digits i 0))
+    number_onward radix value (drop i digits) ≡ number_onward radix (value * radix + digit_value (get_or digits i 0))
     (drop (i + 1) digits)
-unfolding onward
+unfolding number_onward
 onward_next radix value digits i h d = rw (drop_more digits i 0 h) (grind (arith, nat_tests, d))
 
 pub onward_bad : (radix value : ℕ) (digits : List ℕ) (i : ℕ) → i < length digits
-    → (digit_value (get_or digits i 0) < radix → ⊥) → onward radix value (drop i digits) ≡ None
-unfolding onward
+    → (digit_value (get_or digits i 0) < radix → ⊥) → number_onward radix value (drop i digits) ≡ None
+unfolding number_onward
 onward_bad radix value digits i h d = rw (drop_more digits i 0 h) (grind (arith, nat_tests, d))
 
 pub onward_end : (radix value : ℕ) (digits : List ℕ) (i : ℕ) → length digits ≤ i
-    → onward radix value (drop i digits) ≡ Some value
-unfolding onward
+    → number_onward radix value (drop i digits) ≡ Some value
+unfolding number_onward
 onward_end radix value digits i h = rw (drop_all i digits h) refl

@@ -8,8 +8,8 @@ use Rattle.enc_index.specs.declared.kind.Kind.{Kind}
 use Rattle.enc_index.specs.declared.kind.ReadError.{ReadError}
 use Rattle.enc_index.specs.declared.kind.ReadError.TheVariants.{Line, Range, Twice, NoMemory}
 use Rattle.enc_index.specs.Scalars.{is_scalar}
-use Rattle.enc_index.specs.Entries.{pairs_from, AreScalars, ascends}
-use Rattle.enc_index.specs.Files.{file_of, lines_of, with_lines, pointers_of}
+use Rattle.enc_index.specs.Entries.{pairs_from, AreScalarEntries, ascends}
+use Rattle.enc_index.specs.Files.{pairs_of_file, lines_of, with_lines, pointers_of}
 use Rattle.enc_index.specs.Kinds.{KindedIndex, IsReading}
 
 no_pairs_at : (q n : ℕ) → pairs_from q (replicate n None) ≡ []
@@ -30,24 +30,24 @@ pub at_first : (bound n : ℕ) (entries : List (Option ℕ)) (lines : List (List
     with_lines (length entries) n (pairs_from 0 entries) lines ≡ with_lines bound n [] lines
 at_first bound n entries lines e = rw (e, length-replicate bound none, no_pairs_at 0 bound) refl
 
-pub scalars_at_first : (bound : ℕ) (entries : List (Option ℕ)) → entries ≡ replicate bound None → AreScalars entries
+pub scalars_at_first : (bound : ℕ) (entries : List (Option ℕ)) → entries ≡ replicate bound None → AreScalarEntries entries
 scalars_at_first bound entries e k = rw (e, no_code bound k) (tt)
 
 pub read_refused : (kind : Kind) (bytes : List ℕ) (e : ReadError) → with_lines (pointers_of kind) 1 []
     (lines_of bytes) ≡ Err e → IsReading kind bytes (Err e)
-unfolding file_of
+unfolding pairs_of_file
 read_refused kind bytes (Line n) h = h
 read_refused kind bytes (Range n) h = h
 read_refused kind bytes (Twice n) h = h
 read_refused kind bytes NoMemory h = tt
 
 pub read_done : (kind : Kind) (bytes : List ℕ) (index : Index) → with_lines (pointers_of kind) 1 []
-    (lines_of bytes) ≡ Ok index → file_of kind bytes ≡ Ok index
-unfolding file_of
+    (lines_of bytes) ≡ Ok index → pairs_of_file kind bytes ≡ Ok index
+unfolding pairs_of_file
 read_done kind bytes index h = h
 
 -- the pairs of a table ascend
-pairs_ascend : (low q bound : ℕ) (entries : List (Option ℕ)) → low ≤ q → bound ≡ q + length entries → AreScalars entries
+pairs_ascend : (low q bound : ℕ) (entries : List (Option ℕ)) → low ≤ q → bound ≡ q + length entries → AreScalarEntries entries
     → ascends low bound (pairs_from q entries) ≡ true
 unfolding ascends pairs_from
 pairs_ascend low q bound [] l e s = refl
@@ -58,7 +58,7 @@ pairs_ascend low q bound (Some c ∷ entries) l e s =
     let scalar : is_scalar c ≡ true = s zero in
     grind (arith, nat_tests, rest, scalar)
 
-pub table_ascends : (bound : ℕ) (entries : List (Option ℕ)) → length entries ≡ bound → AreScalars entries
+pub table_ascends : (bound : ℕ) (entries : List (Option ℕ)) → length entries ≡ bound → AreScalarEntries entries
     → ascends 0 bound (pairs_from 0 entries) ≡ true
 table_ascends bound entries e s = pairs_ascend 0 0 bound entries (omega arith) (omega arith) s
 

@@ -6,8 +6,8 @@ use Rattle.enc_index.specs.declared.kind.ReadError.TheVariants.{Line, Range, Twi
 use Rattle.enc_model.specs.Indexes.{IndexSet, no_indexes}
 use Rattle.enc_index.specs.Area.{area_byte, entry_at}
 use Rattle.common.specs.Splits.{before}
-use Rattle.enc_index.specs.Files.{after, pieces, without_crs, onward, without_spaces, pair_of, inserted}
-use Rattle.enc_index.specs.Files.{with_line, with_lines, file_of}
+use Rattle.enc_index.specs.Files.{rest_if_any, pieces, without_crs, number_onward, without_spaces, pair_of, inserted}
+use Rattle.enc_index.specs.Files.{with_line, with_lines, pairs_of_file}
 
 -- a line of two fields, with its LF
 line : List ℕ → List ℕ → List ℕ
@@ -17,9 +17,9 @@ small : List ℕ
 small = codes "# test" ++ 0x0A ∷ 0x0A ∷ [] ++ line (codes "  0") (codes "0x3000") ++ line (codes "60")
     (codes "FF0D") ++ line (codes "61") (codes "FF0D")
 
-accepted : file_of Jis0208 small ≡ Ok ((0, 0x3000) ∷ (60, 0xFF0D) ∷ (61, 0xFF0D) ∷ [])
-unfolding line small after pieces without_crs onward without_spaces pair_of code inserted with_line with_lines
-    file_of
+accepted : pairs_of_file Jis0208 small ≡ Ok ((0, 0x3000) ∷ (60, 0xFF0D) ∷ (61, 0xFF0D) ∷ [])
+unfolding line small rest_if_any pieces without_crs number_onward without_spaces pair_of code inserted with_line with_lines
+    pairs_of_file
 accepted = refl
 
 least : pointer ((0, 0x3000) ∷ (60, 0xFF0D) ∷ (61, 0xFF0D) ∷ []) 0xFF0D ≡ Some 60
@@ -28,21 +28,21 @@ least = refl
 
 -- Refused are a pointer that was there, one out of range, a surrogate, a code point that is too great, a line without a
 -- tab, seven digits, and none.
-refused : (file_of Jis0208 (small ++ line (codes "60") (codes "3001")) ≡ Err (Twice 6))
-    × (file_of Jis0208 (line (codes "11280") (codes "3001")) ≡ Err (Range 1))
-    × (file_of Jis0208 (line (codes "0") (codes "D800")) ≡ Err (Range 1))
-    × (file_of Jis0208 (line (codes "0") (codes "110000")) ≡ Err (Range 1))
-    × (file_of Jis0208 (codes "x") ≡ Err (Line 1))
-    × (file_of Jis0208 (line (codes "0000001") (codes "3001")) ≡ Err (Line 1))
-    × (file_of Jis0208 (line (codes "0") (codes "0x")) ≡ Err (Line 1))
-unfolding line small after pieces without_crs onward without_spaces pair_of code inserted with_line with_lines
-    file_of
+refused : (pairs_of_file Jis0208 (small ++ line (codes "60") (codes "3001")) ≡ Err (Twice 6))
+    × (pairs_of_file Jis0208 (line (codes "11280") (codes "3001")) ≡ Err (Range 1))
+    × (pairs_of_file Jis0208 (line (codes "0") (codes "D800")) ≡ Err (Range 1))
+    × (pairs_of_file Jis0208 (line (codes "0") (codes "110000")) ≡ Err (Range 1))
+    × (pairs_of_file Jis0208 (codes "x") ≡ Err (Line 1))
+    × (pairs_of_file Jis0208 (line (codes "0000001") (codes "3001")) ≡ Err (Line 1))
+    × (pairs_of_file Jis0208 (line (codes "0") (codes "0x")) ≡ Err (Line 1))
+unfolding line small rest_if_any pieces without_crs number_onward without_spaces pair_of code inserted with_line with_lines
+    pairs_of_file
 refused = (refl, refl, refl, refl, refl, refl, refl)
 
 -- CR LF, pointers out of order, and a third field
-crlf : file_of Katakana (codes "2" ++ 0x09 ∷ codes "30f2" ++ 0x09 ∷ codes "x" ++ 0x0D ∷ 0x0A ∷ 0x0D ∷ 0x0A ∷ codes
+crlf : pairs_of_file Katakana (codes "2" ++ 0x09 ∷ codes "30f2" ++ 0x09 ∷ codes "x" ++ 0x0D ∷ 0x0A ∷ 0x0D ∷ 0x0A ∷ codes
     "0" ++ 0x09 ∷ codes "3002" ++ 0x0D ∷ 0x0A ∷ []) ≡ Ok ((0, 0x3002) ∷ (2, 0x30F2) ∷ [])
-unfolding line after pieces without_crs onward without_spaces pair_of code inserted with_line with_lines file_of
+unfolding line rest_if_any pieces without_crs number_onward without_spaces pair_of code inserted with_line with_lines pairs_of_file
 crlf = refl
 
 -- AREAS

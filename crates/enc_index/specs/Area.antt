@@ -53,9 +53,9 @@ pub record IsAreaOf (x : IndexSet) (area : List ℕ) : Type 0 where
   pub bytes : (place : ℕ) → place < 90112 → slice_index area place ≡ area_byte x place
 
 -- The set is given back, unless it is out of memory.
-abbrev pub Gives : Result IndexSet AreaError → IndexSet → Type 0
-Gives (Ok set) x = set ≡ x
-Gives (Err e) x = e ≡ NoMemory
+abbrev pub GivesSet : Result IndexSet AreaError → IndexSet → Type 0
+GivesSet (Ok set) x = set ≡ x
+GivesSet (Err e) x = e ≡ NoMemory
 
 -- Decoding an area.
 
@@ -67,8 +67,8 @@ word_of area entry =
     (place + 2) ∷ slice_index area (place + 3) ∷ [])
 
 -- The code point of an entry.
-abbrev pub scalar_of : ℕ → Option ℕ
-scalar_of word = if is_scalar word then Some word else None
+abbrev pub scalar_in_entry : ℕ → Option ℕ
+scalar_in_entry word = if is_scalar word then Some word else None
 
 -- The area has the file's flag and entries.
 pub record IsFileIn (area : List ℕ) (file start pointers : ℕ) (index : Option Index) : Type 0 where

@@ -16,24 +16,24 @@ abbrev pub entry : ℕ → Option ℕ
 entry p = if p == 0xFFFF then None else Some p
 
 -- The pointer of a code point in such a table; none after the table's end.
-abbrev pub found : List ℕ → ℕ → Option ℕ
-found pointers c = entry (slice_index_or pointers c 0xFFFF)
+abbrev pub found_pointer : List ℕ → ℕ → Option ℕ
+found_pointer pointers c = entry (slice_index_or pointers c 0xFFFF)
 
 -- The table gives each code point's least pointer among those that pass the test.
 abbrev pub GivesLeast : (ℕ → Bool) → List (Option ℕ) → List ℕ → Type 0
-GivesLeast keeps entries pointers = (c : ℕ) → found pointers c ≡ pointer_where keeps (pairs_from 0 entries) c
+GivesLeast includes entries pointers = (c : ℕ) → found_pointer pointers c ≡ pointer_where includes (pairs_from 0 entries) c
 
 -- The other tables agree with the entries.
 pub record AreAgreed (entries in_utf8 : List (Option ℕ)) (bytes_in_utf8 pointers sjis_pointers : List ℕ) : Type 0 where
   pub ready : in_utf8 ≡ entries
   pub bytes : length bytes_in_utf8 ≡ 256
   pub chars : (b : ℕ) → b < 256 → slice_index bytes_in_utf8 b ≡ byte_char (pairs_from 0 entries) b
-  pub least : (c : ℕ) → found pointers c ≡ pointer (pairs_from 0 entries) c
-  pub least_sjis : (c : ℕ) → found sjis_pointers c ≡ pointer_sjis (pairs_from 0 entries) c
+  pub least : (c : ℕ) → found_pointer pointers c ≡ pointer (pairs_from 0 entries) c
+  pub least_sjis : (c : ℕ) → found_pointer sjis_pointers c ≡ pointer_sjis (pairs_from 0 entries) c
 
 -- Each entry is none or a scalar value.
-abbrev pub AreScalars : List (Option ℕ) → Type 0
-AreScalars entries = (k : ℕ) → IfSome (slice_index_or entries k None) (λ c. is_scalar c ≡ true)
+abbrev pub AreScalarEntries : List (Option ℕ) → Type 0
+AreScalarEntries entries = (k : ℕ) → IfSome (slice_index_or entries k None) (λ c. is_scalar c ≡ true)
 
 -- The pointers ascend from `low` and stay below `bound`, and the code points are scalar values.
 unfoldable pub ascends : ℕ → ℕ → Index → Bool

@@ -19,21 +19,21 @@ pointers_of Katakana = 63
 pointers_of (Single e) = 128
 
 -- The bytes after the first mark; none where there is no mark.
-unfoldable pub after : ℕ → List ℕ → Option (List ℕ)
-after mark [] = None
-after mark (b ∷ bytes) = if b == mark then Some bytes else after mark bytes
+unfoldable pub rest_if_any : ℕ → List ℕ → Option (List ℕ)
+rest_if_any mark [] = None
+rest_if_any mark (b ∷ bytes) = if b == mark then Some bytes else rest_if_any mark bytes
 
 -- Lines.
 
 -- A byte before the first line.
-abbrev pub onto : ℕ → List (List ℕ) → List (List ℕ)
-onto b [] = (b ∷ []) ∷ []
-onto b (line ∷ lines) = (b ∷ line) ∷ lines
+abbrev pub onto_first_line : ℕ → List (List ℕ) → List (List ℕ)
+onto_first_line b [] = (b ∷ []) ∷ []
+onto_first_line b (line ∷ lines) = (b ∷ line) ∷ lines
 
 -- The pieces between LFs.
 unfoldable pub pieces : List ℕ → List (List ℕ)
 pieces [] = [] ∷ []
-pieces (b ∷ bytes) = if b == 0x0A then [] ∷ pieces bytes else onto b (pieces bytes)
+pieces (b ∷ bytes) = if b == 0x0A then [] ∷ pieces bytes else onto_first_line b (pieces bytes)
 
 -- The line without a CR at its end.
 abbrev pub without_cr : List ℕ → List ℕ
@@ -62,13 +62,13 @@ is_dropped (b ∷ line) = b == 0x23
 -- Fields.
 
 -- The number goes on with these digits.
-unfoldable pub onward : ℕ → ℕ → List ℕ → Option ℕ
-onward base n [] = Some n
-onward base n (b ∷ digits) = if nat_lt (digit_value b) base then onward base (n * base + digit_value b) digits else None
+unfoldable pub number_onward : ℕ → ℕ → List ℕ → Option ℕ
+number_onward base n [] = Some n
+number_onward base n (b ∷ digits) = if nat_lt (digit_value b) base then number_onward base (n * base + digit_value b) digits else None
 
 -- A number in this base of one or more digits, at most `most`.
-abbrev pub number : ℕ → ℕ → List ℕ → Option ℕ
-number base most digits = if nat_le 1 (length digits) && nat_le (length digits) most then onward base 0 digits else None
+abbrev pub number_in_base : ℕ → ℕ → List ℕ → Option ℕ
+number_in_base base most digits = if nat_le 1 (length digits) && nat_le (length digits) most then number_onward base 0 digits else None
 
 -- The field without spaces at its start.
 unfoldable pub without_spaces : List ℕ → List ℕ
@@ -81,11 +81,11 @@ without_0x bytes = if begins (0x30 ∷ 0x78 ∷ []) bytes then drop 2 bytes else
 
 -- A pointer: spaces, and then 1 to 6 decimal digits.
 abbrev pub pointer_of : List ℕ → Option ℕ
-pointer_of field = number 10 6 (without_spaces field)
+pointer_of field = number_in_base 10 6 (without_spaces field)
 
 -- A code point: 1 to 8 hexadecimal digits.
 abbrev pub point_of : List ℕ → Option ℕ
-point_of field = number 16 8 (without_0x field)
+point_of field = number_in_base 16 8 (without_0x field)
 
 -- Both numbers, if both are valid.
 abbrev pub both : Option ℕ → Option ℕ → Option (ℕ × ℕ)
@@ -99,7 +99,7 @@ next_point (Some rest) = point_of (before 0x09 rest)
 
 -- The first two fields of a line. Others are ignored.
 unfoldable pub pair_of : List ℕ → Option (ℕ × ℕ)
-pair_of line = both (pointer_of (before 0x09 line)) (next_point (after 0x09 line))
+pair_of line = both (pointer_of (before 0x09 line)) (next_point (rest_if_any 0x09 line))
 
 -- Pairs.
 
@@ -135,5 +135,5 @@ with_lines bound n index (line ∷ lines) =
     and_then (with_line bound n index line) (λ next. with_lines bound (n + 1) next lines)
 
 -- The pairs of a file, or its first bad line, counted from 1.
-unfoldable pub file_of : Kind → List ℕ → Result Index ReadError
-file_of kind bytes = with_lines (pointers_of kind) 1 [] (lines_of bytes)
+unfoldable pub pairs_of_file : Kind → List ℕ → Result Index ReadError
+pairs_of_file kind bytes = with_lines (pointers_of kind) 1 [] (lines_of bytes)

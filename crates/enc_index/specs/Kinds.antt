@@ -2,12 +2,12 @@
 use Rattle.std.specs.Prelude.{◌≡◌, ℕ, List, Option, Some, None, Result, Ok, Err, slice_set}
 use Rattle.enc_model.specs.Index.{Index}
 use Rattle.enc_model.specs.Encode.{Tables}
-use Rattle.enc_model.specs.Indexes.{IndexSet, place_of, single_of}
+use Rattle.enc_model.specs.Indexes.{IndexSet, single_byte_place, single_of}
 use Rattle.enc_index.specs.declared.kind.Kind.{Kind}
 use Rattle.enc_index.specs.declared.kind.Kind.TheVariants.{Jis0208, Jis0212, Katakana, Single}
 use Rattle.enc_index.specs.declared.kind.ReadError.{ReadError}
 use Rattle.enc_index.specs.declared.kind.ReadError.TheVariants.{NoMemory}
-use Rattle.enc_index.specs.Files.{file_of}
+use Rattle.enc_index.specs.Files.{pairs_of_file}
 
 -- The index of a kind.
 abbrev pub table_of : Tables → Kind → Index
@@ -30,9 +30,9 @@ pub record KindedIndex : Type 0 where
 
 -- Reading a file gives its pairs or its first bad line, unless it is out of memory.
 abbrev pub IsReading : Kind → List ℕ → Result KindedIndex ReadError → Type 0
-IsReading kind bytes (Ok index) = (index.kind ≡ kind) × (file_of kind bytes ≡ Ok index.pairs)
+IsReading kind bytes (Ok index) = (index.kind ≡ kind) × (pairs_of_file kind bytes ≡ Ok index.pairs)
 IsReading kind bytes (Err NoMemory) = Unit {0}
-IsReading kind bytes (Err e) = file_of kind bytes ≡ Err e
+IsReading kind bytes (Err e) = pairs_of_file kind bytes ≡ Err e
 
 -- The indexes with another one at this place.
 abbrev pub set_place : List (Option Index) → Option ℕ → Index → List (Option Index)
@@ -44,7 +44,7 @@ abbrev pub set_kind : IndexSet → Kind → Index → IndexSet
 set_kind x Jis0208 index = record x { jis0208 = Some index }
 set_kind x Jis0212 index = record x { jis0212 = Some index }
 set_kind x Katakana index = record x { katakana = Some index }
-set_kind x (Single e) index = record x { single = set_place x.single (place_of e) index }
+set_kind x (Single e) index = record x { single = set_place x.single (single_byte_place e) index }
 
 -- The set with this index in place of the one of its kind.
 abbrev pub with_index : IndexSet → KindedIndex → IndexSet

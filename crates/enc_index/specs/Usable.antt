@@ -5,6 +5,6 @@ use Rattle.enc_index.specs.declared.usable.Usable.{Usable}
 use Rattle.enc_index.specs.declared.usable.Usable.TheVariants.{All, OfShiftJis}
 
 -- The Shift_JIS encoder leaves out 8272 to 8835.
-abbrev pub keeps : Usable → ℕ → Bool
-keeps All p = nat_le 0 p
-keeps OfShiftJis p = not (within 8272 8835 p)
+abbrev pub includes : Usable → ℕ → Bool
+includes All p = nat_le 0 p
+includes OfShiftJis p = not (within 8272 8835 p)

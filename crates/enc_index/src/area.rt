@@ -5,7 +5,7 @@ ghost use Rattle.std.specs.Prelude.{option_copied, slice_index, slice_index_or};
 ghost use Rattle.enc_model.specs.Index.{Index};
 ghost use Rattle.enc_model.specs.Indexes.{IndexSet};
 ghost use Rattle.enc_index.specs.Sets.{IsIndex, IsIndexSet};
-ghost use Rattle.enc_index.specs.Area.{spot_of, entry_of, entry_at, area_byte, IsAreaOf, Gives, word_of, scalar_of};
+ghost use Rattle.enc_index.specs.Area.{spot_of, entry_of, entry_at, area_byte, IsAreaOf, GivesSet, word_of, scalar_in_entry};
 ghost use Rattle.enc_index.specs.Area.{IsFileIn, nth_file};
 ghost use Rattle.enc_index.specs.Compared.{HasEntries, HasFlags, HasZeros, HasFiles, HasMargins};
 
@@ -104,7 +104,7 @@ fn codes_of(
     ensures long { IfOk result (λ codes. length codes.items ≡ pointers) }
     ensures codes { IfOk result
         (λ codes. (k : ℕ) → k < pointers → slice_index_or codes.items k None
-        ≡ scalar_of (word_of area.now (start + k))) }
+        ≡ scalar_in_entry (word_of area.now (start + k))) }
 {
     let mut codes = Vec::with_capacity(alloc, pointers)?;
     for pointer in 0..pointers {
@@ -271,7 +271,7 @@ impl IndexSet {
     pub fn from_area(alloc: Global, area: &[u8]) -> Result<IndexSet, AreaError>
         ensures written { IfOk result (λ set. IsAreaOf set area.now) }
         ensures valid { IfOk result IsIndexSet }
-        ensures given_back { (x : IndexSet) → IsIndexSet x → IsAreaOf x area.now → Gives result x }
+        ensures given_back { (x : IndexSet) → IsIndexSet x → IsAreaOf x area.now → GivesSet result x }
     {
         if area.len() != AREA_SIZE {
             return Err(AreaError::Damaged);

@@ -2,9 +2,9 @@
 
 ghost use Rattle.std.specs.Prelude.{◌≡◌, ◌+◌, ◌<◌, ◌≤◌, ◌^◌, length, ◌∷◌, IfSome, Option, Some, Ok, Err};
 ghost use Rattle.std.specs.Prelude.{MatchResult, option_copied};
-ghost use Rattle.enc_index.specs.Entries.{pairs_from, AreScalars};
+ghost use Rattle.enc_index.specs.Entries.{pairs_from, AreScalarEntries};
 ghost use Rattle.common.specs.Splits.{before};
-ghost use Rattle.enc_index.specs.Files.{lines_after, after, without_cr, is_dropped, number, without_spaces};
+ghost use Rattle.enc_index.specs.Files.{lines_after, rest_if_any, without_cr, is_dropped, number_in_base, without_spaces};
 ghost use Rattle.enc_index.specs.Files.{without_0x, pair_of, with_pair, with_line, with_lines, lines_of};
 
 use crate::kind::ReadError;
@@ -13,7 +13,7 @@ use crate::kind::ReadError;
 #[tactic(auto, using(crate::proofs::Cuts::before_here, crate::proofs::Cuts::after_here, crate::proofs::Cuts::prefix_next, crate::proofs::Cuts::after_next, crate::proofs::Cuts::before_end, crate::proofs::Cuts::after_end))]
 fn cut(bytes: &[u8], mark: u8) -> (&[u8], Option<&[u8]>)
     ensures before { result.0.now ≡ before mark bytes.now }
-    ensures after { option_copied result.1 ≡ after mark bytes.now }
+    ensures rest_if_any { option_copied result.1 ≡ rest_if_any mark bytes.now }
 {
     for (place, byte) in bytes.iter().enumerate() {
         if *byte == mark {
@@ -68,7 +68,7 @@ fn number(digits: &[u8], radix: u32, most: usize) -> Option<u32>
     requires least { 2 ≤ radix }
     requires greatest { radix ≤ 36 }
     requires fits { radix ^ most ≤ 2 ^ 32 }
-    ensures { result ≡ number radix most digits.now }
+    ensures { result ≡ number_in_base radix most digits.now }
 {
     if digits.is_empty() || digits.len() > most {
         return None;
@@ -103,7 +103,7 @@ fn put_pair(
         (λ _. with_pair (length codes.old) line_number (pairs_from 0 codes.old) (Some pair) ≡ Ok
         (pairs_from 0 codes.new)) (λ e. with_pair (length codes.old) line_number (pairs_from 0 codes.old)
         (Some pair) ≡ Err e) }
-    ensures scalars { AreScalars codes.old → AreScalars codes.new }
+    ensures scalars { AreScalarEntries codes.old → AreScalarEntries codes.new }
 {
     let place = pair.0 as usize;
     if place >= codes.len() {
@@ -132,7 +132,7 @@ fn read_line(codes: &mut [Option<char>], line_number: usize, line: &[u8]) -> Res
     ensures pairs { MatchResult result
         (λ _. with_line (length codes.old) line_number (pairs_from 0 codes.old) line.now ≡ Ok (pairs_from 0 codes.new))
         (λ e. with_line (length codes.old) line_number (pairs_from 0 codes.old) line.now ≡ Err e) }
-    ensures scalars { AreScalars codes.old → AreScalars codes.new }
+    ensures scalars { AreScalarEntries codes.old → AreScalarEntries codes.new }
 {
     if is_dropped(line) {
         return Ok(());
@@ -163,7 +163,7 @@ fn read_lines(codes: &mut [Option<char>], bytes: &[u8]) -> Result<(), ReadError>
         (λ _. with_lines (length codes.old) 1 (pairs_from 0 codes.old) (lines_of bytes.now) ≡ Ok
         (pairs_from 0 codes.new)) (λ e. with_lines (length codes.old) 1 (pairs_from 0 codes.old)
         (lines_of bytes.now) ≡ Err e) }
-    ensures scalars { AreScalars codes.old → AreScalars codes.new }
+    ensures scalars { AreScalarEntries codes.old → AreScalarEntries codes.new }
 {
     let mut text = bytes;
     let mut line_number = 1;
@@ -184,7 +184,7 @@ pub fn read_file(codes: &mut Vec<Option<char>>, bytes: &[u8]) -> Result<(), Read
         (λ _. with_lines (length codes.old.items) 1 (pairs_from 0 codes.old.items) (lines_of bytes.now) ≡ Ok
         (pairs_from 0 codes.new.items)) (λ e. with_lines (length codes.old.items) 1 (pairs_from 0 codes.old.items)
         (lines_of bytes.now) ≡ Err e) }
-    ensures scalars { AreScalars codes.old.items → AreScalars codes.new.items }
+    ensures scalars { AreScalarEntries codes.old.items → AreScalarEntries codes.new.items }
     ensures length { length codes.new.items ≡ length codes.old.items }
 {
     read_lines(codes, bytes)

@@ -1,8 +1,8 @@
 //! The least pointers by code point, for encoders.
 
 ghost use Rattle.std.specs.Prelude.{◌≡◌, ℕ, Option, IfOk, IfSome, None, ◌<◌, length, slice_index_or};
-ghost use Rattle.enc_index.specs.Entries.{found, GivesLeast};
-ghost use Rattle.enc_index.specs.Usable.{keeps};
+ghost use Rattle.enc_index.specs.Entries.{found_pointer, GivesLeast};
+ghost use Rattle.enc_index.specs.Usable.{includes};
 
 use crate::usable::Usable;
 use std::alloc::{AllocError, Global};
@@ -28,7 +28,7 @@ impl Model for Pointers {
 
 /// Whether the encoder may use this pointer.
 fn may_use(usable: Usable, pointer: u32) -> bool
-    ensures { result ≡ keeps usable pointer }
+    ensures { result ≡ includes usable pointer }
 {
     match usable {
         Usable::All => true,
@@ -61,7 +61,7 @@ impl Pointers {
         usable: Usable,
     ) -> Result<Pointers, AllocError>
         requires { length codes.now < 0xFFFF }
-        ensures { IfOk result (λ pointers. GivesLeast (keeps usable) codes.now pointers) }
+        ensures { IfOk result (λ pointers. GivesLeast (includes usable) codes.now pointers) }
     {
         let count = code_points(codes);
         let mut at = Vec::with_capacity(alloc, count)?;
@@ -81,7 +81,7 @@ impl Pointers {
     /// The pointer of a code point.
     #[inline(always)]
     pub fn find(&self, c: char) -> Option<u32>
-        ensures { result ≡ found self.now c }
+        ensures { result ≡ found_pointer self.now c }
     {
         match self.at.get(c as usize) {
             Some(pointer) if *pointer != NO_POINTER => Some(*pointer as u32),

@@ -3,12 +3,12 @@
 ghost use Rattle.std.specs.Prelude.{◌≡◌, ◌<◌, ℕ, Option, None, IfOk, IfSome, MatchOption, option_copied, length};
 ghost use Rattle.std.specs.Prelude.{slice_index, slice_index_or};
 ghost use Rattle.enc_model.specs.Index.{code, pointer, pointer_sjis};
-ghost use Rattle.enc_model.specs.Indexes.{no_indexes, tables, offers, place_of, single_of};
+ghost use Rattle.enc_model.specs.Indexes.{no_indexes, tables, offers, single_byte_place, single_of};
 ghost use Rattle.enc_index.specs.Files.{pointers_of};
 ghost use Rattle.enc_index.specs.Kinds.{table_of, index_of, with_index};
 ghost use Rattle.enc_index.specs.Sets.{IsIndexSet};
 ghost use Rattle.enc_index.specs.Area.{nth_file};
-ghost use Rattle.enc_index.specs.Entries.{found};
+ghost use Rattle.enc_index.specs.Entries.{found_pointer};
 ghost use Rattle.enc_index.specs.Bytes.{byte_char};
 
 use crate::index::Index;
@@ -63,7 +63,7 @@ impl Model for IndexSet {
 
 /// The place of a single-byte encoding.
 fn place_of(encoding: Encoding) -> Option<usize>
-    ensures { result ≡ place_of encoding }
+    ensures { result ≡ single_byte_place encoding }
 {
     match encoding {
         Encoding::Ibm866 => Some(0),
@@ -239,8 +239,8 @@ impl IndexSet {
     #[inline(always)]
     pub fn pointers(&self, kind: Kind) -> Option<&Pointers>
         ensures value { MatchOption result ((c : ℕ) → pointer (table_of (tables self.now) kind) c ≡ None)
-            (λ p. (c : ℕ) → found p.now c ≡ pointer (table_of (tables self.now) kind) c) }
-        ensures bounded { IfSome result (λ p. (c : ℕ) → IfSome (found p.now c) (λ n. n < pointers_of kind)) }
+            (λ p. (c : ℕ) → found_pointer p.now c ≡ pointer (table_of (tables self.now) kind) c) }
+        ensures bounded { IfSome result (λ p. (c : ℕ) → IfSome (found_pointer p.now c) (λ n. n < pointers_of kind)) }
     {
         let _ = &self.tables.jis0208;
         Some(self.table(kind)?.pointers())
@@ -252,8 +252,8 @@ impl IndexSet {
     #[inline(always)]
     pub fn pointers_sjis(&self) -> Option<&Pointers>
         ensures value { MatchOption result ((c : ℕ) → pointer_sjis (tables self.now).jis0208 c ≡ None)
-            (λ p. (c : ℕ) → found p.now c ≡ pointer_sjis (tables self.now).jis0208 c) }
-        ensures bounded { IfSome result (λ p. (c : ℕ) → IfSome (found p.now c) (λ n. n < 11280)) }
+            (λ p. (c : ℕ) → found_pointer p.now c ≡ pointer_sjis (tables self.now).jis0208 c) }
+        ensures bounded { IfSome result (λ p. (c : ℕ) → IfSome (found_pointer p.now c) (λ n. n < 11280)) }
     {
         Some(self.tables.jis0208.as_ref()?.pointers_sjis())
     }

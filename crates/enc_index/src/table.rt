@@ -2,7 +2,7 @@
 
 ghost use Rattle.std.specs.Prelude.{◌≡◌, ℕ, ◌<◌, IfOk, None, length, slice_index, slice_index_or};
 ghost use Rattle.enc_model.specs.Index.{Index, code, pointer, pointer_sjis};
-ghost use Rattle.enc_index.specs.Entries.{pairs_from, found, AreAgreed};
+ghost use Rattle.enc_index.specs.Entries.{pairs_from, found_pointer, AreAgreed};
 ghost use Rattle.enc_index.specs.Bytes.{byte_char};
 
 use crate::pointers::Pointers;
@@ -91,7 +91,7 @@ impl Table {
     /// The least pointers by code point.
     #[inline(always)]
     pub fn pointers(&self) -> &Pointers
-        ensures { (c : ℕ) → found result.now c ≡ pointer self.now c }
+        ensures { (c : ℕ) → found_pointer result.now c ≡ pointer self.now c }
     {
         &self.pointers
     }
@@ -99,7 +99,7 @@ impl Table {
     /// The least pointers by code point outside 8272 to 8835, which the Shift_JIS encoder leaves out.
     #[inline(always)]
     pub fn pointers_sjis(&self) -> &Pointers
-        ensures { (c : ℕ) → found result.now c ≡ pointer_sjis self.now c }
+        ensures { (c : ℕ) → found_pointer result.now c ≡ pointer_sjis self.now c }
     {
         &self.sjis_pointers
     }

@@ -4,19 +4,19 @@ use Rattle.std.proofs.Common.{Option, refl, sym, ◌∙◌, bytes_eq, arith}
 use Rattle.std.proofs.lemmas.List.{at_drop_more, at_drop_all}
 use Rattle.std.proofs.lemmas.Slice.Eq.{bytes_eq-Decides}
 use Rattle.enc_model.specs.declared.Encoding.{Encoding}
-use Rattle.enc_labels.specs.Labels.{found}
+use Rattle.enc_labels.specs.Labels.{found_label}
 
 module _ {X : Type 0} (f : X → List ℕ × Encoding) (name : List ℕ) where
   -- what is found in the rows from this one on
   abbrev left : List X → Option Encoding
-  left xs = found (map f xs) name
+  left xs = found_label (map f xs) name
 
   first_hit : (x : X) (xs : List X) → (f x).0 ≡ name → left (x ∷ xs) ≡ Some (f x).1
-  unfolding found
+  unfolding found_label
   first_hit x xs e = rw ((bytes_eq-Decides (f x).0 name).1 e) refl
 
   first_missed : (x : X) (xs : List X) (b : Bool) → bytes_eq (f x).0 name ≡ b → b ≡ false → left (x ∷ xs) ≡ left xs
-  unfolding found
+  unfolding found_label
   first_missed x xs b e h = rw (e ∙ h) refl
 
   miss : (x : X) → ((f x).0 ≡ name → ⊥) → bytes_eq (f x).0 name ≡ false
@@ -32,5 +32,5 @@ module _ {X : Type 0} (f : X → List ℕ × Encoding) (name : List ℕ) where
       (at_drop_more left xs i d h ∙ first_missed (get_or xs i d) (drop (i + 1) xs) _ refl (miss (get_or xs i d) e))
 
   pub found_past : (xs : List X) (i : ℕ) → length xs ≤ i → left (drop i xs) ≡ None
-  unfolding found
+  unfolding found_label
   found_past xs i h = at_drop_all left xs i h

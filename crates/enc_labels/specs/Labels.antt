@@ -58,23 +58,23 @@ labels =
     ++ rows e.Windows1258 (codes "cp1258" ∷ codes "windows-1258" ∷ codes "x-cp1258" ∷ [])
 
 -- The encoding of the first row with this label.
-unfoldable pub found : List (List ℕ × Encoding) → List ℕ → Option Encoding
-found [] label = None
-found (row ∷ table) label = if bytes_eq row.0 label then Some row.1 else found table label
+unfoldable pub found_label : List (List ℕ × Encoding) → List ℕ → Option Encoding
+found_label [] label = None
+found_label (row ∷ table) label = if bytes_eq row.0 label then Some row.1 else found_label table label
 
 -- A row of the code's table, in lower case.
-abbrev pub lowered : Bor (List ℕ) × Encoding → List ℕ × Encoding
-lowered row = (map to_ascii_lowercase row.0.now, row.1)
+abbrev pub lowered_row : Bor (List ℕ) × Encoding → List ℕ × Encoding
+lowered_row row = (map to_ascii_lowercase row.0.now, row.1)
 
 -- Get an encoding: whitespace around the label and the case of its letters are ignored.
 unfoldable pub encoding_of : List ℕ → Option Encoding
-encoding_of label = found labels (map to_ascii_lowercase (stripped label))
+encoding_of label = found_label labels (map to_ascii_lowercase (stripped label))
 
 -- Get an output encoding (Encoding Standard, 4.3): UTF-8 for UTF-16.
-abbrev pub output_of : Encoding → Encoding
-output_of e.Utf16Be = e.Utf8
-output_of e.Utf16Le = e.Utf8
-output_of encoding = encoding
+abbrev pub output_encoding_of : Encoding → Encoding
+output_encoding_of e.Utf16Be = e.Utf8
+output_encoding_of e.Utf16Le = e.Utf8
+output_encoding_of encoding = encoding
 
 -- The name of an encoding.
 abbrev pub name_of : Encoding → List ℕ

@@ -3,7 +3,7 @@
 
 ghost use Rattle.std.specs.Prelude.{◌≡◌, map};
 ghost use Rattle.std.specs.Char.{to_ascii_lowercase};
-ghost use Rattle.enc_labels.specs.Labels.{lowered, found, encoding_of, output_of, name_of};
+ghost use Rattle.enc_labels.specs.Labels.{lowered_row, found_label, encoding_of, output_encoding_of, name_of};
 
 mod table;
 
@@ -12,7 +12,7 @@ use table::LABELS;
 
 /// The encoding of the first row with this label, compared without case.
 fn find(table: &[(&str, Encoding)], name: &[u8]) -> Option<Encoding>
-    ensures { result ≡ found (map lowered table.now) (map to_ascii_lowercase name.now) }
+    ensures { result ≡ found_label (map lowered_row table.now) (map to_ascii_lowercase name.now) }
 {
     for (known, encoding) in table {
         if name.eq_ignore_ascii_case(known.as_bytes()) {
@@ -32,7 +32,7 @@ pub fn encoding_of(label: &[u8]) -> Option<Encoding>
 
 /// Get an output encoding (Encoding Standard, section 4.3): UTF-8 for UTF-16, otherwise the same.
 pub fn output_of(encoding: Encoding) -> Encoding
-    ensures { result ≡ output_of encoding }
+    ensures { result ≡ output_encoding_of encoding }
 {
     match encoding {
         Encoding::Utf16Be | Encoding::Utf16Le => Encoding::Utf8,

@@ -2,7 +2,7 @@
 use Rattle.std.proofs.Common.{ℕ, zero, suc, ◌<◌, ◌≤◌, ◌≡◌, ◌⊎◌, inl, inr, Bool, true, false, not, ◌&&◌, List, [], ◌∷◌}
 use Rattle.std.proofs.Common.{◌++◌, length, drop, refl, sym, ◌∙◌, ap, subst, arith, if◌then◌else◌, length-drop}
 use Rattle.std.specs.List.{concat}
-use Rattle.enc_model.specs.Stream.{after, steps}
+use Rattle.enc_model.specs.Stream.{text_then, steps}
 use Rattle.enc_model.specs.Utf8.{Utf8, utf8, utf8_start}
 use Rattle.enc_laws.specs.Subparts.{Ranges, fills, is_sequence, is_prefix, is_open, segment, segments_within, segments}
 use Rattle.enc_laws.specs.Subparts.{scalar_of, segment_scalar, segments_text}
@@ -14,7 +14,7 @@ use Rattle.enc_laws.proofs.Reading.{end_start}
 -- A SEGMENT, and what the decoder gives for it
 
 pub record Given (ended : Bool) (bytes here rest : List ℕ) : Type 0 where
-  pub run : steps utf8 ended utf8_start bytes ≡ after (segment_scalar here ∷ []) (steps utf8 ended utf8_start rest)
+  pub run : steps utf8 ended utf8_start bytes ≡ text_then (segment_scalar here ∷ []) (steps utf8 ended utf8_start rest)
   pub closed : rest ≡ [] → is_open here ≡ false
 
 pub record Open (ended : Bool) (bytes here rest : List ℕ) : Type 0 where
@@ -51,7 +51,7 @@ module _ (b : ℕ) (ranges : Ranges) (s : Utf8) (l : Leading b ranges s) (ended 
       ap (λ p. value p t) l.point ∙ sym (scalar_is b ranges t l.leads.few e) ∙ sym (scalar_whole (b ∷ t) sequence) in
       record {
         run = lead_read ∙ tail_whole ranges s ended bytes l.waits e ∙ ap
-            (λ c. after (c ∷ []) (steps utf8 ended utf8_start (beyond ranges bytes))) scalar;
+            (λ c. text_then (c ∷ []) (steps utf8 ended utf8_start (beyond ranges bytes))) scalar;
         closed = λ r. not_open (is_prefix (b ∷ t)) (is_sequence (b ∷ t)) sequence;
       }
 
@@ -62,7 +62,7 @@ module _ (b : ℕ) (ranges : Ranges) (s : Utf8) (l : Leading b ranges s) (ended 
       let sequence : is_sequence (b ∷ t) ≡ false = l.leads.sequence t ∙ e in
       record {
         run = lead_read ∙ tail_stopped ranges s ended bytes d rest l.waits e more
-            ∙ ap (λ c. after (c ∷ []) (steps utf8 ended utf8_start (beyond ranges bytes)))
+            ∙ ap (λ c. text_then (c ∷ []) (steps utf8 ended utf8_start (beyond ranges bytes)))
             (sym (scalar_part (b ∷ t) sequence));
         closed = λ r. absurd cc;
       }
@@ -113,13 +113,13 @@ ascii_given b ended bytes l =
     let sequence : is_sequence (b ∷ []) ≡ true = (ascii b l).sequence [] in
     record {
       run = read_is ended utf8_start b bytes _ (ascii_read b l) ∙ ap
-          (λ c. after (c ∷ []) (steps utf8 ended utf8_start bytes)) (sym (scalar_whole (b ∷ []) sequence));
+          (λ c. text_then (c ∷ []) (steps utf8 ended utf8_start bytes)) (sym (scalar_whole (b ∷ []) sequence));
       closed = λ r. not_open (is_prefix (b ∷ [])) (is_sequence (b ∷ [])) sequence;
     }
 
 nowhere_given : (b : ℕ) (ended : Bool) (bytes : List ℕ) → LeadsNowhere b → Given ended (b ∷ bytes) (b ∷ []) bytes
 nowhere_given b ended bytes n = record {
-  run = read_is ended utf8_start b bytes _ n.read ∙ ap (λ c. after (c ∷ []) (steps utf8 ended utf8_start bytes))
+  run = read_is ended utf8_start b bytes _ n.read ∙ ap (λ c. text_then (c ∷ []) (steps utf8 ended utf8_start bytes))
       (sym (scalar_part (b ∷ []) (n.sequence [])));
   closed = λ r. ap (λ x. x && not (is_sequence (b ∷ []))) (n.prefix []);
 }

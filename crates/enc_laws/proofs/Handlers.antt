@@ -13,7 +13,7 @@ use Rattle.enc_model.specs.declared.Introducer.{Introducer}
 use Rattle.enc_model.specs.declared.Introducer.TheVariants.{Dollar, Paren}
 use Rattle.enc_model.specs.declared.Place.{Place}
 use Rattle.enc_model.specs.declared.Place.TheVariants.{In, Trail, EscapeStart, Escape}
-use Rattle.enc_model.specs.Japanese.{Single, single, answer_of, shift_jis, shift_jis_at, shift_jis_pair, pair_step}
+use Rattle.enc_model.specs.Japanese.{Single, single, point_or_error, shift_jis, shift_jis_at, shift_jis_pair, pair_step}
 use Rattle.enc_model.specs.Japanese.{EucJp, euc_jp, euc_jp_start, euc_jp_pair, Iso2022, iso2022, plain, introducer_byte}
 use Rattle.enc_model.specs.Japanese.{escape_of, iso2022_answer, iso2022_to, iso2022_plain, iso2022_escape, iso2022_byte}
 use Rattle.enc_model.specs.Japanese.{iso2022_end}
@@ -24,7 +24,7 @@ use Rattle.enc_laws.proofs.Scalars.{IsValid}
 abbrev pub Always : {S : Type 0} → S → Type 0
 Always s = Unit {0}
 
-answer_scalar : (o : Option ℕ) → IsScalarOption o → IsScalarAnswer (answer_of o)
+answer_scalar : (o : Option ℕ) → IsScalarOption o → IsScalarAnswer (point_or_error o)
 answer_scalar None s = tt
 answer_scalar (Some c) s = s
 
@@ -59,14 +59,14 @@ abbrev IsLeadOption : Option ℕ → Type 0
 IsLeadOption None = Unit {0}
 IsLeadOption (Some u) = (0xD800 ≤ u) × (u ≤ 0xDBFF)
 
-pub record IsKept (s : Utf16) : Type 0 where
+pub record IsUtf16State (s : Utf16) : Type 0 where
   pub byte : IsByteOption s.byte
   pub lead : IsLeadOption s.lead
 
 unit_valid : (lead : Option ℕ) (u a b : ℕ) → IsLeadOption lead → u < 0x10000 → a < 0x100 → b < 0x100
-    → IsValid IsKept (utf16_unit lead u a b)
+    → IsValid IsUtf16State (utf16_unit lead u a b)
 unit_valid (Some lead) u a b k l p q =
-    branch (IsValid IsKept) (within 0xDC00 0xDFFF u) _ _
+    branch (IsValid IsUtf16State) (within 0xDC00 0xDFFF u) _ _
     (λ e. record {
       state = record { byte = tt; lead = tt };
       answer =
@@ -75,13 +75,13 @@ unit_valid (Some lead) u a b k l p q =
     })
     (λ e. record { state = record { byte = tt; lead = tt }; answer = tt; restored = (p, (q, tt)) })
 unit_valid None u a b k l p q =
-    branch (IsValid IsKept) (within 0xD800 0xDBFF u) _ _
+    branch (IsValid IsUtf16State) (within 0xD800 0xDBFF u) _ _
     (λ e. record {
       state = record { byte = tt; lead = (grind (arith, nat_tests, e), grind (arith, nat_tests, e)) };
       answer = tt;
       restored = tt;
     })
-    (λ e. branch (IsValid IsKept) (within 0xDC00 0xDFFF u) _ _
+    (λ e. branch (IsValid IsUtf16State) (within 0xDC00 0xDFFF u) _ _
     (λ f. record { state = record { byte = tt; lead = tt }; answer = tt; restored = tt })
     (λ f. record { state = record { byte = tt; lead = tt }; answer = grind (arith, nat_tests, e, f); restored = tt }))
 
@@ -90,20 +90,20 @@ unit_below true a b p q = omega arith
 unit_below false a b p q = omega arith
 
 byte_valid : (big : Bool) (byte lead : Option ℕ) (b : ℕ) → IsByteOption byte → IsLeadOption lead → b < 0x100
-    → IsValid IsKept (utf16_byte big byte lead b)
+    → IsValid IsUtf16State (utf16_byte big byte lead b)
 byte_valid big None lead b k m l = record { state = record { byte = l; lead = m }; answer = tt; restored = tt }
 byte_valid big (Some a) lead b k m l = unit_valid lead (unit_of big a b) a b m (unit_below big a b k l) k l
 
-end_valid : (byte lead : Option ℕ) → IsValid IsKept (utf16_end byte lead)
+end_valid : (byte lead : Option ℕ) → IsValid IsUtf16State (utf16_end byte lead)
 end_valid None None = record { state = record { byte = tt; lead = tt }; answer = tt; restored = tt }
 end_valid None (Some u) = record { state = record { byte = tt; lead = tt }; answer = tt; restored = tt }
 end_valid (Some a) lead = record { state = record { byte = tt; lead = tt }; answer = tt; restored = tt }
 
-pub utf16_reads : (big : Bool) (s : Utf16) (b : ℕ) → IsKept s → b < 0x100 → IsValid IsKept (utf16 big s (Some b))
+pub utf16_reads : (big : Bool) (s : Utf16) (b : ℕ) → IsUtf16State s → b < 0x100 → IsValid IsUtf16State (utf16 big s (Some b))
 unfolding utf16
 utf16_reads big s b g l = byte_valid big s.byte s.lead b g.byte g.lead l
 
-pub utf16_ends : (big : Bool) (s : Utf16) → IsKept s → IsValid IsKept (utf16 big s None)
+pub utf16_ends : (big : Bool) (s : Utf16) → IsUtf16State s → IsValid IsUtf16State (utf16 big s None)
 unfolding utf16
 utf16_ends big s g = end_valid s.byte s.lead
 
@@ -238,7 +238,7 @@ place_valid i has (In set) output flag b l =
 place_valid i has (Trail lead) output flag b l =
     branch (IsValid Always) (b == 0x1B) _ _ (λ e. to_valid EscapeStart output flag Error [] tt tt)
     (λ e. branch (IsValid Always) (within 0x21 0x7E b) _ _
-    (λ f. let p = (lead - 0x21) * 94 + (b - 0x21) in to_valid (In Lead) output flag (answer_of (code i p)) []
+    (λ f. let p = (lead - 0x21) * 94 + (b - 0x21) in to_valid (In Lead) output flag (point_or_error (code i p)) []
     (answer_scalar (code i p) (has p)) tt)
     (λ f. to_valid (In Lead) output flag Error [] tt tt))
 place_valid i has EscapeStart output flag b l =

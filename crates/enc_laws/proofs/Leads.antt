@@ -4,7 +4,7 @@ use Rattle.std.proofs.Common.{length, refl, arith, lit≤}
 use Rattle.std.proofs.lemmas.Bool.{cases_lt, cases_order}
 use Rattle.std.proofs.lemmas.Bool.Decides.{nat_tests}
 use Rattle.enc_model.specs.declared.Answer.TheVariants.{Point, Error, Nothing}
-use Rattle.enc_model.specs.Utf8.{Utf8, utf8, utf8_start, lead_of}
+use Rattle.enc_model.specs.Utf8.{Utf8, utf8, utf8_start, lead_step}
 use Rattle.enc_laws.specs.Subparts.{Ranges, fills, begins_to_fill, is_sequence, is_prefix}
 
 -- the table's rows for a lead byte: their other ranges
@@ -38,7 +38,7 @@ pub record Leading (b : ℕ) (ranges : Ranges) (s : Utf8) : Type 0 where
   pub point : s.point ≡ b - mark_of ranges
 
 abbrev pub lead_state : ℕ → ℕ → ℕ → ℕ → ℕ → Utf8
-lead_state b needed lower upper point = (lead_of b needed lower upper point).state
+lead_state b needed lower upper point = (lead_step b needed lower upper point).state
 
 pub ascii : (b : ℕ) → b < 0x80 → Leads b []
 ascii b l = record { few = lit≤ tt; sequence = λ t. grind (arith, nat_tests); prefix = λ t. grind (arith, nat_tests) }
@@ -74,7 +74,7 @@ Kind b = (b < 0x80) ⊎ (((ranges : Ranges) × (s : Utf8) × Leading b ranges s)
 leading : (b : ℕ) (ranges : Ranges) (needed lower upper : ℕ) → length ranges ≤ 3
     → ((t : List ℕ) → is_sequence (b ∷ t) ≡ fills ranges t) →
     ((t : List ℕ) → is_prefix (b ∷ t) ≡ begins_to_fill ranges t)
-    → utf8 utf8_start (Some b) ≡ lead_of b needed lower upper (b - mark_of ranges)
+    → utf8 utf8_start (Some b) ≡ lead_step b needed lower upper (b - mark_of ranges)
     → Waits ranges (lead_state b needed lower upper (b - mark_of ranges)) → Kind b
 leading b ranges needed lower upper few sequence prefix read waits = inr (inl (
   ranges,

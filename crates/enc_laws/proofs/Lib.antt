@@ -13,4 +13,4 @@ pub mod Packed
 pub mod Resuming
 pub mod ByAnswers
 pub mod Codes
-pub mod Kept
+pub mod CountingLines

@@ -21,7 +21,7 @@ use Rattle.enc_model.specs.Encode.{Shift, InAscii, InRoman, InJis}
 use Rattle.enc_model.specs.Decode.{Decoding, OfUtf8, OfUtf16, OfShiftJis, OfEucJp, OfIso2022, OfSingle, undecided}
 use Rattle.enc_model.specs.Transcode.{Transcoder, Phase, Before, During, Over}
 use Rattle.enc_unicode.specs.Utf8State.{utf8_after}
-use Rattle.enc_stream.specs.StateBytes.{IsOwn, IsSingle, IsPhaseOf, IsReached, IsReachedIn, IsValid, encoding_of}
+use Rattle.enc_stream.specs.StateBytes.{IsOwn, IsSingleByteEncoding, IsPhaseOf, IsReached, IsReachedIn, IsValidState, decoded_encoding}
 use Rattle.enc_stream.specs.StateBytes.{encoding_number, mode_number, phase_number, shift_number, charset_number}
 use Rattle.enc_stream.specs.StateBytes.{flag_number, place_number, place_lead, utf16_bytes, counted, decoder_bytes}
 use Rattle.enc_stream.specs.StateBytes.{phase_bytes, padded, state_bytes}
@@ -94,15 +94,15 @@ place_back (Escape Paren) = refl
 -- A DECODER'S STATE, from the encoding in effect and the bytes
 
 -- the kept bytes after their count
-abbrev kept_at : List ℕ → List ℕ
-kept_at bytes = take (get_or bytes 0 0) (drop 1 bytes)
+abbrev bytes_at : List ℕ → List ℕ
+bytes_at bytes = take (get_or bytes 0 0) (drop 1 bytes)
 
-kept_back : (kept rest : List ℕ) → length kept ≤ 3 → kept_at (padded 11 (counted kept) ++ rest) ≡ kept
-kept_back [] rest l = refl
-kept_back (a ∷ []) rest l = refl
-kept_back (a ∷ b ∷ []) rest l = refl
-kept_back (a ∷ b ∷ c ∷ []) rest l = refl
-kept_back (a ∷ b ∷ c ∷ d ∷ kept) rest l = absurd (omega (arith, l))
+bytes_back : (partial rest : List ℕ) → length partial ≤ 3 → bytes_at (padded 11 (counted partial) ++ rest) ≡ partial
+bytes_back [] rest l = refl
+bytes_back (a ∷ []) rest l = refl
+bytes_back (a ∷ b ∷ []) rest l = refl
+bytes_back (a ∷ b ∷ c ∷ []) rest l = refl
+bytes_back (a ∷ b ∷ c ∷ d ∷ partial) rest l = absurd (omega (arith, l))
 
 abbrev utf16_at : List ℕ → Utf16
 utf16_at bytes =
@@ -126,7 +126,7 @@ utf16_back None (Some lead) rest = ap (λ z. record { byte = None; lead = Some z
 utf16_back (Some b) (Some lead) rest = ap (λ z. record { byte = Some b; lead = Some z }) (lead_back lead)
 
 abbrev decoding_at : Encoding → List ℕ → Decoding
-decoding_at Utf8 bytes = OfUtf8 (utf8_after (kept_at bytes))
+decoding_at Utf8 bytes = OfUtf8 (utf8_after (bytes_at bytes))
 decoding_at Utf16Be bytes = OfUtf16 true (utf16_at bytes)
 decoding_at Utf16Le bytes = OfUtf16 false (utf16_at bytes)
 decoding_at ShiftJis bytes = OfShiftJis (get_or bytes 0 0)
@@ -138,7 +138,7 @@ decoding_at Iso2022Jp bytes = OfIso2022 (record {
 })
 decoding_at e bytes = OfSingle e SingleState
 
-single_back : (e : Encoding) (bytes : List ℕ) → IsSingle e → decoding_at e bytes ≡ OfSingle e SingleState
+single_back : (e : Encoding) (bytes : List ℕ) → IsSingleByteEncoding e → decoding_at e bytes ≡ OfSingle e SingleState
 single_back Utf8 bytes i = absurd i
 single_back Utf16Be bytes i = absurd i
 single_back Utf16Le bytes i = absurd i
@@ -147,9 +147,9 @@ single_back EucJp bytes i = absurd i
 single_back Iso2022Jp bytes i = absurd i
 single_back _ bytes i = refl
 
-decoding_back : (d : Decoding) (rest : List ℕ) → IsOwn d → IsReached d → decoding_at (encoding_of d)
+decoding_back : (d : Decoding) (rest : List ℕ) → IsOwn d → IsReached d → decoding_at (decoded_encoding d)
     (padded 11 (decoder_bytes d) ++ rest) ≡ d
-decoding_back (OfUtf8 s) rest o r = ap (λ z. OfUtf8 (utf8_after z)) (kept_back s.kept rest r.1) ∙ ap OfUtf8 (sym r.0)
+decoding_back (OfUtf8 s) rest o r = ap (λ z. OfUtf8 (utf8_after z)) (bytes_back s.partial rest r.1) ∙ ap OfUtf8 (sym r.0)
 decoding_back (OfUtf16 true s) rest o r = ap (OfUtf16 true) (utf16_back s.byte s.lead rest)
 decoding_back (OfUtf16 false s) rest o r = ap (OfUtf16 false) (utf16_back s.byte s.lead rest)
 decoding_back (OfShiftJis lead) rest o r = refl
@@ -161,11 +161,11 @@ decoding_back (OfSingle e SingleState) rest o r = single_back e (padded 11 [] ++
 
 abbrev phase_at : ℕ → List ℕ → Phase
 phase_at n bytes =
-    if n == 0 then Before (kept_at bytes)
+    if n == 0 then Before (bytes_at bytes)
     else if n == 1 then During (decoding_at (encoding_at (get_or bytes 0 0)) (drop 1 bytes))
     else Over
 
-held_back : (held rest : List ℕ) → undecided held ≡ true → kept_at (padded 12 (counted held) ++ rest) ≡ held
+held_back : (held rest : List ℕ) → undecided held ≡ true → bytes_at (padded 12 (counted held) ++ rest) ≡ held
 held_back [] rest u = refl
 held_back (a ∷ []) rest u = refl
 held_back (a ∷ b ∷ []) rest u = refl
@@ -176,7 +176,7 @@ phase_back : (from : Encoding) (p : Phase) (rest : List ℕ) → IsPhaseOf from 
 phase_back from (Before held) rest i r = ap Before (held_back held rest i)
 phase_back from (During d) rest i r =
     let bytes = padded 11 (decoder_bytes d) ++ rest in
-    ap (λ e. During (decoding_at e bytes)) (encoding_back (encoding_of d)) ∙ ap During (decoding_back d rest i.0 r)
+    ap (λ e. During (decoding_at e bytes)) (encoding_back (decoded_encoding d)) ∙ ap During (decoding_back d rest i.0 r)
 phase_back from Over rest i r = refl
 
 -- THE STATE, from all its bytes
@@ -195,7 +195,7 @@ state_at bytes = record {
   shift = shift_at (get_or (drop 12 (drop 4 bytes)) 0 0);
 }
 
-state_back : (s : Transcoder) → IsValid s → state_at (state_bytes s) ≡ s
+state_back : (s : Transcoder) → IsValidState s → state_at (state_bytes s) ≡ s
 state_back s valid =
     let rest = padded 16 (shift_number s.shift ∷ []) in
     rw (
@@ -208,5 +208,5 @@ state_back s valid =
     ) refl
 
 -- Valid states with the same bytes are the same.
-pub same_state : (s later : Transcoder) → IsValid s → IsValid later → state_bytes later ≡ state_bytes s → later ≡ s
+pub same_state : (s later : Transcoder) → IsValidState s → IsValidState later → state_bytes later ≡ state_bytes s → later ≡ s
 same_state s later here there same = sym (state_back later there) ∙ ap state_at same ∙ state_back s here

@@ -4,7 +4,7 @@ use Rattle.std.proofs.Common.{length, drop, refl, sym, ◌∙◌, ap, arith, if�
 use Rattle.std.proofs.lemmas.Bool.Decides.{nat_tests}
 use Rattle.enc_model.specs.Index.{within}
 use Rattle.enc_model.specs.declared.Answer.TheVariants.{Point, Error, Nothing, Finished}
-use Rattle.enc_model.specs.Stream.{Step, Run, said, after, steps, steps_within, all_bytes, quick, end_to}
+use Rattle.enc_model.specs.Stream.{HandlerStep, DecoderRun, points_of, text_then, steps, steps_within, all_bytes, quick, end_to}
 use Rattle.enc_model.specs.Utf8.{Utf8, utf8, utf8_start}
 use Rattle.enc_model.proofs.Calm.{utf8_calm}
 use Rattle.enc_model.proofs.Steps.{steps_cons, steps_none, steps_end}
@@ -13,11 +13,11 @@ use Rattle.enc_laws.proofs.Leads.{Waits, mark_of}
 use Rattle.enc_laws.proofs.Segments.{taken, taken_on, taken_stops, fills_on}
 
 -- a byte, by what the handler gives
-pub read_is : (ended : Bool) (s : Utf8) (b : ℕ) (bytes : List ℕ) (t : Step Utf8) → utf8 s (Some b) ≡ t →
-    steps utf8 ended s (b ∷ bytes) ≡ after (said t.answer) (steps utf8 ended t.state (t.restored ++ bytes))
+pub read_is : (ended : Bool) (s : Utf8) (b : ℕ) (bytes : List ℕ) (t : HandlerStep Utf8) → utf8 s (Some b) ≡ t →
+    steps utf8 ended s (b ∷ bytes) ≡ text_then (points_of t.answer) (steps utf8 ended t.state (t.restored ++ bytes))
 read_is ended s b bytes t e =
     steps_cons utf8 utf8_calm ended s b bytes ∙ ap
-    (λ z. after (said z.answer) (steps utf8 ended z.state (z.restored ++ bytes))) e
+    (λ z. text_then (points_of z.answer) (steps utf8 ended z.state (z.restored ++ bytes))) e
 
 -- on from a number by the bits of more bytes
 abbrev pub value : ℕ → List ℕ → ℕ
@@ -36,7 +36,7 @@ next_of s c = record {
   lower = 0x80;
   upper = 0xBF;
   point = s.point * 64 + (c - 0x80);
-  kept = s.kept ++ c ∷ [];
+  partial = s.partial ++ c ∷ [];
 }
 
 read_more : (s : Utf8) (c k : ℕ) → s.needed ≡ suc (suc k) → within s.lower s.upper c ≡ true →
@@ -62,9 +62,9 @@ end_open : (s : Utf8) (k : ℕ) → s.needed ≡ suc k → (steps utf8 true s []
 unfolding utf8
 end_open s k n =
     ap (λ run. run.text) (steps_end utf8 utf8_calm s)
-    ∙ ap (λ t. (elim t.answer as (λ _. Run Utf8) [
+    ∙ ap (λ t. (elim t.answer as (λ _. DecoderRun Utf8) [
       | Finished ↦ record { text = []; state = t.state }
-      | _ ↦ let r = all_bytes (quick utf8) t.state t.restored in after (said t.answer ++ r.text) (end_to 3 utf8 r.state)
+      | _ ↦ let r = all_bytes (quick utf8) t.state t.restored in text_then (points_of t.answer ++ r.text) (end_to 3 utf8 r.state)
     ]).text) (none_open s k n)
 
 pub end_start : (ended : Bool) → (steps utf8 ended utf8_start []).text ≡ []
@@ -81,7 +81,7 @@ module _ (r : ℕ × ℕ) (ranges : Ranges) (s : Utf8) (c : ℕ) (bytes : List �
   read_on : within r.0 r.1 c ≡ true → within s.lower s.upper c ≡ true
   read_on e = rw (waits.1, waits.2) e
 
-  read_stops : (ended : Bool) → within r.0 r.1 c ≡ false → steps utf8 ended s (c ∷ bytes) ≡ after (0xFFFD ∷ [])
+  read_stops : (ended : Bool) → within r.0 r.1 c ≡ false → steps utf8 ended s (c ∷ bytes) ≡ text_then (0xFFFD ∷ [])
       (steps utf8 ended utf8_start (c ∷ bytes))
   read_stops ended e = read_is ended s c bytes _ (read_bad s c (length ranges) waits.0 (rw (waits.1, waits.2) e))
 
@@ -103,18 +103,18 @@ module _ (r q : ℕ × ℕ) (ranges : Ranges) (s : Utf8) (c : ℕ) (waits : Wait
 -- where all ranges are filled
 pub tail_whole : (ranges : Ranges) (s : Utf8) (ended : Bool) (bytes : List ℕ) → Waits ranges s
     → fills ranges (taken ranges bytes) ≡ true →
-    steps utf8 ended s bytes ≡ after (value s.point (taken ranges bytes) ∷ [])
+    steps utf8 ended s bytes ≡ text_then (value s.point (taken ranges bytes) ∷ [])
     (steps utf8 ended utf8_start (beyond ranges bytes))
 tail_whole [] s ended bytes w f = absurd w
 tail_whole (r ∷ ranges) s ended [] w f = absurd cc
 tail_whole (r ∷ []) s ended (c ∷ bytes) w f = go (within r.0 r.1 c) refl
   where
     go : (x : Bool) → within r.0 r.1 c ≡ x →
-        steps utf8 ended s (c ∷ bytes) ≡ after (value s.point (taken (r ∷ []) (c ∷ bytes)) ∷ [])
+        steps utf8 ended s (c ∷ bytes) ≡ text_then (value s.point (taken (r ∷ []) (c ∷ bytes)) ∷ [])
         (steps utf8 ended utf8_start (beyond (r ∷ []) (c ∷ bytes)))
     go true e =
         read_is ended s c bytes _ (read_last s c w.0 (read_on r [] s c bytes w e))
-        ∙ ap (λ t. after (value s.point t ∷ []) (steps utf8 ended utf8_start (drop (length t) (c ∷ bytes))))
+        ∙ ap (λ t. text_then (value s.point t ∷ []) (steps utf8 ended utf8_start (drop (length t) (c ∷ bytes))))
         (sym (taken_on r [] c bytes e))
     go false e = absurd (let g = ap (fills (r ∷ [])) (taken_stops r [] c bytes e) in cc)
 tail_whole (r ∷ q ∷ ranges) s ended (c ∷ bytes) w f =
@@ -123,15 +123,15 @@ tail_whole (r ∷ q ∷ ranges) s ended (c ∷ bytes) w f =
     go : (x : Bool) → within r.0 r.1 c ≡ x →
         (fills (q ∷ ranges) (taken (q ∷ ranges) bytes) ≡ true →
         steps utf8 ended (next_of s c) bytes
-        ≡ after (value (next_of s c).point (taken (q ∷ ranges) bytes) ∷ [])
+        ≡ text_then (value (next_of s c).point (taken (q ∷ ranges) bytes) ∷ [])
         (steps utf8 ended utf8_start (beyond (q ∷ ranges) bytes))) →
         steps utf8 ended s (c ∷ bytes)
-        ≡ after (value s.point (taken (r ∷ q ∷ ranges) (c ∷ bytes)) ∷ [])
+        ≡ text_then (value s.point (taken (r ∷ q ∷ ranges) (c ∷ bytes)) ∷ [])
         (steps utf8 ended utf8_start (beyond (r ∷ q ∷ ranges) (c ∷ bytes)))
     go true e ih =
         next_read r q ranges s c w ended bytes e
         ∙ ih (sym (fills_on r (q ∷ ranges) c bytes e) ∙ f)
-        ∙ ap (λ t. after (value s.point t ∷ []) (steps utf8 ended utf8_start (drop (length t) (c ∷ bytes))))
+        ∙ ap (λ t. text_then (value s.point t ∷ []) (steps utf8 ended utf8_start (drop (length t) (c ∷ bytes))))
         (sym (taken_on r (q ∷ ranges) c bytes e))
     go false e ih = absurd (let g = ap (fills (r ∷ q ∷ ranges)) (taken_stops r (q ∷ ranges) c bytes e) in cc)
 
@@ -139,34 +139,34 @@ tail_whole (r ∷ q ∷ ranges) s ended (c ∷ bytes) w f =
 pub tail_stopped : (ranges : Ranges) (s : Utf8) (ended : Bool) (bytes : List ℕ) (d : ℕ) (rest : List ℕ) → Waits ranges s
     →
     fills ranges (taken ranges bytes) ≡ false → beyond ranges bytes ≡ d ∷ rest →
-    steps utf8 ended s bytes ≡ after (0xFFFD ∷ []) (steps utf8 ended utf8_start (beyond ranges bytes))
+    steps utf8 ended s bytes ≡ text_then (0xFFFD ∷ []) (steps utf8 ended utf8_start (beyond ranges bytes))
 tail_stopped [] s ended bytes d rest w f b = absurd w
 tail_stopped (r ∷ ranges) s ended [] d rest w f b = absurd cc
 tail_stopped (r ∷ []) s ended (c ∷ bytes) d rest w f b = go (within r.0 r.1 c) refl
   where
     go : (x : Bool) → within r.0 r.1 c ≡ x →
-        steps utf8 ended s (c ∷ bytes) ≡ after (0xFFFD ∷ []) (steps utf8 ended utf8_start (beyond (r ∷ []) (c ∷ bytes)))
+        steps utf8 ended s (c ∷ bytes) ≡ text_then (0xFFFD ∷ []) (steps utf8 ended utf8_start (beyond (r ∷ []) (c ∷ bytes)))
     go true e = absurd (let g = fills_on r [] c bytes e in cc)
     go false e =
         read_stops r [] s c bytes w ended e
-        ∙ ap (λ t. after (0xFFFD ∷ []) (steps utf8 ended utf8_start t)) (sym (beyond_stops r [] s c bytes w e))
+        ∙ ap (λ t. text_then (0xFFFD ∷ []) (steps utf8 ended utf8_start t)) (sym (beyond_stops r [] s c bytes w e))
 tail_stopped (r ∷ q ∷ ranges) s ended (c ∷ bytes) d rest w f b =
     go (within r.0 r.1 c) refl
     (tail_stopped (q ∷ ranges) (next_of s c) ended bytes d rest (next_waits r q ranges s c w))
   where
     go : (x : Bool) → within r.0 r.1 c ≡ x →
         (fills (q ∷ ranges) (taken (q ∷ ranges) bytes) ≡ false → beyond (q ∷ ranges) bytes ≡ d ∷ rest →
-        steps utf8 ended (next_of s c) bytes ≡ after (0xFFFD ∷ [])
+        steps utf8 ended (next_of s c) bytes ≡ text_then (0xFFFD ∷ [])
         (steps utf8 ended utf8_start (beyond (q ∷ ranges) bytes))) →
-        steps utf8 ended s (c ∷ bytes) ≡ after (0xFFFD ∷ [])
+        steps utf8 ended s (c ∷ bytes) ≡ text_then (0xFFFD ∷ [])
         (steps utf8 ended utf8_start (beyond (r ∷ q ∷ ranges) (c ∷ bytes)))
     go true e ih =
         next_read r q ranges s c w ended bytes e
         ∙ ih (sym (fills_on r (q ∷ ranges) c bytes e) ∙ f) (sym (beyond_on r (q ∷ ranges) s c bytes w e) ∙ b)
-        ∙ ap (λ t. after (0xFFFD ∷ []) (steps utf8 ended utf8_start t)) (sym (beyond_on r (q ∷ ranges) s c bytes w e))
+        ∙ ap (λ t. text_then (0xFFFD ∷ []) (steps utf8 ended utf8_start t)) (sym (beyond_on r (q ∷ ranges) s c bytes w e))
     go false e ih =
         read_stops r (q ∷ ranges) s c bytes w ended e
-        ∙ ap (λ t. after (0xFFFD ∷ []) (steps utf8 ended utf8_start t))
+        ∙ ap (λ t. text_then (0xFFFD ∷ []) (steps utf8 ended utf8_start t))
         (sym (beyond_stops r (q ∷ ranges) s c bytes w e))
 
 -- one U+FFFD at the end, and nothing before

@@ -2,7 +2,7 @@
 use Rattle.std.proofs.Common.{ℕ, ◌≡◌, true, false, List, ◌++◌, Some, None, refl, sym, ◌∙◌, ap, append_assoc, subst}
 use Rattle.enc_model.specs.Encode.{Tables, InAscii, Coded, led_by, coded, encoder, ended_coded, encode}
 use Rattle.enc_model.specs.Decode.{decoded, decoded_text, text}
-use Rattle.enc_model.specs.Transcode.{Transcoder, phase_of, fed_end, so_far, IsAt, added, added_end, stepped}
+use Rattle.enc_model.specs.Transcode.{Transcoder, phase_of, fed_end, so_far, IsStateAt, added, added_end, stepped}
 use Rattle.enc_model.proofs.Steady.{encoder_steady}
 use Rattle.enc_model.proofs.Transcoding.{coded_fault, text_added, fault_added, at_next}
 use Rattle.enc_stream.proofs.Ends.{decode_end, text_ended}
@@ -30,9 +30,9 @@ text_refused t s b c e =
 
 -- FED ON
 
-module _ (t : Tables) (s later : Transcoder) (a b : List ℕ) (here : IsAt t s a) (is : IsUnpackedFrom s later) where
-  at_later : IsAt t later a
-  at_later = subst (λ z. IsAt t z a) (sym (same s later is)) here
+module _ (t : Tables) (s later : Transcoder) (a b : List ℕ) (here : IsStateAt t s a) (is : IsUnpackedFrom s later) where
+  at_later : IsStateAt t later a
+  at_later = subst (λ z. IsStateAt t z a) (sym (same s later is)) here
 
   text_later : text t s.from s.to s.mode (a ++ b) true ≡ text t later.from later.to later.mode (a ++ b) true
   text_later = ap (λ z. text t z.from z.to z.mode (a ++ b) true) (sym (same s later is))
@@ -41,7 +41,7 @@ module _ (t : Tables) (s later : Transcoder) (a b : List ℕ) (here : IsAt t s a
   bytes_later = text_added t later a b at_later ∙ ap (λ z. (so_far t z a).bytes ++ (added t later b).bytes)
       (same s later is)
 
-  pub next : (added t later b).fault ≡ None → IsAt t (stepped t later b) (a ++ b)
+  pub next : (added t later b).fault ≡ None → IsStateAt t (stepped t later b) (a ++ b)
   next ok = at_next t later a b at_later ok
 
   whole : (added t later b).fault ≡ None →

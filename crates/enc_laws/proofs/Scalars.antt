@@ -8,7 +8,7 @@ use Rattle.enc_model.specs.declared.Answer.{Answer}
 use Rattle.enc_model.specs.declared.Answer.TheVariants.{Point, Error, Nothing, Finished}
 use Rattle.enc_model.specs.Index.{Index, code}
 use Rattle.enc_model.specs.Indexes.{IndexSet, pairs_of, at_place}
-use Rattle.enc_model.specs.Stream.{Step, Handler, Run, said, after, steps, steps_within}
+use Rattle.enc_model.specs.Stream.{HandlerStep, Handler, DecoderRun, points_of, text_then, steps, steps_within}
 use Rattle.enc_index.specs.Entries.{ascends}
 use Rattle.enc_index.specs.Scalars.{is_scalar}
 use Rattle.enc_index.specs.Sets.{IsIndex, IsIndexSet}
@@ -61,7 +61,7 @@ abbrev pub FewBytes : List ℕ → Type 0
 FewBytes [] = Unit {0}
 FewBytes (b ∷ bytes) = (b < 0x100) × FewBytes bytes
 
-pub record IsValid {S : Type 0} (Good : S → Type 0) (t : Step S) : Type 0 where
+pub record IsValid {S : Type 0} (Good : S → Type 0) (t : HandlerStep S) : Type 0 where
   pub state : Good t.state
   pub answer : IsScalarAnswer t.answer
   pub restored : FewBytes t.restored
@@ -70,11 +70,11 @@ few_bytes : (few bytes : List ℕ) → FewBytes few → AreBytes bytes → AreBy
 few_bytes [] bytes f all = all
 few_bytes (b ∷ few) bytes f all = All-cons (λ z. z < 0x100) b (few ++ bytes) f.0 (few_bytes few bytes f.1 all)
 
-said_scalars : (a : Answer) → IsScalarAnswer a → AreScalars (said a)
-said_scalars (Point c) s = All-cons (λ z. is_scalar z ≡ true) c [] s (All-nil (λ z. is_scalar z ≡ true))
-said_scalars Error s = All-cons (λ z. is_scalar z ≡ true) 0xFFFD [] refl (All-nil (λ z. is_scalar z ≡ true))
-said_scalars Nothing s = All-nil (λ z. is_scalar z ≡ true)
-said_scalars Finished s = All-nil (λ z. is_scalar z ≡ true)
+points_scalars : (a : Answer) → IsScalarAnswer a → AreScalars (points_of a)
+points_scalars (Point c) s = All-cons (λ z. is_scalar z ≡ true) c [] s (All-nil (λ z. is_scalar z ≡ true))
+points_scalars Error s = All-cons (λ z. is_scalar z ≡ true) 0xFFFD [] refl (All-nil (λ z. is_scalar z ≡ true))
+points_scalars Nothing s = All-nil (λ z. is_scalar z ≡ true)
+points_scalars Finished s = All-nil (λ z. is_scalar z ≡ true)
 
 scalars_append : (a b : List ℕ) → AreScalars a → AreScalars b → AreScalars (a ++ b)
 scalars_append a b p q = All-append (λ z. is_scalar z ≡ true) a b p q
@@ -82,14 +82,14 @@ scalars_append a b p q = All-append (λ z. is_scalar z ≡ true) a b p q
 module _ {S : Type 0} (h : Handler S) (Good : S → Type 0)
     (reads : (s : S) (b : ℕ) → Good s → b < 0x100 → IsValid Good (h s (Some b)))
     (ends : (s : S) → Good s → IsValid Good (h s None)) where
-  end_case : (n : ℕ) (t : Step S) (a : Answer) → AreScalars (said t.answer)
+  end_case : (n : ℕ) (t : HandlerStep S) (a : Answer) → AreScalars (points_of t.answer)
       → AreScalars (steps_within n h true t.state t.restored).text →
-      AreScalars (elim a as (λ _. Run S) [
+      AreScalars (elim a as (λ _. DecoderRun S) [
         | Finished ↦ record { text = []; state = t.state }
-        | _ ↦ after (said t.answer) (steps_within n h true t.state t.restored)
+        | _ ↦ text_then (points_of t.answer) (steps_within n h true t.state t.restored)
       ]).text
   end_case n t Finished p q = All-nil (λ z. is_scalar z ≡ true)
-  end_case n t _ p q = scalars_append (said t.answer) (steps_within n h true t.state t.restored).text p q
+  end_case n t _ p q = scalars_append (points_of t.answer) (steps_within n h true t.state t.restored).text p q
 
   valid_within : (n : ℕ) (ended : Bool) (s : S) (bytes : List ℕ) → Good s → AreBytes bytes
       → AreScalars (steps_within n h ended s bytes).text
@@ -98,8 +98,8 @@ module _ {S : Type 0} (h : Handler S) (Good : S → Type 0)
   valid_within (suc n) ended s (b ∷ bytes) g all =
       let t = h s (Some b) in
       let valid = reads s b g (All-head (λ z. z < 0x100) b bytes all) in
-      scalars_append (said t.answer) (steps_within n h ended t.state (t.restored ++ bytes)).text
-      (said_scalars t.answer valid.answer)
+      scalars_append (points_of t.answer) (steps_within n h ended t.state (t.restored ++ bytes)).text
+      (points_scalars t.answer valid.answer)
       (valid_within n ended t.state (t.restored ++ bytes) valid.state
       (few_bytes t.restored bytes valid.restored (All-tail (λ z. z < 0x100) b bytes all)))
   valid_within (suc n) false s [] g all = All-nil (λ z. is_scalar z ≡ true)
@@ -108,7 +108,7 @@ module _ {S : Type 0} (h : Handler S) (Good : S → Type 0)
       let valid = ends s g in
       let bytes : AreBytes t.restored =
       rw (← append-nil t.restored) (few_bytes t.restored [] valid.restored (All-nil (λ z. z < 0x100))) in
-      end_case n t t.answer (said_scalars t.answer valid.answer)
+      end_case n t t.answer (points_scalars t.answer valid.answer)
       (valid_within n true t.state t.restored valid.state bytes)
 
   pub valid_steps : (ended : Bool) (s : S) (bytes : List ℕ) → Good s → AreBytes bytes

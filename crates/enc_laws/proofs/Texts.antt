@@ -6,7 +6,7 @@ use Rattle.std.proofs.lemmas.List.Elements.{All-nil, All-cons, All-head, All-tai
 use Rattle.enc_model.specs.declared.Encoding.{Encoding}
 use Rattle.enc_model.specs.declared.Encoding.TheVariants as encodings
 use Rattle.enc_model.specs.declared.Mode.{Mode}
-use Rattle.enc_model.specs.Indexes.{IndexSet, tables, place_of}
+use Rattle.enc_model.specs.Indexes.{IndexSet, tables, single_byte_place}
 use Rattle.enc_model.specs.Utf16.{utf16, utf16_start}
 use Rattle.enc_model.specs.Japanese.{single, SingleState, shift_jis, euc_jp, euc_jp_start, iso2022, iso2022_start}
 use Rattle.enc_model.specs.Encode.{Tables, Shift, InAscii, Coded, encode, ended_coded, utf8_encoder, utf8_bytes}
@@ -21,7 +21,7 @@ use Rattle.enc_laws.specs.Subparts.{is_sequence, is_open, scalar_of, segment_sca
 use Rattle.enc_laws.specs.WellFormed.{AreBytes, AreScalars, IsWellFormed}
 use Rattle.enc_laws.proofs.Cutting.{text_is}
 use Rattle.enc_laws.proofs.Scalars.{set_scalars, place_scalars, valid_steps}
-use Rattle.enc_laws.proofs.Handlers.{branch, Always, IsKept, single_reads, single_ends, utf16_reads, utf16_ends}
+use Rattle.enc_laws.proofs.Handlers.{branch, Always, IsUtf16State, single_reads, single_ends, utf16_reads, utf16_ends}
 use Rattle.enc_laws.proofs.Handlers.{shift_jis_reads, shift_jis_ends, euc_jp_reads, euc_jp_ends, iso2022_reads}
 use Rattle.enc_laws.proofs.Handlers.{iso2022_ends}
 use Rattle.enc_laws.proofs.Sequences.{sequence_scalar, written_sequence}
@@ -57,12 +57,12 @@ module _ (x : IndexSet) (valid : IsIndexSet x) (ended : Bool) (bytes : List ℕ)
   unfolding decoding
   decoding_scalars encodings.Utf8 = subst AreScalars (sym (text_is ended bytes)) (segments_are ended (segments bytes))
   decoding_scalars encodings.Utf16Be =
-      valid_steps (utf16 true) IsKept (utf16_reads true) (utf16_ends true) ended utf16_start bytes (record {
+      valid_steps (utf16 true) IsUtf16State (utf16_reads true) (utf16_ends true) ended utf16_start bytes (record {
         byte = tt;
         lead = tt;
       }) all
   decoding_scalars encodings.Utf16Le =
-      valid_steps (utf16 false) IsKept (utf16_reads false) (utf16_ends false) ended utf16_start bytes (record {
+      valid_steps (utf16 false) IsUtf16State (utf16_reads false) (utf16_ends false) ended utf16_start bytes (record {
         byte = tt;
         lead = tt;
       }) all
@@ -83,7 +83,7 @@ module _ (x : IndexSet) (valid : IsIndexSet x) (ended : Bool) (bytes : List ℕ)
       ended iso2022_start bytes tt all
   decoding_scalars e =
       let i = (tables x).single e in
-      valid_steps (single i) Always (single_reads i (place_scalars x (place_of e) valid)) (single_ends i) ended
+      valid_steps (single i) Always (single_reads i (place_scalars x (single_byte_place e) valid)) (single_ends i) ended
       SingleState bytes tt all
 
 -- what is after a BOM is bytes too

@@ -51,5 +51,5 @@ pub record IsFirstBad (bound : ℕ) (lines : List (List ℕ)) (e : ReadError) : 
   pub back : List (List ℕ)
   pub parts : lines ≡ prefix ++ line ∷ back
   pub good : AreGood bound prefix
-  pub kept : is_dropped line ≡ false
+  pub counts : is_dropped line ≡ false
   pub breaks : Breaks bound prefix line (suc (length prefix)) e

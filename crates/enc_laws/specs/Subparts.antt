@@ -9,8 +9,8 @@ abbrev pub Ranges : Type 0
 Ranges = List (ℕ × ℕ)
 
 -- Table 3-7: the well-formed byte sequences of UTF-8.
-abbrev pub table : List Ranges
-table =
+abbrev pub utf8_table : List Ranges
+utf8_table =
     ((0x00, 0x7F) ∷ [])
     ∷ ((0xC2, 0xDF) ∷ (0x80, 0xBF) ∷ [])
     ∷ ((0xE0, 0xE0) ∷ (0xA0, 0xBF) ∷ (0x80, 0xBF) ∷ [])
@@ -37,11 +37,11 @@ begins_to_fill (r ∷ ranges) (b ∷ bytes) = within r.0 r.1 b && begins_to_fill
 
 -- A well-formed sequence.
 abbrev pub is_sequence : List ℕ → Bool
-is_sequence bytes = list_any (λ row. fills row bytes) table
+is_sequence bytes = list_any (λ row. fills row bytes) utf8_table
 
 -- A prefix of a well-formed sequence.
 abbrev pub is_prefix : List ℕ → Bool
-is_prefix bytes = list_any (λ row. begins_to_fill row bytes) table
+is_prefix bytes = list_any (λ row. begins_to_fill row bytes) utf8_table
 
 -- The first list that passes a test, or another.
 abbrev pub first_where : (List ℕ → Bool) → List (List ℕ) → List ℕ → List ℕ

@@ -12,11 +12,11 @@ use Rattle.std.proofs.lemmas.List.Elements.{All-head, All-tail, All-from_get_or}
 use Rattle.enc_model.specs.declared.Answer.TheVariants.{Point}
 use Rattle.enc_feed.specs.Batches.{BatchTook}
 use Rattle.enc_model.specs.Index.{Index, code}
-use Rattle.enc_model.specs.Stream.{Run, said, after, steps, steps_within, all_bytes, byte_of}
+use Rattle.enc_model.specs.Stream.{DecoderRun, points_of, text_then, steps, steps_within, all_bytes, byte_run}
 use Rattle.enc_feed.proofs.Gathered.{from_nothing}
 use Rattle.enc_model.proofs.Steps.{steps_bytes}
 use Rattle.enc_index.specs.Bytes.{byte_char}
-use Rattle.enc_model.specs.Japanese.{single, answer_of}
+use Rattle.enc_model.specs.Japanese.{single, point_or_error}
 use Rattle.enc_legacy.specs.Singles.{single_in, single_start}
 use Rattle.enc_legacy.specs.SinglesCalm.{single_in_calm}
 
@@ -28,7 +28,7 @@ in_within : (t : Tables) (n : ℕ) (ended : Bool) (e : Encoding) (bytes : List �
 unfolding steps_within single_in single
 in_within t zero ended e bytes = refl
 in_within t (suc n) ended e (b ∷ bytes) =
-    ap (after (said (single_in t e (Some b)).answer)) (in_within t n ended e bytes)
+    ap (text_then (points_of (single_in t e (Some b)).answer)) (in_within t n ended e bytes)
 in_within t (suc n) false e [] = refl
 in_within t (suc n) true e [] = refl
 
@@ -48,18 +48,18 @@ same_encoding t ended e new bytes (Err x) is = tt
 
 -- WHAT THE BYTES STAND FOR
 
-char_said : (t : Bool) (b : ℕ) (o : Option ℕ) → said
-    (if t then Point b else answer_of o) ++ [] ≡ (if t then b else unwrap_or o 0xFFFD) ∷ []
-char_said true b o = refl
-char_said false b None = refl
-char_said false b (Some c) = refl
+char_points : (t : Bool) (b : ℕ) (o : Option ℕ) → points_of
+    (if t then Point b else point_or_error o) ++ [] ≡ (if t then b else unwrap_or o 0xFFFD) ∷ []
+char_points true b o = refl
+char_points false b None = refl
+char_points false b (Some c) = refl
 
-byte_given : (t : Tables) (e : Encoding) (b : ℕ) → byte_of (single_in t) e b ≡ record {
+byte_given : (t : Tables) (e : Encoding) (b : ℕ) → byte_run (single_in t) e b ≡ record {
   text = byte_char (t.single e) b ∷ [];
   state = e;
 }
 unfolding single_in
-byte_given t e b = ap (λ z. record { text = z; state = e }) (char_said (nat_lt b 0x80) b (code (t.single e) (b - 0x80)))
+byte_given t e b = ap (λ z. record { text = z; state = e }) (char_points (nat_lt b 0x80) b (code (t.single e) (b - 0x80)))
 
 -- where a table has at each byte what it stands for
 pub single_chars : (t : Tables) (e : Encoding) (chars bytes : List ℕ)
@@ -68,12 +68,12 @@ pub single_chars : (t : Tables) (e : Encoding) (chars bytes : List ℕ)
 single_chars t e chars bytes table all =
     sym (ap (λ run. run.text) (steps_bytes (single_in t) (single_in_calm t) e bytes) ∙ go bytes all)
   where
-    go : (bytes : List ℕ) → All (λ b. b < 256) bytes → (all_bytes (byte_of (single_in t)) e bytes).text ≡ map
+    go : (bytes : List ℕ) → All (λ b. b < 256) bytes → (all_bytes (byte_run (single_in t)) e bytes).text ≡ map
         (λ b. slice_index chars b) bytes
     go [] a = refl
     go (b ∷ bytes) a =
-        let f = byte_of (single_in t) in
-        ap (λ (r : Run Encoding). r.text ++ (all_bytes f r.state bytes).text) (byte_given t e b)
+        let f = byte_run (single_in t) in
+        ap (λ (r : DecoderRun Encoding). r.text ++ (all_bytes f r.state bytes).text) (byte_given t e b)
         ∙ ap (λ z. byte_char (t.single e) b ∷ z) (go bytes (All-tail (λ x. x < 256) b bytes a))
         ∙ ap (λ z. z ∷ map (λ x. slice_index chars x) bytes) (sym (table b (All-head (λ x. x < 256) b bytes a)))
 

@@ -151,8 +151,8 @@ sjis_two i s rest c e l lead pair =
 pub sjis_pair_steps : (i : Index) (s : ℕ) (r : List (Option ℕ)) → s ≡ 0 → length r ≤ NO_PAIR
     → ((p : ℕ) → slice_index_or r p None ≡ code i p) → (a b c : ℕ) → IsShiftJisPair r a b c
     → steps (shift_jis i) false s (a ∷ b ∷ []) ≡ record { text = c ∷ []; state = s }
-sjis_pair_steps i s r e few codes a b c stands =
-    let p = stands few in
+sjis_pair_steps i s r e few codes a b c codes_are =
+    let p = codes_are few in
     sjis_two i s (a ∷ b ∷ []) c e (omega arith) p.0 (p.1 i codes) ∙ ap (λ z. record {
       text = c ∷ [];
       state = z;
@@ -195,8 +195,8 @@ pub euc_pair_steps : (i j : Index) (s : EucJp) (r : List (Option ℕ)) → s ≡
     → steps (euc_jp i j) false s (a ∷ b ∷ []) ≡ record { text = c ∷ []; state = s }
 euc_pair_steps i j s r e few codes a b c read =
     let p = read few in
-    let stands = row_pair i j a b p.0 p.1 ∙ sym (codes ((a - 0xA1) * 94 + (b - 0xA1))) ∙ p.2 in
-    euc_two i j s (a ∷ b ∷ []) c e (omega arith) p.0 stands ∙ ap (λ (z : EucJp). record {
+    let codes_are = row_pair i j a b p.0 p.1 ∙ sym (codes ((a - 0xA1) * 94 + (b - 0xA1))) ∙ p.2 in
+    euc_two i j s (a ∷ b ∷ []) c e (omega arith) p.0 codes_are ∙ ap (λ (z : EucJp). record {
       text = c ∷ [];
       state = z;
     }) (sym e)
@@ -293,12 +293,12 @@ run_cleared i at place output flag s bytes text old new own here is took =
     rw (← own, stays, is) (took, refl)
 
 -- a run in ASCII, which clears the flag
-pub iso_front : (i : Index) (output : Charset) (flag : Bool) (rest : List ℕ) (n : ℕ) → n ≡ prefix_len is_plain_2022 rest
+pub iso_prefix : (i : Index) (output : Charset) (flag : Bool) (rest : List ℕ) (n : ℕ) → n ≡ prefix_len is_plain_2022 rest
     → 0 < n →
     All (λ b. b < 128) (take n rest)
     × (steps (iso2022 i) false (record { place = In Ascii; output = output; flag = flag }) (take n rest)
     ≡ record { text = take n rest; state = record { place = In Ascii; output = output; flag = false } })
-iso_front i output flag rest n e some =
+iso_prefix i output flag rest n e some =
     let all = plain_all rest n e in
     let long : 0 < length (take n rest) = let t = length-take n rest in let w =
     prefix_len-le-length is_plain_2022 rest in omega (arith, t, w, some, e) in

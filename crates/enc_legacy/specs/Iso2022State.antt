@@ -8,10 +8,10 @@ use Rattle.enc_model.specs.declared.Place.TheVariants.{In, Trail}
 use Rattle.enc_legacy.specs.declared.pairs.TheConstants.{NO_PAIR}
 
 -- In a character set the output state is that set. A lead byte is one of jis0208.
-abbrev pub IsStand : Place → Charset → Bool → Type 0
-IsStand (In set) output flag = output ≡ set
-IsStand (Trail lead) output flag = (0x21 ≤ lead) × (lead ≤ 0x7E) × (output ≡ Lead) × (flag ≡ false)
-IsStand _ output flag = Unit {0}
+abbrev pub IsIso2022State : Place → Charset → Bool → Type 0
+IsIso2022State (In set) output flag = output ≡ set
+IsIso2022State (Trail lead) output flag = (0x21 ≤ lead) × (lead ≤ 0x7E) × (output ≡ Lead) × (flag ≡ false)
+IsIso2022State _ output flag = Unit {0}
 
 -- A byte of jis0208.
 abbrev pub IsIso2022Row : ℕ → Type 0

@@ -5,7 +5,7 @@ use Rattle.enc_model.specs.declared.Encoding.{Encoding}
 use Rattle.enc_model.specs.Encode.{Tables}
 use Rattle.enc_model.specs.Index.{code}
 use Rattle.enc_model.specs.Stream.{Handler}
-use Rattle.enc_model.specs.Japanese.{Single, SingleState, answer_of}
+use Rattle.enc_model.specs.Japanese.{Single, SingleState, point_or_error}
 
 -- The first state.
 abbrev pub single_start : Single
@@ -17,6 +17,6 @@ single_in t e None = record { state = e; answer = Finished; restored = [] }
 single_in t e (Some b) =
     record {
       state = e;
-      answer = if nat_lt b 0x80 then Point b else answer_of (code (t.single e) (b - 0x80));
+      answer = if nat_lt b 0x80 then Point b else point_or_error (code (t.single e) (b - 0x80));
       restored = [];
     }

@@ -2,7 +2,7 @@
 use Rattle.std.proofs.Common.{ℕ, ◌≤◌, Some, length, lit≤}
 use Rattle.enc_model.specs.declared.Encoding.{Encoding}
 use Rattle.enc_model.specs.Encode.{Tables}
-use Rattle.enc_model.specs.Stream.{IsQuiet, Ends, IsCalm}
+use Rattle.enc_model.specs.Stream.{IsQuiet, EndsWithin, IsCalm}
 use Rattle.enc_legacy.specs.Singles.{single_in}
 
 -- A byte restores at most two bytes.
@@ -17,7 +17,7 @@ unfolding single_in
 quiet t s b = tt
 
 -- The end is finished within four answers.
-ends : (t : Tables) (s : Encoding) → Ends 4 (single_in t) s
+ends : (t : Tables) (s : Encoding) → EndsWithin 4 (single_in t) s
 unfolding single_in
 ends t s = tt
 

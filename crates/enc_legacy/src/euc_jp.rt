@@ -15,7 +15,7 @@ use crate::stride::{PairDecoder, Strider, decode_strides, read_run};
 use enc_feed::{Batch, BlockDecoder, Decoder, PairReader, Sink, feed, finish};
 use enc_index::{IndexSet, Kind};
 use enc_model::{Answer, Restored, Utf8Char};
-use lane_kernels::{ascii_front, ascii_lanes};
+use lane_kernels::{ascii_lanes, ascii_prefix};
 use std::marker::Model;
 
 /// The EUC-JP decoder (Encoding Standard, section 12.1.1). Its state is the lead byte, or 0, and whether the pair is
@@ -69,7 +69,7 @@ impl Decoder for EucJpState {
     #[inline(always)]
     #[tactic(auto, unfolding(enc_model::specs::Japanese::euc_jp))]
     fn read(&mut self, indexes: &IndexSet, byte: Option<u8>) -> (Answer, Restored) {
-        let (lead, flag) = self.kept();
+        let (lead, flag) = self.parts();
         *self = Self::new();
         let Some(b) = byte else {
             return if lead == 0 {
@@ -81,13 +81,13 @@ impl Decoder for EucJpState {
         match (lead, b) {
             (0, 0..=0x7F) => (Answer::Point(b as char), Restored::Zero),
             (0, 0x8E | 0x8F | 0xA1..=0xFE) => {
-                *self = Self::keeping(b, false);
+                *self = Self::in_state(b, false);
                 (Answer::Nothing, Restored::Zero)
             }
             (0, _) => (Answer::Error, Restored::Zero),
             (0x8E, 0xA1..=0xDF) => (half_width(b - 0xA1), Restored::Zero),
             (0x8F, 0xA1..=0xFE) => {
-                *self = Self::keeping(b, true);
+                *self = Self::in_state(b, true);
                 (Answer::Nothing, Restored::Zero)
             }
             _ => pair_answer(euc_jp_char(indexes, flag, lead, b), b),
@@ -98,7 +98,7 @@ impl Decoder for EucJpState {
 }
 
 impl PairReader for EucJpState {
-    ghost stand_for = { IsEucJpPair };
+    ghost represent = { IsEucJpPair };
 
     #[inline(always)]
     #[tactic(auto, using(crate::proofs::EucBytes::euc_read))]
@@ -114,17 +114,17 @@ impl PairReader for EucJpState {
 
 impl PairDecoder for EucJpState {
     #[inline(always)]
-    #[tactic(auto, using(enc_feed::proofs::Prefixes::prefix_none, crate::proofs::Prefixes::euc_front))]
+    #[tactic(auto, using(enc_feed::proofs::Prefixes::prefix_none, crate::proofs::Prefixes::euc_prefix))]
     fn ascii(&self, _indexes: &IndexSet, bytes: &[u8]) -> usize {
         if self.lead == 0 {
-            ascii_front(bytes)
+            ascii_prefix(bytes)
         } else {
             0
         }
     }
 
     #[inline(always)]
-    #[tactic(auto, using(enc_feed::proofs::Prefixes::prefix_none, crate::proofs::Prefixes::euc_front))]
+    #[tactic(auto, using(enc_feed::proofs::Prefixes::prefix_none, crate::proofs::Prefixes::euc_prefix))]
     fn ascii_lanes(&self, _indexes: &IndexSet, bytes: &[u8]) -> usize {
         if self.lead == 0 {
             ascii_lanes(bytes)
@@ -161,7 +161,7 @@ impl BlockDecoder for EucJpState {
 
 impl EucJpState {
     /// A decoder with this lead byte, or with none if it is 0. The flag means that the pair is one of jis0212.
-    pub fn keeping(lead: u8, flag: bool) -> Self
+    pub fn in_state(lead: u8, flag: bool) -> Self
         requires { IsEucJpState lead flag }
         ensures { result ≡ record { lead = lead; flag = flag } }
     {
@@ -169,7 +169,7 @@ impl EucJpState {
     }
 
     /// The lead byte, or 0, and whether the pair is one of jis0212.
-    pub fn kept(&self) -> (u8, bool)
+    pub fn parts(&self) -> (u8, bool)
         ensures lead { result.0 ≡ self.now.lead }
         ensures flag { result.1 ≡ self.now.flag }
         ensures valid { IsEucJpState result.0 result.1 }

@@ -1,7 +1,7 @@
 //! The ISO-2022-JP decoder.
 
 ghost use Rattle.std.specs.Prelude.{◌≡◌, OnOk, ◌+◌, ◌*◌, true, ◌≤◌, false, [], length, take};
-ghost use Rattle.enc_legacy.specs.Iso2022State.{IsStand, IsIso2022Pair};
+ghost use Rattle.enc_legacy.specs.Iso2022State.{IsIso2022State, IsIso2022Pair};
 ghost use Rattle.enc_feed.specs.Batches.{BatchTook};
 ghost use Rattle.enc_model.specs.declared.Charset.TheVariants.{Ascii, Lead};
 ghost use Rattle.enc_model.specs.declared.Place.TheVariants.{In};
@@ -19,7 +19,7 @@ use crate::stride::{Strider, decode_strides};
 use enc_feed::{Batch, BlockDecoder, Decoder, PairReader, ROOM, Sink, decode_each, feed, finish};
 use enc_index::{IndexSet, Kind};
 use enc_model::{Answer, Charset, Introducer, Place, Restored, Utf8Char};
-use lane_kernels::plain_front_2022;
+use lane_kernels::plain_prefix_2022;
 use std::marker::Model;
 
 /// The ISO-2022-JP decoder (Encoding Standard, section 12.2.1). Its state is the place, the output state, to which an
@@ -36,7 +36,7 @@ impl Model for Iso2022State {
 
     ghost view = { λ s. record { place = s.place; output = s.output; flag = s.flag } };
 
-    ghost invariant = { λ s. IsStand s.place s.output s.flag };
+    ghost invariant = { λ s. IsIso2022State s.place s.output s.flag };
 }
 
 /// The answer to a byte other than 1B in a character set.
@@ -234,7 +234,7 @@ impl Decoder for Iso2022State {
 }
 
 impl PairReader for Iso2022State {
-    ghost stand_for = { IsIso2022Pair };
+    ghost represent = { IsIso2022Pair };
 
     // The bytes are those of EUC-JP without the top bit.
     #[inline(always)]
@@ -265,7 +265,7 @@ impl Iso2022State {
         ensures state { self.new
             ≡ (steps (iso2022 (tables _indexes.now).jis0208) false self.old (take result rest.now)).state }
     {
-        let run = plain_front_2022(rest);
+        let run = plain_prefix_2022(rest);
         if run == 0 {
             return 0;
         }
@@ -341,8 +341,8 @@ impl BlockDecoder for Iso2022State {
 
 impl Iso2022State {
     /// A decoder with this place, output state and flag.
-    pub fn standing(place: Place, output: Charset, flag: bool) -> Self
-        requires { IsStand place output flag }
+    pub fn in_state(place: Place, output: Charset, flag: bool) -> Self
+        requires { IsIso2022State place output flag }
         ensures { result ≡ record { place = place; output = output; flag = flag } }
     {
         Iso2022State {
@@ -353,9 +353,9 @@ impl Iso2022State {
     }
 
     /// The place, the output state and the flag.
-    pub fn stand(&self) -> (Place, Charset, bool)
+    pub fn parts(&self) -> (Place, Charset, bool)
         ensures value { self.now ≡ record { place = result.0; output = result.1; flag = result.2 } }
-        ensures valid { IsStand result.0 result.1 result.2 }
+        ensures valid { IsIso2022State result.0 result.1 result.2 }
     {
         (self.place, self.output, self.flag)
     }

@@ -16,7 +16,7 @@ use crate::stride::{PairDecoder, Strider, decode_strides, read_run};
 use enc_feed::{Batch, BlockDecoder, Decoder, PairReader, Sink, feed, finish};
 use enc_index::{IndexSet, Kind};
 use enc_model::{Answer, Restored, Utf8Char};
-use lane_kernels::{ascii_front, ascii_lanes};
+use lane_kernels::{ascii_lanes, ascii_prefix};
 use std::marker::Model;
 
 /// The Shift_JIS decoder (Encoding Standard, section 12.3.1). Its state is the lead byte, or 0.
@@ -83,7 +83,7 @@ impl Decoder for ShiftJisState {
             0..=0x80 => (Answer::Point(b as char), Restored::Zero),
             0xA1..=0xDF => (half_width(b - 0xA1), Restored::Zero),
             0x81..=0x9F | 0xE0..=0xFC => {
-                *self = Self::keeping(b);
+                *self = Self::in_state(b);
                 (Answer::Nothing, Restored::Zero)
             }
             _ => (Answer::Error, Restored::Zero),
@@ -103,7 +103,7 @@ fn pair_pointer(lead: u8, b: u8) -> u32
 }
 
 impl PairReader for ShiftJisState {
-    ghost stand_for = { IsShiftJisPair };
+    ghost represent = { IsShiftJisPair };
 
     #[inline(always)]
     #[tactic(auto, using(crate::proofs::SjisBytes::sjis_read))]
@@ -119,17 +119,17 @@ impl PairReader for ShiftJisState {
 
 impl PairDecoder for ShiftJisState {
     #[inline(always)]
-    #[tactic(auto, using(enc_feed::proofs::Prefixes::prefix_none, crate::proofs::Prefixes::sjis_front))]
+    #[tactic(auto, using(enc_feed::proofs::Prefixes::prefix_none, crate::proofs::Prefixes::sjis_prefix))]
     fn ascii(&self, _indexes: &IndexSet, bytes: &[u8]) -> usize {
         if self.lead == 0 {
-            ascii_front(bytes)
+            ascii_prefix(bytes)
         } else {
             0
         }
     }
 
     #[inline(always)]
-    #[tactic(auto, using(enc_feed::proofs::Prefixes::prefix_none, crate::proofs::Prefixes::sjis_front))]
+    #[tactic(auto, using(enc_feed::proofs::Prefixes::prefix_none, crate::proofs::Prefixes::sjis_prefix))]
     fn ascii_lanes(&self, _indexes: &IndexSet, bytes: &[u8]) -> usize {
         if self.lead == 0 {
             ascii_lanes(bytes)
@@ -173,7 +173,7 @@ impl ShiftJisState {
     }
 
     /// A decoder with this lead byte, or with none if it is 0.
-    pub fn keeping(lead: u8) -> Self
+    pub fn in_state(lead: u8) -> Self
         requires { IsShiftJisState lead }
         ensures { result ≡ lead }
     {

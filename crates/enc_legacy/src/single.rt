@@ -14,7 +14,7 @@ use crate::kana::answer_for;
 use enc_feed::{Batch, Decoder, ROOM, Sink, feed_each, finish};
 use enc_index::{IndexSet, Kind};
 use enc_model::{Answer, Encoding, Restored, Utf8Char};
-use lane_kernels::{AsciiLanes, ascii_front};
+use lane_kernels::{AsciiLanes, ascii_prefix};
 use std::marker::Model;
 
 /// The single-byte decoder (Encoding Standard, section 9.1). It has no state besides its encoding.
@@ -117,7 +117,7 @@ impl SingleState {
         ensures { Given S.takes S.refuses sink.old
             (steps (single_in (tables indexes.now)) false self.now piece.now).text sink.new result }
     {
-        let prefix = ascii_front(piece);
+        let prefix = ascii_prefix(piece);
         sink.ascii(&piece[..prefix])?;
         if prefix == piece.len() {
             return Ok(());

@@ -37,7 +37,7 @@ pub trait PairDecoder: Decoder + PairReader {
 
     /// The characters by their pointers, if they are ready and the state is one in which pairs begin.
     fn ready<'a>(&self, tables: &'a Self::Tables) -> Option<&'a [Option<Utf8Char>]>
-        ensures { IfSome result (λ r. (a b c : ℕ) → Self.stand_for r.now a b c
+        ensures { IfSome result (λ r. (a b c : ℕ) → Self.represent r.now a b c
             → steps (Self.handler tables.now) false self.now (a ∷ b ∷ []) ≡ record {
               text = c ∷ [];
               state = self.now;
@@ -85,7 +85,7 @@ fn read_ascii<D: PairDecoder>(
         return run;
     }
     let run = state.ascii_lanes(tables, rest);
-    batch.push_front(rest, run);
+    batch.push_prefix(rest, run);
     run
 }
 

@@ -6,39 +6,39 @@ use Rattle.std.specs.Fmt.{decimal, digits, digits_onto, digit_glyph}
 use Rattle.enc_model.specs.declared.Mode.{Mode}
 use Rattle.enc_model.specs.declared.Mode.TheVariants.{Html, Fatal}
 use Rattle.enc_model.specs.Encode.{Shift, Written, Wrote, Restore, Unmappable, Encoder, Coded, led_by, went, reference}
-use Rattle.enc_model.specs.Encode.{coded_within, coded, joined, all_codes, after_written, settled, code_within}
-use Rattle.enc_model.specs.Encode.{plain_code, code_of, IsWrote, IsNoRestore, IsSteady}
+use Rattle.enc_model.specs.Encode.{coded_within, coded, joined_code, all_codes, after_written, settled, code_within}
+use Rattle.enc_model.specs.Encode.{plain_code, code_of, IsWrote, IsNoRestore, IsSteadyEncoder}
 
 led_by_led_by : (x y : List ℕ) (r : Coded) → led_by x (led_by y r) ≡ led_by (x ++ y) r
 led_by_led_by x y r = simp append_assoc
 
-pub joined_after : (x : List ℕ) (r : Coded) (m : Shift → Coded) → joined (led_by x r) m ≡ led_by x (joined r m)
+pub joined_after : (x : List ℕ) (r : Coded) (m : Shift → Coded) → joined_code (led_by x r) m ≡ led_by x (joined_code r m)
 joined_after x r m =
     elim r.fault as (λ z.
     elim z as (λ _. Coded) [ None ↦ led_by (x ++ r.bytes) (m r.state) | Some d ↦ led_by x r ]
     ≡ led_by x (elim z as (λ _. Coded) [ None ↦ led_by r.bytes (m r.state) | Some d ↦ r ]))
     [ None ↦ sym (led_by_led_by x r.bytes (m r.state)) | Some d ↦ refl ]
 
-joined_joined : (r : Coded) (m n : Shift → Coded) → joined (joined r m) n ≡ joined r (λ s. joined (m s) n)
+joined_joined : (r : Coded) (m n : Shift → Coded) → joined_code (joined_code r m) n ≡ joined_code r (λ s. joined_code (m s) n)
 joined_joined r m n = go r.fault refl
   where
-    go : (z : Option ℕ) → r.fault ≡ z → joined (joined r m) n ≡ joined r (λ s. joined (m s) n)
+    go : (z : Option ℕ) → r.fault ≡ z → joined_code (joined_code r m) n ≡ joined_code r (λ s. joined_code (m s) n)
     go None e = rw e (joined_after r.bytes (m r.state) n)
     go (Some d) e = rw e refl
 
-pub joined_more : (r : Coded) (m n : Shift → Coded) → ((s : Shift) → m s ≡ n s) → joined r m ≡ joined r n
+pub joined_more : (r : Coded) (m n : Shift → Coded) → ((s : Shift) → m s ≡ n s) → joined_code r m ≡ joined_code r n
 joined_more r m n e = go r.fault refl
   where
-    go : (z : Option ℕ) → r.fault ≡ z → joined r m ≡ joined r n
+    go : (z : Option ℕ) → r.fault ≡ z → joined_code r m ≡ joined_code r n
     go None h = rw h (ap (led_by r.bytes) (e r.state))
     go (Some d) h = rw h refl
 
 pub all_codes_append : (g : Shift → ℕ → Coded) (s : Shift) (a b : List ℕ) →
-    all_codes g s (a ++ b) ≡ joined (all_codes g s a) (λ next. all_codes g next b)
+    all_codes g s (a ++ b) ≡ joined_code (all_codes g s a) (λ next. all_codes g next b)
 all_codes_append g s [] b = refl
 all_codes_append g s (c ∷ a) b =
     let r = g s c in
-    joined_more r (λ next. all_codes g next (a ++ b)) (λ next. joined (all_codes g next a) (λ z. all_codes g z b))
+    joined_more r (λ next. all_codes g next (a ++ b)) (λ next. joined_code (all_codes g next a) (λ z. all_codes g z b))
     (λ next. all_codes_append g next a b)
     ∙ sym (joined_joined r (λ next. all_codes g next a) (λ next. all_codes g next b))
 
@@ -102,14 +102,14 @@ reference_short : (d : ℕ) → length (reference d) ≤ 67
 unfolding digits
 reference_short d = let h = digits_short 64 d [] in let e = length-append (decimal d) (0x3B ∷ []) in omega (arith, h, e)
 
-module _ (f : Encoder) (steady : IsSteady f) (mode : Mode) where
+module _ (f : Encoder) (steady : IsSteadyEncoder f) (mode : Mode) where
   one_fault : (w : Written)
       → (code_within Html (λ next cs. record { bytes = []; state = next; fault = None }) w).fault ≡ None
   one_fault (Wrote b s) = refl
   one_fault (Restore b s) = refl
   one_fault (Unmappable b s d) = refl
 
-  joined_none : (r : Coded) (m : Shift → Coded) → r.fault ≡ None → joined r m ≡ led_by r.bytes (m r.state)
+  joined_none : (r : Coded) (m : Shift → Coded) → r.fault ≡ None → joined_code r m ≡ led_by r.bytes (m r.state)
   joined_none r m e = rw e refl
 
   plain_fault : (r : List ℕ) (s : Shift) → (all_codes (plain_code f) s r).fault ≡ None
@@ -125,11 +125,11 @@ module _ (f : Encoder) (steady : IsSteady f) (mode : Mode) where
       cs ≡ x) →
       coded_within j f mode s (r ++ cs) ≡ led_by (all_codes (plain_code f) s r).bytes x) →
       ((m : ℕ) → j ≤ m + 2 * length r →
-      coded_within m f mode (joined
+      coded_within m f mode (joined_code
       (code_within Html (λ next z. record { bytes = []; state = next; fault = None }) (after_written prefix v))
       (λ next. all_codes (plain_code f) next r)).state cs ≡ x) →
       led_by prefix (went mode (coded_within j f mode) c (r ++ cs) v)
-      ≡ led_by (joined (code_within Html (λ next z. record { bytes = []; state = next; fault = None })
+      ≡ led_by (joined_code (code_within Html (λ next z. record { bytes = []; state = next; fault = None })
       (after_written prefix v)) (λ next. all_codes (plain_code f) next r)).bytes x
   plain_wrote c r cs prefix (Wrote b s) j x w ih h =
       let rest = all_codes (plain_code f) s r in
@@ -143,11 +143,11 @@ module _ (f : Encoder) (steady : IsSteady f) (mode : Mode) where
       → ((m : ℕ) → j ≤ m + 2 * length r → coded_within m f mode (all_codes (plain_code f) s r).state cs ≡ x) →
       coded_within j f mode s (r ++ cs) ≡ led_by (all_codes (plain_code f) s r).bytes x) →
       ((m : ℕ) → suc i ≤ m + 2 * length r + 1 →
-      coded_within m f mode (joined
+      coded_within m f mode (joined_code
       (code_within Html (λ next z. record { bytes = []; state = next; fault = None }) (settled f c w))
       (λ next. all_codes (plain_code f) next r)).state cs ≡ x) →
       went mode (coded_within (suc i) f mode) c (r ++ cs) w
-      ≡ led_by (joined (code_within Html (λ next z. record { bytes = []; state = next; fault = None }) (settled f c w))
+      ≡ led_by (joined_code (code_within Html (λ next z. record { bytes = []; state = next; fault = None }) (settled f c w))
       (λ next. all_codes (plain_code f) next r)).bytes x
   unfolding coded_within
   plain_case c r cs (Wrote b s) i x w l ih h =
@@ -173,7 +173,7 @@ module _ (f : Encoder) (steady : IsSteady f) (mode : Mode) where
   reference_run : (d : ℕ) (s : Shift) (cs : List ℕ) (n : ℕ) → 134 + 136 * length cs ≤ n →
       ((z : Shift) (m : ℕ) → 136 * length cs ≤ m → coded_within m f mode z cs ≡ all_codes (code_of f mode) z cs) →
       coded_within n f mode s (reference d ++ cs)
-      ≡ joined (all_codes (plain_code f) s (reference d)) (λ next. all_codes (code_of f mode) next cs)
+      ≡ joined_code (all_codes (plain_code f) s (reference d)) (λ next. all_codes (code_of f mode) next cs)
   reference_run d s cs n l ih =
       let r = all_codes (plain_code f) s (reference d) in
       let short = reference_short d in
@@ -184,11 +184,11 @@ module _ (f : Encoder) (steady : IsSteady f) (mode : Mode) where
   own_case : (c : ℕ) (cs : List ℕ) (w : Written) (n : ℕ) → IsNoRestore w → 134 + 136 * length cs ≤ n →
       ((z : Shift) (m : ℕ) → 136 * length cs ≤ m → coded_within m f mode z cs ≡ all_codes (code_of f mode) z cs) →
       went mode (coded_within n f mode) c cs w
-      ≡ joined (code_within mode (all_codes (plain_code f)) w) (λ next. all_codes (code_of f mode) next cs)
+      ≡ joined_code (code_within mode (all_codes (plain_code f)) w) (λ next. all_codes (code_of f mode) next cs)
   own_case c cs (Wrote b s) n a l ih = ap (led_by b) (ih s n (omega arith))
   own_case c cs (Restore b s) n a l ih = absurd a
   own_case c cs (Unmappable b s d) n a l ih =
-      elim mode as (λ y. went y (coded_within n f mode) c cs (Unmappable b s d) ≡ joined
+      elim mode as (λ y. went y (coded_within n f mode) c cs (Unmappable b s d) ≡ joined_code
       (code_within y (all_codes (plain_code f)) (Unmappable b s d)) (λ next. all_codes (code_of f mode) next cs)) [
         | Html ↦
             let r = all_codes (plain_code f) s (reference d) in
@@ -200,7 +200,7 @@ module _ (f : Encoder) (steady : IsSteady f) (mode : Mode) where
   code_case : (c : ℕ) (cs : List ℕ) (w : Written) (n : ℕ) → IsNoRestore (settled f c w) → 135 + 136 * length cs ≤ n →
       ((z : Shift) (m : ℕ) → 136 * length cs ≤ m → coded_within m f mode z cs ≡ all_codes (code_of f mode) z cs) →
       went mode (coded_within n f mode) c cs w
-      ≡ joined (code_within mode (all_codes (plain_code f)) (settled f c w))
+      ≡ joined_code (code_within mode (all_codes (plain_code f)) (settled f c w))
       (λ next. all_codes (code_of f mode) next cs)
   unfolding coded_within
   code_case c cs (Wrote b s) n a l ih = own_case c cs (Wrote b s) n tt (omega arith) ih
@@ -211,7 +211,7 @@ module _ (f : Encoder) (steady : IsSteady f) (mode : Mode) where
       let more = λ (next : Shift). all_codes (code_of f mode) next cs in
       ap (led_by b) (own_case c cs w i (no_restore_after b w a) (omega arith) ih)
       ∙ sym (joined_after b (code_within mode (all_codes (plain_code f)) w) more)
-      ∙ ap (λ r. joined r more) (sym (code_after mode (all_codes (plain_code f)) b w))
+      ∙ ap (λ r. joined_code r more) (sym (code_after mode (all_codes (plain_code f)) b w))
 
   main_run : (cs : List ℕ) (s : Shift) (n : ℕ) → 136 * length cs ≤ n → coded_within n f mode s cs ≡ all_codes
       (code_of f mode) s cs
@@ -226,11 +226,11 @@ module _ (f : Encoder) (steady : IsSteady f) (mode : Mode) where
   coded_is s cs = main_run cs s (136 * length cs) (omega arith)
 
   -- THE LAW: the code of a ++ b is that of a, and where it has no fault then that of b.
-  pub coded_append : (s : Shift) (a b : List ℕ) → coded f mode s (a ++ b) ≡ joined (coded f mode s a)
+  pub coded_append : (s : Shift) (a b : List ℕ) → coded f mode s (a ++ b) ≡ joined_code (coded f mode s a)
       (λ next. coded f mode next b)
   coded_append s a b =
       coded_is s (a ++ b)
       ∙ all_codes_append (code_of f mode) s a b
       ∙ joined_more (all_codes (code_of f mode) s a) (λ next. all_codes (code_of f mode) next b)
       (λ next. coded f mode next b) (λ next. sym (coded_is next b))
-      ∙ ap (λ r. joined r (λ next. coded f mode next b)) (sym (coded_is s a))
+      ∙ ap (λ r. joined_code r (λ next. coded f mode next b)) (sym (coded_is s a))

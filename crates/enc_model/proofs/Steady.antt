@@ -4,19 +4,19 @@ use Rattle.std.proofs.lemmas.Bool.Decides.{nat_tests}
 use Rattle.enc_model.specs.declared.Encoding.{Encoding}
 use Rattle.enc_model.specs.declared.Encoding.TheVariants as encodings
 use Rattle.enc_model.specs.Index.{Index}
-use Rattle.enc_model.specs.Encode.{Shift, InAscii, InRoman, InJis, settled, IsWrote, IsNoRestore, IsSteady}
+use Rattle.enc_model.specs.Encode.{Shift, InAscii, InRoman, InJis, settled, IsWrote, IsNoRestore, IsSteadyEncoder}
 use Rattle.enc_model.specs.Encode.{shift_jis_encoder, euc_jp_encoder, iso2022_encoder, single_encoder, utf8_encoder}
 use Rattle.enc_model.specs.Encode.{encoder, Tables}
 
-sjis_steady : (i : Index) → IsSteady (shift_jis_encoder i)
+sjis_steady : (i : Index) → IsSteadyEncoder (shift_jis_encoder i)
 unfolding shift_jis_encoder
 sjis_steady i = record { once = λ s c. grind (arith, nat_tests); ascii = λ s c l h. grind (arith, nat_tests) }
 
-euc_steady : (i : Index) → IsSteady (euc_jp_encoder i)
+euc_steady : (i : Index) → IsSteadyEncoder (euc_jp_encoder i)
 unfolding euc_jp_encoder
 euc_steady i = record { once = λ s c. grind (arith, nat_tests); ascii = λ s c l h. grind (arith, nat_tests) }
 
-single_steady : (i : Index) → IsSteady (single_encoder i)
+single_steady : (i : Index) → IsSteadyEncoder (single_encoder i)
 unfolding single_encoder
 single_steady i = record { once = λ s c. grind (arith, nat_tests); ascii = λ s c l h. grind (arith, nat_tests) }
 
@@ -33,10 +33,10 @@ iso_once i k InAscii c = grind (arith, nat_tests)
 iso_once i k InRoman c = grind (arith, nat_tests)
 iso_once i k InJis c = grind (arith, nat_tests)
 
-utf8_steady : IsSteady utf8_encoder
+utf8_steady : IsSteadyEncoder utf8_encoder
 utf8_steady = record { once = λ s c. tt; ascii = λ s c l h. tt }
 
-pub encoder_steady : (t : Tables) (e : Encoding) → IsSteady (encoder t e)
+pub encoder_steady : (t : Tables) (e : Encoding) → IsSteadyEncoder (encoder t e)
 encoder_steady t encodings.Utf8 = utf8_steady
 encoder_steady t encodings.Utf16Be = utf8_steady
 encoder_steady t encodings.Utf16Le = utf8_steady

@@ -8,19 +8,19 @@ use Rattle.std.specs.Str.{IsUtf8, chars}
 use lib.Utf8.{encode, encodes, scalar, scalars, next}
 use lib.Dec.{T, ltb, ltb→lt}
 use Rattle.enc_model.specs.declared.Answer.TheVariants.{Point, Nothing}
-use Rattle.enc_model.specs.Stream.{Run, after, steps, all_bytes, byte_of}
+use Rattle.enc_model.specs.Stream.{DecoderRun, text_then, steps, all_bytes, byte_run}
 use Rattle.enc_model.specs.Utf8.{Utf8, utf8, utf8_start}
 use Rattle.enc_model.proofs.Steps.{steps_bytes, bytes_append}
 use Rattle.enc_model.proofs.Calm.{utf8_calm}
 
 -- a state between characters, or within one
 abbrev within_one : ℕ → ℕ → ℕ → ℕ → List ℕ → Utf8
-within_one needed lower upper point kept = record {
+within_one needed lower upper point partial = record {
   needed = needed;
   lower = lower;
   upper = upper;
   point = point;
-  kept = kept;
+  partial = partial;
 }
 
 goes : (s next : Utf8) (b : ℕ) (bs : List ℕ) → utf8 s (Some b) ≡ record {
@@ -28,11 +28,11 @@ goes : (s next : Utf8) (b : ℕ) (bs : List ℕ) → utf8 s (Some b) ≡ record 
   answer = Nothing;
   restored = [];
 } →
-    all_bytes (byte_of utf8) s (b ∷ bs) ≡ all_bytes (byte_of utf8) next bs
+    all_bytes (byte_run utf8) s (b ∷ bs) ≡ all_bytes (byte_run utf8) next bs
 goes s next b bs e = rw e refl
 
 ends : (s next : Utf8) (b c : ℕ) → utf8 s (Some b) ≡ record { state = next; answer = Point c; restored = [] } →
-    all_bytes (byte_of utf8) s (b ∷ []) ≡ record { text = c ∷ []; state = next }
+    all_bytes (byte_run utf8) s (b ∷ []) ≡ record { text = c ∷ []; state = next }
 ends s next b c e = rw e refl
 
 one : (c : ℕ) → c < 128 → utf8 utf8_start (Some c) ≡ record { state = utf8_start; answer = Point c; restored = [] }
@@ -77,24 +77,24 @@ second_of_four : (x y : ℕ) → y < 64 → 16 ≤ x * 64 + y → x * 64 + y < 2
     ((if (240 + x) == 0xF0 then 0x90 else 0x80) ≤ 128 + y) × (128 + y ≤ (if (240 + x) == 0xF4 then 0x8F else 0xBF))
 second_of_four x y l a b = grind (arith, nat_tests)
 
-more : (needed low high p y : ℕ) (kept : List ℕ) → 2 ≤ needed → low ≤ 128 + y → 128 + y ≤ high →
-    utf8 (within_one needed low high p kept) (Some (128 + y))
+more : (needed low high p y : ℕ) (partial : List ℕ) → 2 ≤ needed → low ≤ 128 + y → 128 + y ≤ high →
+    utf8 (within_one needed low high p partial) (Some (128 + y))
     ≡ record {
-      state = within_one (needed - 1) 0x80 0xBF (p * 64 + y) (kept ++ (128 + y) ∷ []);
+      state = within_one (needed - 1) 0x80 0xBF (p * 64 + y) (partial ++ (128 + y) ∷ []);
       answer = Nothing;
       restored = [];
     }
 unfolding utf8
-more needed low high p y kept n l h = grind (arith, nat_tests)
+more needed low high p y partial n l h = grind (arith, nat_tests)
 
-last : (low high p y : ℕ) (kept : List ℕ) → low ≤ 128 + y → 128 + y ≤ high →
-    utf8 (within_one 1 low high p kept) (Some (128 + y)) ≡ record {
+last : (low high p y : ℕ) (partial : List ℕ) → low ≤ 128 + y → 128 + y ≤ high →
+    utf8 (within_one 1 low high p partial) (Some (128 + y)) ≡ record {
       state = utf8_start;
       answer = Point (p * 64 + y);
       restored = [];
     }
 unfolding utf8
-last low high p y kept l h = grind (arith, nat_tests)
+last low high p y partial l h = grind (arith, nat_tests)
 
 -- the number that a character's parts make, and the next part
 two_parts : (c : ℕ) → c / 64 * 64 + c % 64 ≡ c
@@ -107,7 +107,7 @@ four_parts : (c : ℕ) → c / 262144 * 64 + c / 4096 % 64 ≡ c / 4096
 four_parts c = omega arith
 
 -- one character
-two : (c : ℕ) → 128 ≤ c → c < 2048 → all_bytes (byte_of utf8) utf8_start ((192 + c / 64) ∷ (128 + c % 64) ∷ [])
+two : (c : ℕ) → 128 ≤ c → c < 2048 → all_bytes (byte_run utf8) utf8_start ((192 + c / 64) ∷ (128 + c % 64) ∷ [])
     ≡ record {
       text = c ∷ [];
       state = utf8_start;
@@ -119,7 +119,7 @@ two c l h =
     ∙ ap (λ z. record { text = z ∷ []; state = utf8_start }) (two_parts c)
 
 three : (c : ℕ) → 2048 ≤ c → c < 65536 → (c < 55296) ⊎ (57344 ≤ c) →
-    all_bytes (byte_of utf8) utf8_start ((224 + c / 4096) ∷ (128 + c / 64 % 64) ∷ (128 + c % 64) ∷ []) ≡ record {
+    all_bytes (byte_run utf8) utf8_start ((224 + c / 4096) ∷ (128 + c / 64 % 64) ∷ (128 + c % 64) ∷ []) ≡ record {
       text = c ∷ [];
       state = utf8_start;
     }
@@ -128,15 +128,15 @@ three c l h out =
     let y = c / 64 % 64 in
     let low : ℕ = if (224 + x) == 0xE0 then 0xA0 else 0x80 in
     let high : ℕ = if (224 + x) == 0xED then 0x9F else 0xBF in
-    let kept = (224 + x) ∷ [] in
+    let partial = (224 + x) ∷ [] in
     let s = second_of_three x y (omega arith) (omega arith) (parts out) in
-    goes utf8_start (within_one 2 low high x kept) (224 + x) ((128 + y) ∷ (128 + c % 64) ∷ [])
+    goes utf8_start (within_one 2 low high x partial) (224 + x) ((128 + y) ∷ (128 + c % 64) ∷ [])
     (lead_three x (omega arith))
-    ∙ goes (within_one 2 low high x kept) (within_one 1 0x80 0xBF (x * 64 + y) (kept ++ (128 + y) ∷ [])) (128 + y)
-    ((128 + c % 64) ∷ []) (more 2 low high x y kept (omega arith) s.0 s.1)
-    ∙ ends (within_one 1 0x80 0xBF (x * 64 + y) (kept ++ (128 + y) ∷ [])) utf8_start (128 + c % 64)
+    ∙ goes (within_one 2 low high x partial) (within_one 1 0x80 0xBF (x * 64 + y) (partial ++ (128 + y) ∷ [])) (128 + y)
+    ((128 + c % 64) ∷ []) (more 2 low high x y partial (omega arith) s.0 s.1)
+    ∙ ends (within_one 1 0x80 0xBF (x * 64 + y) (partial ++ (128 + y) ∷ [])) utf8_start (128 + c % 64)
     ((x * 64 + y) * 64 + c % 64)
-    (last 0x80 0xBF (x * 64 + y) (c % 64) (kept ++ (128 + y) ∷ []) (omega arith) (omega arith))
+    (last 0x80 0xBF (x * 64 + y) (c % 64) (partial ++ (128 + y) ∷ []) (omega arith) (omega arith))
     ∙ ap (λ z. record { text = z ∷ []; state = utf8_start }) (ap (λ z. z * 64 + c % 64) (three_parts c) ∙ two_parts c)
   where
     parts : (c < 55296) ⊎ (57344 ≤ c) → (c / 4096 * 64 + c / 64 % 64 < 864) ⊎ (896 ≤ c / 4096 * 64 + c / 64 % 64)
@@ -144,7 +144,7 @@ three c l h out =
     parts (inr a) = inr (omega arith)
 
 four : (c : ℕ) → 65536 ≤ c → c < 1114112 →
-    all_bytes (byte_of utf8) utf8_start
+    all_bytes (byte_run utf8) utf8_start
     ((240 + c / 262144) ∷ (128 + c / 4096 % 64) ∷ (128 + c / 64 % 64) ∷ (128 + c % 64) ∷ []) ≡ record {
       text = c ∷ [];
       state = utf8_start;
@@ -155,20 +155,20 @@ four c l h =
     let z = c / 64 % 64 in
     let low : ℕ = if (240 + x) == 0xF0 then 0x90 else 0x80 in
     let high : ℕ = if (240 + x) == 0xF4 then 0x8F else 0xBF in
-    let kept = (240 + x) ∷ [] in
-    let kept2 = kept ++ (128 + y) ∷ [] in
-    let kept3 = kept2 ++ (128 + z) ∷ [] in
+    let partial = (240 + x) ∷ [] in
+    let partial2 = partial ++ (128 + y) ∷ [] in
+    let partial3 = partial2 ++ (128 + z) ∷ [] in
     let s = second_of_four x y (omega arith) (omega arith) (omega arith) in
-    goes utf8_start (within_one 3 low high x kept) (240 + x) ((128 + y) ∷ (128 + z) ∷ (128 + c % 64) ∷ [])
+    goes utf8_start (within_one 3 low high x partial) (240 + x) ((128 + y) ∷ (128 + z) ∷ (128 + c % 64) ∷ [])
     (lead_four x (omega arith))
-    ∙ goes (within_one 3 low high x kept) (within_one 2 0x80 0xBF (x * 64 + y) kept2) (128 + y)
-    ((128 + z) ∷ (128 + c % 64) ∷ []) (more 3 low high x y kept (omega arith) s.0 s.1)
-    ∙ goes (within_one 2 0x80 0xBF (x * 64 + y) kept2) (within_one 1 0x80 0xBF ((x * 64 + y) * 64 + z) kept3) (128 + z)
+    ∙ goes (within_one 3 low high x partial) (within_one 2 0x80 0xBF (x * 64 + y) partial2) (128 + y)
+    ((128 + z) ∷ (128 + c % 64) ∷ []) (more 3 low high x y partial (omega arith) s.0 s.1)
+    ∙ goes (within_one 2 0x80 0xBF (x * 64 + y) partial2) (within_one 1 0x80 0xBF ((x * 64 + y) * 64 + z) partial3) (128 + z)
     ((128 + c % 64) ∷ [])
-    (more 2 0x80 0xBF (x * 64 + y) z kept2 (omega arith) (omega arith) (omega arith))
-    ∙ ends (within_one 1 0x80 0xBF ((x * 64 + y) * 64 + z) kept3) utf8_start (128 + c % 64)
+    (more 2 0x80 0xBF (x * 64 + y) z partial2 (omega arith) (omega arith) (omega arith))
+    ∙ ends (within_one 1 0x80 0xBF ((x * 64 + y) * 64 + z) partial3) utf8_start (128 + c % 64)
     (((x * 64 + y) * 64 + z) * 64 + c % 64)
-    (last 0x80 0xBF ((x * 64 + y) * 64 + z) (c % 64) kept3 (omega arith) (omega arith))
+    (last 0x80 0xBF ((x * 64 + y) * 64 + z) (c % 64) partial3 (omega arith) (omega arith))
     ∙ ap (λ w. record {
       text = w ∷ [];
       state = utf8_start;
@@ -186,7 +186,7 @@ no_surrogate c is = grind (arith, nat_tests)
 scalar_top : (c : ℕ) → scalar c ≡ true → c < 1114112
 scalar_top c is = grind (arith, nat_tests)
 
-pub one_char : (c : ℕ) → scalar c ≡ true → all_bytes (byte_of utf8) utf8_start (encode c) ≡ record {
+pub one_char : (c : ℕ) → scalar c ≡ true → all_bytes (byte_run utf8) utf8_start (encode c) ≡ record {
   text = c ∷ [];
   state = utf8_start;
 }
@@ -194,7 +194,7 @@ unfolding encode
 one_char c is = go (ltb c 128) refl (ltb c 2048) refl (ltb c 65536) refl
   where
     go : (u : Bool) → ltb c 128 ≡ u → (v : Bool) → ltb c 2048 ≡ v → (w : Bool) → ltb c 65536 ≡ w →
-        all_bytes (byte_of utf8) utf8_start
+        all_bytes (byte_run utf8) utf8_start
         (cond u (c ∷ []) (cond v ((192 + c / 64) ∷ next c ∷ [])
         (cond w ((224 + c / 4096) ∷ next (c / 64) ∷ next c ∷ [])
         ((240 + c / 262144) ∷ next (c / 4096) ∷ next (c / 64) ∷ next c ∷ []))))
@@ -204,16 +204,16 @@ one_char c is = go (ltb c 128) refl (ltb c 2048) refl (ltb c 65536) refl
     go false a false b true d = three c (ltb_false c 2048 b) (ltb_true c 65536 d) (no_surrogate c is)
     go false a false b false d = four c (ltb_false c 65536 d) (scalar_top c is)
 
-pub chars_run : (cs : List ℕ) → scalars cs ≡ true → all_bytes (byte_of utf8) utf8_start (encodes cs) ≡ record {
+pub chars_run : (cs : List ℕ) → scalars cs ≡ true → all_bytes (byte_run utf8) utf8_start (encodes cs) ≡ record {
   text = cs;
   state = utf8_start;
 }
 chars_run [] is = refl
 chars_run (c ∷ cs) is =
     let p = and_parts (scalar c) (scalars cs) is in
-    bytes_append (byte_of utf8) utf8_start (encode c) (encodes cs)
-    ∙ ap (λ (r : Run Utf8). after r.text (all_bytes (byte_of utf8) r.state (encodes cs))) (one_char c p.0)
-    ∙ ap (after (c ∷ [])) (chars_run cs p.1)
+    bytes_append (byte_run utf8) utf8_start (encode c) (encodes cs)
+    ∙ ap (λ (r : DecoderRun Utf8). text_then r.text (all_bytes (byte_run utf8) r.state (encodes cs))) (one_char c p.0)
+    ∙ ap (text_then (c ∷ [])) (chars_run cs p.1)
 
 -- WELL-FORMED BYTES give their characters, and end where they began.
 pub utf8_text : (bs : List ℕ) → IsUtf8 bs → steps utf8 false utf8_start bs ≡ record {
@@ -222,6 +222,6 @@ pub utf8_text : (bs : List ℕ) → IsUtf8 bs → steps utf8 false utf8_start bs
 }
 utf8_text bs u =
     steps_bytes utf8 utf8_calm utf8_start bs
-    ∙ ap (all_bytes (byte_of utf8) utf8_start) (sym u.1.1)
+    ∙ ap (all_bytes (byte_run utf8) utf8_start) (sym u.1.1)
     ∙ chars_run u.0 u.1.0
     ∙ ap (λ cs. record { text = cs; state = utf8_start }) (sym (chars-encodes u.0 u.1.0) ∙ ap chars u.1.1)

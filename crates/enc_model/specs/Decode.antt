@@ -3,7 +3,7 @@ use Rattle.std.specs.Prelude.{ℕ, Bool, true, false, not, ◌&&◌, ◌||◌, L
 use Rattle.enc_model.specs.declared.Encoding.{Encoding}
 use Rattle.enc_model.specs.declared.Encoding.TheVariants as encodings
 use Rattle.enc_model.specs.declared.Mode.{Mode}
-use Rattle.enc_model.specs.Stream.{Run, steps}
+use Rattle.enc_model.specs.Stream.{DecoderRun, steps}
 use Rattle.enc_model.specs.Utf8.{Utf8, utf8, utf8_start}
 use Rattle.enc_model.specs.Utf16.{Utf16, utf16, utf16_start}
 use Rattle.enc_model.specs.Japanese.{Single, SingleState, single, shift_jis, EucJp, euc_jp, euc_jp_start, Iso2022}
@@ -30,15 +30,15 @@ decoding_start encodings.Iso2022Jp = OfIso2022 iso2022_start
 decoding_start e = OfSingle e SingleState
 
 -- A run with its state mapped.
-abbrev pub run_as : {A B : Type 0} → (A → B) → Run A → Run B
+abbrev pub run_as : {A B : Type 0} → (A → B) → DecoderRun A → DecoderRun B
 run_as f r = record { text = r.text; state = f r.state }
 
 -- A run after some text.
-abbrev pub after_run : {S : Type 0} → List ℕ → Run S → Run S
+abbrev pub after_run : {S : Type 0} → List ℕ → DecoderRun S → DecoderRun S
 after_run text r = record { text = text ++ r.text; state = r.state }
 
 -- The run of the decoder over these bytes, and over the end if `ended`.
-unfoldable pub decoding : Tables → Bool → Decoding → List ℕ → Run Decoding
+unfoldable pub decoding : Tables → Bool → Decoding → List ℕ → DecoderRun Decoding
 decoding t ended (OfUtf8 s) b = run_as OfUtf8 (steps utf8 ended s b)
 decoding t ended (OfUtf16 big s) b = run_as (OfUtf16 big) (steps (utf16 big) ended s b)
 decoding t ended (OfShiftJis s) b = run_as OfShiftJis (steps (shift_jis t.jis0208) ended s b)
@@ -82,7 +82,7 @@ undecided (x ∷ y ∷ z ∷ bytes) = false
 -- The result of the bytes so far: they are held, or they were decoded.
 pub data Decoded : Type 0 where
   Held : List ℕ → Decoded
-  Reading : Run Decoding → Decoded
+  Reading : DecoderRun Decoding → Decoded
 
 -- The result of these bytes. At the end nothing is held.
 unfoldable pub decoded : Tables → Encoding → List ℕ → Bool → Decoded

@@ -193,13 +193,13 @@ coded f mode s cs = coded_within (136 * length cs) f mode s cs
 -- The same, code point by code point.
 
 -- The code of one code point, and then of the others unless it is a fault.
-abbrev pub joined : Coded → (Shift → Coded) → Coded
-joined r more = elim r.fault as (λ _. Coded) [ None ↦ led_by r.bytes (more r.state) | Some d ↦ r ]
+abbrev pub joined_code : Coded → (Shift → Coded) → Coded
+joined_code r more = elim r.fault as (λ _. Coded) [ None ↦ led_by r.bytes (more r.state) | Some d ↦ r ]
 
 -- The codes of all code points, one after the other.
 abbrev pub all_codes : (Shift → ℕ → Coded) → Shift → List ℕ → Coded
 all_codes g s [] = record { bytes = []; state = s; fault = None }
-all_codes g s (c ∷ cs) = joined (g s c) (λ next. all_codes g next cs)
+all_codes g s (c ∷ cs) = joined_code (g s c) (λ next. all_codes g next cs)
 
 -- The answer after these bytes.
 abbrev pub after_written : List ℕ → Written → Written
@@ -239,7 +239,7 @@ IsNoRestore (Restore bytes s) = ⊥
 IsNoRestore _ = Unit {0}
 
 -- A steady encoder reads a code point again at most once, and encodes all that a reference consists of.
-pub record IsSteady (f : Encoder) : Type 0 where
+pub record IsSteadyEncoder (f : Encoder) : Type 0 where
   pub once : (s : Shift) (c : ℕ) → IsNoRestore (settled f c (f s c))
   pub ascii : (s : Shift) (c : ℕ) → 0x20 ≤ c → c < 0x5C → IsWrote (settled f c (f s c))
 

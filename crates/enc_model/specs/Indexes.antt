@@ -18,23 +18,23 @@ abbrev pub no_indexes : IndexSet
 no_indexes = record { jis0208 = None; jis0212 = None; katakana = None; single = replicate 15 None }
 
 -- The place of a single-byte encoding.
-abbrev pub place_of : Encoding → Option ℕ
-place_of encodings.Ibm866 = Some 0
-place_of encodings.Iso8859X2 = Some 1
-place_of encodings.Iso8859X5 = Some 2
-place_of encodings.Iso8859X15 = Some 3
-place_of encodings.Koi8R = Some 4
-place_of encodings.Macintosh = Some 5
-place_of encodings.Windows1250 = Some 6
-place_of encodings.Windows1251 = Some 7
-place_of encodings.Windows1252 = Some 8
-place_of encodings.Windows1253 = Some 9
-place_of encodings.Windows1254 = Some 10
-place_of encodings.Windows1255 = Some 11
-place_of encodings.Windows1256 = Some 12
-place_of encodings.Windows1257 = Some 13
-place_of encodings.Windows1258 = Some 14
-place_of e = None
+abbrev pub single_byte_place : Encoding → Option ℕ
+single_byte_place encodings.Ibm866 = Some 0
+single_byte_place encodings.Iso8859X2 = Some 1
+single_byte_place encodings.Iso8859X5 = Some 2
+single_byte_place encodings.Iso8859X15 = Some 3
+single_byte_place encodings.Koi8R = Some 4
+single_byte_place encodings.Macintosh = Some 5
+single_byte_place encodings.Windows1250 = Some 6
+single_byte_place encodings.Windows1251 = Some 7
+single_byte_place encodings.Windows1252 = Some 8
+single_byte_place encodings.Windows1253 = Some 9
+single_byte_place encodings.Windows1254 = Some 10
+single_byte_place encodings.Windows1255 = Some 11
+single_byte_place encodings.Windows1256 = Some 12
+single_byte_place encodings.Windows1257 = Some 13
+single_byte_place encodings.Windows1258 = Some 14
+single_byte_place e = None
 
 -- The index at a place.
 abbrev pub at_place : List (Option Index) → Option ℕ → Option Index
@@ -43,7 +43,7 @@ at_place single (Some p) = slice_index_or single p None
 
 -- The index of a single-byte encoding, if its file was given.
 abbrev pub single_of : IndexSet → Encoding → Option Index
-single_of x e = at_place x.single (place_of e)
+single_of x e = at_place x.single (single_byte_place e)
 
 -- The file was given.
 abbrev pub is_set : Option Index → Bool

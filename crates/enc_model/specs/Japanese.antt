@@ -10,7 +10,7 @@ use Rattle.enc_model.specs.declared.Introducer.{Introducer}
 use Rattle.enc_model.specs.declared.Introducer.TheVariants.{Dollar, Paren}
 use Rattle.enc_model.specs.declared.Place.{Place}
 use Rattle.enc_model.specs.declared.Place.TheVariants.{In, Trail, EscapeStart, Escape}
-use Rattle.enc_model.specs.Stream.{Step, Handler}
+use Rattle.enc_model.specs.Stream.{HandlerStep, Handler}
 use Rattle.enc_model.specs.Index.{Index, code, within}
 
 -- Single-byte encodings.
@@ -20,15 +20,15 @@ pub data Single : Type 0 where
   SingleState : Single
 
 -- A code point, or an error.
-abbrev pub answer_of : Option ℕ → Answer
-answer_of (Some c) = Point c
-answer_of None = Error
+abbrev pub point_or_error : Option ℕ → Answer
+point_or_error (Some c) = Point c
+point_or_error None = Error
 
 -- The single-byte decoder.
 unfoldable pub single : Index → Handler Single
 single index s None = record { state = s; answer = Finished; restored = [] }
 single index s (Some b) =
-    record { state = s; answer = if nat_lt b 0x80 then Point b else answer_of (code index (b - 0x80)); restored = [] }
+    record { state = s; answer = if nat_lt b 0x80 then Point b else point_or_error (code index (b - 0x80)); restored = [] }
 
 -- Shift_JIS. The state is the lead byte, or 0.
 
@@ -50,7 +50,7 @@ shift_jis_pair jis0208 lead b =
     if within 0x40 0x7E b || within 0x80 0xFC b then shift_jis_code jis0208 (shift_jis_at lead b) else None
 
 -- The answer to a trail byte. Without a code point, a byte below 80 is restored.
-abbrev pub pair_step : {S : Type 0} → S → Option ℕ → ℕ → Step S
+abbrev pub pair_step : {S : Type 0} → S → Option ℕ → ℕ → HandlerStep S
 pair_step s (Some c) b = record { state = s; answer = Point c; restored = [] }
 pair_step s None b = record { state = s; answer = Error; restored = if nat_lt b 0x80 then b ∷ [] else [] }
 
@@ -120,7 +120,7 @@ abbrev pub iso2022_start : Iso2022
 iso2022_start = record { place = In Ascii; output = Ascii; flag = false }
 
 -- A step to this state.
-abbrev pub iso2022_to : Place → Charset → Bool → Answer → List ℕ → Step Iso2022
+abbrev pub iso2022_to : Place → Charset → Bool → Answer → List ℕ → HandlerStep Iso2022
 iso2022_to place output flag answer restored =
     record { state = record { place = place; output = output; flag = flag }; answer = answer; restored = restored }
 
@@ -137,7 +137,7 @@ iso2022_answer Katakana b = if within 0x21 0x5F b then Point (0xFF61 + (b - 0x21
 iso2022_answer Lead b = if within 0x21 0x7E b then Nothing else Error
 
 -- The step over a byte other than 1B.
-abbrev pub iso2022_plain : Charset → Charset → ℕ → Step Iso2022
+abbrev pub iso2022_plain : Charset → Charset → ℕ → HandlerStep Iso2022
 iso2022_plain Lead output b =
     if within 0x21 0x7E b then iso2022_to (Trail b) output false Nothing [] else iso2022_to (In Lead) output false Error
     []
@@ -151,18 +151,18 @@ escape_of Dollar b = if (b == 0x40) || (b == 0x42) then Some Lead else None
 
 -- The step at the end of an escape sequence. Two in a row are an error, and so is an unknown one, whose bytes are
 -- restored.
-abbrev pub iso2022_escape : Charset → Bool → Option Charset → List ℕ → Step Iso2022
+abbrev pub iso2022_escape : Charset → Bool → Option Charset → List ℕ → HandlerStep Iso2022
 iso2022_escape output flag (Some set) again = iso2022_to (In set) set true (if flag then Error else Nothing) []
 iso2022_escape output flag None again = iso2022_to (In output) output false Error again
 
 -- The step over a byte.
-abbrev pub iso2022_byte : Index → Place → Charset → Bool → ℕ → Step Iso2022
+abbrev pub iso2022_byte : Index → Place → Charset → Bool → ℕ → HandlerStep Iso2022
 iso2022_byte jis0208 (In set) output flag b =
     if b == 0x1B then iso2022_to EscapeStart output flag Nothing [] else iso2022_plain set output b
 iso2022_byte jis0208 (Trail lead) output flag b =
     if b == 0x1B then iso2022_to EscapeStart output flag Error []
     else if within 0x21 0x7E b
-    then iso2022_to (In Lead) output flag (answer_of (code jis0208 ((lead - 0x21) * 94 + (b - 0x21)))) []
+    then iso2022_to (In Lead) output flag (point_or_error (code jis0208 ((lead - 0x21) * 94 + (b - 0x21)))) []
     else iso2022_to (In Lead) output flag Error []
 iso2022_byte jis0208 EscapeStart output flag b =
     if b == 0x24 then iso2022_to (Escape Dollar) output flag Nothing []
@@ -172,7 +172,7 @@ iso2022_byte jis0208 (Escape lead) output flag b =
     iso2022_escape output flag (escape_of lead b) (introducer_byte lead ∷ b ∷ [])
 
 -- The step at the end.
-abbrev pub iso2022_end : Place → Charset → Bool → Step Iso2022
+abbrev pub iso2022_end : Place → Charset → Bool → HandlerStep Iso2022
 iso2022_end (In set) output flag = iso2022_to (In set) output flag Finished []
 iso2022_end (Trail lead) output flag = iso2022_to (In Lead) output flag Error []
 iso2022_end EscapeStart output flag = iso2022_to (In output) output false Error []

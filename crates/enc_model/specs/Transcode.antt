@@ -54,37 +54,37 @@ pub record Transcoder : Type 0 where
   pub shift : Shift
 
 -- The decoded code points, and the phase after them.
-pub record Fed : Type 0 where
+pub record FedText : Type 0 where
   pub text : List ℕ
   pub phase : Phase
 
 -- The same of a result.
-abbrev pub fed_of : Decoded → Fed
+abbrev pub fed_of : Decoded → FedText
 fed_of d = record { text = decoded_text d; phase = phase_of d }
 
 -- The code points of a piece.
-unfoldable pub fed : Tables → Encoding → Phase → List ℕ → Fed
-fed t e (Before b) piece = fed_of (decoded t e (b ++ piece) false)
-fed t e (During s) piece = let r = decoding t false s piece in record { text = r.text; phase = During r.state }
-fed t e Over piece = record { text = []; phase = Over }
+unfoldable pub fed_text : Tables → Encoding → Phase → List ℕ → FedText
+fed_text t e (Before b) piece = fed_of (decoded t e (b ++ piece) false)
+fed_text t e (During s) piece = let r = decoding t false s piece in record { text = r.text; phase = During r.state }
+fed_text t e Over piece = record { text = []; phase = Over }
 
 -- The text that a piece adds.
 abbrev pub added : Tables → Transcoder → List ℕ → Coded
-added t s piece = coded (encoder t s.to) s.mode s.shift (fed t s.from s.phase piece).text
+added t s piece = coded (encoder t s.to) s.mode s.shift (fed_text t s.from s.phase piece).text
 
 -- The text of the bytes so far.
 abbrev pub so_far : Tables → Transcoder → List ℕ → Coded
 so_far t s b = coded (encoder t s.to) s.mode InAscii (decoded_text (decoded t s.from b false))
 
 -- The transcoder is in the state after these bytes.
-pub record IsAt (t : Tables) (s : Transcoder) (b : List ℕ) : Type 0 where
+pub record IsStateAt (t : Tables) (s : Transcoder) (b : List ℕ) : Type 0 where
   pub phase : s.phase ≡ phase_of (decoded t s.from b false)
   pub fault : (so_far t s b).fault ≡ None
   pub shift : s.shift ≡ (so_far t s b).state
 
 -- The state after another piece.
 abbrev pub stepped : Tables → Transcoder → List ℕ → Transcoder
-stepped t s piece = record s { phase = (fed t s.from s.phase piece).phase; shift = (added t s piece).state }
+stepped t s piece = record s { phase = (fed_text t s.from s.phase piece).phase; shift = (added t s piece).state }
 
 -- The code points at the end.
 unfoldable pub fed_end : Tables → Encoding → Phase → List ℕ

@@ -1,7 +1,7 @@
 -- The shared UTF-16 decoder (Encoding Standard, 14.2.1).
 use Rattle.std.specs.Prelude.{ℕ, ◌+◌, ◌-◌, ◌*◌, Bool, [], ◌∷◌, Option, Some, None, if◌then◌else◌}
 use Rattle.enc_model.specs.declared.Answer.TheVariants.{Point, Error, Nothing, Finished}
-use Rattle.enc_model.specs.Stream.{Step, Handler}
+use Rattle.enc_model.specs.Stream.{HandlerStep, Handler}
 use Rattle.enc_model.specs.Index.{within}
 
 -- The state: an odd byte and a lead surrogate, if there are such.
@@ -18,7 +18,7 @@ abbrev pub unit_of : Bool → ℕ → ℕ → ℕ
 unit_of big a b = if big then a * 256 + b else b * 256 + a
 
 -- The step over a code unit. A lead without its trail is an error, and the unit's bytes are restored.
-abbrev pub utf16_unit : Option ℕ → ℕ → ℕ → ℕ → Step Utf16
+abbrev pub utf16_unit : Option ℕ → ℕ → ℕ → ℕ → HandlerStep Utf16
 utf16_unit (Some lead) unit a b =
     if within 0xDC00 0xDFFF unit
     then record {
@@ -34,12 +34,12 @@ utf16_unit None unit a b =
     else record { state = utf16_start; answer = Point unit; restored = [] }
 
 -- The step over a byte.
-abbrev pub utf16_byte : Bool → Option ℕ → Option ℕ → ℕ → Step Utf16
+abbrev pub utf16_byte : Bool → Option ℕ → Option ℕ → ℕ → HandlerStep Utf16
 utf16_byte big None lead b = record { state = record { byte = Some b; lead = lead }; answer = Nothing; restored = [] }
 utf16_byte big (Some a) lead b = utf16_unit lead (unit_of big a b) a b
 
 -- The step at the end.
-abbrev pub utf16_end : Option ℕ → Option ℕ → Step Utf16
+abbrev pub utf16_end : Option ℕ → Option ℕ → HandlerStep Utf16
 utf16_end None None = record { state = utf16_start; answer = Finished; restored = [] }
 utf16_end byte lead = record { state = utf16_start; answer = Error; restored = [] }
 

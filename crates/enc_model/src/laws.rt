@@ -9,7 +9,7 @@ ghost use Rattle.enc_model.specs.Utf16.{utf16};
 ghost use Rattle.enc_model.specs.Japanese.{single, shift_jis, euc_jp, iso2022};
 ghost use Rattle.enc_model.specs.Encode.{Tables};
 ghost use Rattle.enc_model.specs.Decode.{Decoding, decoding, after_run, decoded, advance, conclude};
-ghost use Rattle.enc_model.specs.Transcode.{Transcoder, IsAt, stepped, added, so_far};
+ghost use Rattle.enc_model.specs.Transcode.{Transcoder, IsStateAt, stepped, added, so_far};
 
 /// The steps over a byte are its answer, and then the steps over the bytes that it restores, put back first.
 pub fn restored_first()
@@ -39,10 +39,10 @@ pub fn with_a_bom()
 
 /// After any bytes, the text grows by what a piece adds, and the next state is the one after all bytes.
 pub fn text_grows()
-    ensures text { (t : Tables) (s : Transcoder) (b c : List ℕ) → IsAt t s b
+    ensures text { (t : Tables) (s : Transcoder) (b c : List ℕ) → IsStateAt t s b
         → (so_far t s (b ++ c)).bytes ≡ (so_far t s b).bytes ++ (added t s c).bytes }
-    ensures fault { (t : Tables) (s : Transcoder) (b c : List ℕ) → IsAt t s b
+    ensures fault { (t : Tables) (s : Transcoder) (b c : List ℕ) → IsStateAt t s b
         → (so_far t s (b ++ c)).fault ≡ (added t s c).fault }
-    ensures next { (t : Tables) (s : Transcoder) (b c : List ℕ) → IsAt t s b → (added t s c).fault ≡ None
-        → IsAt t (stepped t s c) (b ++ c) }
+    ensures next { (t : Tables) (s : Transcoder) (b c : List ℕ) → IsStateAt t s b → (added t s c).fault ≡ None
+        → IsStateAt t (stepped t s c) (b ++ c) }
 {}

@@ -4,7 +4,7 @@ use Rattle.std.proofs.Common.{ap, arith, lit≤}
 use Rattle.enc_model.specs.declared.Encoding.{Encoding}
 use Rattle.enc_model.specs.Decode.{Decoding, OfUtf8, OfUtf16, OfShiftJis, OfEucJp, OfIso2022, OfSingle, undecided}
 use Rattle.enc_model.specs.Transcode.{Transcoder, Phase, Before, During, Over}
-use Rattle.enc_stream.specs.StateBytes.{IsPhaseOf, IsReached, IsReachedIn, IsValid, encoding_number, mode_number}
+use Rattle.enc_stream.specs.StateBytes.{IsPhaseOf, IsReached, IsReachedIn, IsValidState, encoding_number, mode_number}
 use Rattle.enc_stream.specs.StateBytes.{phase_number, shift_number, decoder_bytes, phase_bytes, padded, state_bytes}
 
 -- WHAT A PHASE KEEPS HAS AT MOST FIVE BYTES
@@ -15,17 +15,17 @@ few_held (x ∷ []) h = lit≤ tt
 few_held (x ∷ y ∷ []) h = lit≤ tt
 few_held (x ∷ y ∷ z ∷ bytes) h = absurd cc
 
-few_kept : (s : Decoding) → IsReached s → length (decoder_bytes s) ≤ 4
-few_kept (OfUtf8 s) h = let l = h.1 in omega (arith, l)
-few_kept (OfUtf16 big s) h = grind arith
-few_kept (OfShiftJis lead) h = lit≤ tt
-few_kept (OfEucJp s) h = lit≤ tt
-few_kept (OfIso2022 s) h = lit≤ tt
-few_kept (OfSingle e s) h = lit≤ tt
+few_unfinished : (s : Decoding) → IsReached s → length (decoder_bytes s) ≤ 4
+few_unfinished (OfUtf8 s) h = let l = h.1 in omega (arith, l)
+few_unfinished (OfUtf16 big s) h = grind arith
+few_unfinished (OfShiftJis lead) h = lit≤ tt
+few_unfinished (OfEucJp s) h = lit≤ tt
+few_unfinished (OfIso2022 s) h = lit≤ tt
+few_unfinished (OfSingle e s) h = lit≤ tt
 
 few : (from : Encoding) (p : Phase) → IsPhaseOf from p → IsReachedIn p → length (phase_bytes p) ≤ 5
 few from (Before held) h k = let l = few_held held h in omega (arith, l)
-few from (During s) h k = let l = few_kept s k in omega (arith, l)
+few from (During s) h k = let l = few_unfinished s k in omega (arith, l)
 few from Over h k = lit≤ tt
 
 -- THE FIRST FIVE OF TWELVE
@@ -58,15 +58,15 @@ after (suc n) (x ∷ xs) rest i = grind (arith, after n xs rest i)
 
 -- THE BYTES OF A STATE, AND ITS PARTS
 
-pub packed : (s : Transcoder) (from to mode phase shift : ℕ) (kept : List ℕ) → IsValid s →
+pub packed : (s : Transcoder) (from to mode phase shift : ℕ) (partial : List ℕ) → IsValidState s →
     from ≡ encoding_number s.from → to ≡ encoding_number s.to → mode ≡ mode_number s.mode → phase ≡ phase_number s.phase
     → shift ≡ shift_number s.shift →
-    kept ≡ padded 5 (phase_bytes s.phase) →
-    from ∷ to ∷ mode ∷ phase ∷ get_or kept 0 0 ∷ get_or kept 1 0 ∷ get_or kept 2 0 ∷ get_or kept 3 0 ∷ get_or kept 4
+    partial ≡ padded 5 (phase_bytes s.phase) →
+    from ∷ to ∷ mode ∷ phase ∷ get_or partial 0 0 ∷ get_or partial 1 0 ∷ get_or partial 2 0 ∷ get_or partial 3 0 ∷ get_or partial 4
     0 ∷ 0 ∷ 0 ∷ 0 ∷ 0 ∷ 0 ∷ 0 ∷ 0
     ∷ shift ∷ 0 ∷ 0 ∷ 0 ∷ 0 ∷ 0 ∷ 0 ∷ 0 ∷ 0 ∷ 0 ∷ 0 ∷ 0 ∷ 0 ∷ 0 ∷ 0 ∷ 0 ∷ []
     ≡ state_bytes s
-packed s from to mode phase shift kept valid e1 e2 e3 e4 e5 e6 =
+packed s from to mode phase shift partial valid e1 e2 e3 e4 e5 e6 =
     rw (e1, e2, e3, e4, e5, e6, twelve (phase_bytes s.phase) (few s.from s.phase valid.fitting.phase valid.reached))
     refl
 
@@ -87,8 +87,8 @@ module _ (s : Transcoder) (bytes : List ℕ) (is : state_bytes s ≡ bytes) wher
   shift_there = sym (after 12 (phase_bytes s.phase) (padded 16 (shift_number s.shift ∷ [])) 0)
       ∙ ap (λ z. get_or z 16 0) is
 
-  pub kept_there : padded 5 (phase_bytes s.phase) ≡ get_or bytes 4 0 ∷ get_or bytes 5 0 ∷ get_or bytes 6 0 ∷ get_or
+  pub unfinished_there : padded 5 (phase_bytes s.phase) ≡ get_or bytes 4 0 ∷ get_or bytes 5 0 ∷ get_or bytes 6 0 ∷ get_or
       bytes 7 0 ∷ get_or bytes 8 0 ∷ []
-  kept_there =
+  unfinished_there =
       five (phase_bytes s.phase) (padded 16 (shift_number s.shift ∷ []))
       ∙ ap (λ z. get_or z 4 0 ∷ get_or z 5 0 ∷ get_or z 6 0 ∷ get_or z 7 0 ∷ get_or z 8 0 ∷ []) is

@@ -4,13 +4,13 @@ use Rattle.std.proofs.Common.{length-append, arith, refl, sym, ◌∙◌, ap, ap
 use Rattle.enc_model.specs.declared.Encoding.{Encoding}
 use Rattle.enc_model.specs.Encode.{Tables, InAscii, Coded, led_by, coded, encoder, ended_coded, encoder_end, encode}
 use Rattle.enc_model.specs.Decode.{undecided, decoded, decoded_text, conclude, decode, text}
-use Rattle.enc_model.specs.Transcode.{Transcoder, phase_of, fed_end, so_far, IsAt, added_end}
+use Rattle.enc_model.specs.Transcode.{Transcoder, phase_of, fed_end, so_far, IsStateAt, added_end}
 use Rattle.enc_model.proofs.Steady.{encoder_steady}
 use Rattle.enc_model.proofs.Pieces.{conclude_all, decoded_held, decoded_reading}
 use Rattle.enc_model.proofs.Transcoding.{coded_both}
 use Rattle.enc_stream.specs.declared.error.TranscodeError.{TranscodeError}
 use Rattle.enc_stream.specs.declared.error.TranscodeError.TheVariants.{NoMemory, Unencodable, Spent}
-use Rattle.enc_stream.specs.Standing.{Stops, IsStopped, IsWritten}
+use Rattle.enc_stream.specs.TranscoderState.{StopsFor, IsPartWritten, IsAllWritten}
 
 -- what stands at the start stays at the start
 ended_after : (x : List ℕ) (r : Coded) → ended_coded (led_by x r) ≡ led_by x (ended_coded r)
@@ -36,7 +36,7 @@ decode_end t e b = go (undecided b) refl
         ∙ sym (ap (λ z. decoded_text z ++ fed_end t e (phase_of z)) d)
 
 -- From where a transcoder stands, the text with the end is the text so far and what the end adds.
-pub text_ended : (t : Tables) (s : Transcoder) (b : List ℕ) → IsAt t s b
+pub text_ended : (t : Tables) (s : Transcoder) (b : List ℕ) → IsStateAt t s b
     → text t s.from s.to s.mode b true ≡ led_by (so_far t s b).bytes (added_end t s)
 unfolding text encode
 text_ended t s b here =
@@ -63,8 +63,8 @@ ended_fault r c e = rw e refl
 
 module _ {Z : Type 0} (r : Coded) (old mid new : Vec ℕ Z) where
   -- led_by the code the bytes of the end were appended
-  pub end_written : IsWritten r old mid → new.items ≡ mid.items ++ encoder_end r.state
-      → IsWritten (ended_coded r) old new
+  pub end_written : IsAllWritten r old mid → new.items ≡ mid.items ++ encoder_end r.state
+      → IsAllWritten (ended_coded r) old new
   end_written p e =
       let n = ended_none r p.fault in
       record {
@@ -74,9 +74,9 @@ module _ {Z : Type 0} (r : Coded) (old mid new : Vec ℕ Z) where
       }
 
   -- there was no room for these
-  pub end_stopped : IsWritten r old mid → vec_capacity old ≤ vec_capacity mid → new.items ≡ mid.items
+  pub end_stopped : IsAllWritten r old mid → vec_capacity old ≤ vec_capacity mid → new.items ≡ mid.items
       → vec_capacity mid < length mid.items + length (encoder_end r.state) →
-      IsStopped NoMemory (ended_coded r) old new
+      IsPartWritten NoMemory (ended_coded r) old new
   end_stopped p grown same full =
       let n = ended_none r p.fault in
       let l : length mid.items ≡ length (old.items ++ r.bytes) = ap length p.items in
@@ -95,10 +95,10 @@ module _ {Z : Type 0} (r : Coded) (old mid new : Vec ℕ Z) where
       }
 
   -- or there was a stop before the end
-  pub stopped_before : (e : TranscodeError) → IsStopped e r old new → IsStopped e (ended_coded r) old new
+  pub stopped_before : (e : TranscodeError) → IsPartWritten e r old new → IsPartWritten e (ended_coded r) old new
   stopped_before e p = go r.fault refl
     where
-      reason : (e : TranscodeError) → r.fault ≡ None → Stops e r old → Stops e (record {
+      reason : (e : TranscodeError) → r.fault ≡ None → StopsFor e r old → StopsFor e (record {
         bytes = r.bytes ++ encoder_end r.state;
         state = InAscii;
         fault = None;
@@ -107,7 +107,7 @@ module _ {Z : Type 0} (r : Coded) (old mid new : Vec ℕ Z) where
       reason (Unencodable c) n s = absurd cc
       reason Spent n s = s
 
-      go : (z : Option ℕ) → r.fault ≡ z → IsStopped e (ended_coded r) old new
+      go : (z : Option ℕ) → r.fault ≡ z → IsPartWritten e (ended_coded r) old new
       go None h = rw (ended_none r h) (record {
         reason = reason e h p.reason;
         items = record {

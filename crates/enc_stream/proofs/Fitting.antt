@@ -7,8 +7,8 @@ use Rattle.enc_model.specs.declared.Mode.{Mode}
 use Rattle.enc_model.specs.Encode.{Tables, Shift, InAscii, coded, encoder}
 use Rattle.enc_model.specs.Decode.{Decoding, OfUtf8, OfUtf16, OfShiftJis, OfEucJp, OfIso2022, OfSingle, decoding}
 use Rattle.enc_model.specs.Decode.{decoding_start, sniffed, undecided, begins, bom8, bom_be, bom_le}
-use Rattle.enc_model.specs.Transcode.{Transcoder, Phase, Before, During, Over, Fed, fed, stepped}
-use Rattle.enc_stream.specs.StateBytes.{IsFitting, IsInEffect, IsOwn, IsPhaseOf, IsShiftIn, encoding_of}
+use Rattle.enc_model.specs.Transcode.{Transcoder, Phase, Before, During, Over, FedText, fed_text, stepped}
+use Rattle.enc_stream.specs.StateBytes.{IsFitting, IsInEffect, IsOwn, IsPhaseOf, IsShiftIn, decoded_encoding}
 use Rattle.enc_stream.proofs.Fed.{fed_held, fed_sniffed}
 use Rattle.enc_stream.proofs.Shifts.{coded_nothing, coded_in_ascii}
 
@@ -24,8 +24,8 @@ still_own t ended (OfEucJp s) piece own = tt
 still_own t ended (OfIso2022 s) piece own = tt
 still_own t ended (OfSingle e s) piece own = own
 
-still_of : (t : Tables) (ended : Bool) (s : Decoding) (piece : List ℕ) → encoding_of
-    (decoding t ended s piece).state ≡ encoding_of s
+still_of : (t : Tables) (ended : Bool) (s : Decoding) (piece : List ℕ) → decoded_encoding
+    (decoding t ended s piece).state ≡ decoded_encoding s
 unfolding decoding
 still_of t ended (OfUtf8 s) piece = refl
 still_of t ended (OfUtf16 big s) piece = refl
@@ -37,7 +37,7 @@ still_of t ended (OfSingle e s) piece = refl
 start_own : (e : Encoding) → IsOwn (decoding_start e)
 start_own e = search rules
 
-start_of : (e : Encoding) → encoding_of (decoding_start e) ≡ e
+start_of : (e : Encoding) → decoded_encoding (decoding_start e) ≡ e
 start_of e = search rules
 
 abbrev HasInEffect : Encoding → Encoding × List ℕ → Type 0
@@ -54,7 +54,7 @@ sniffed_in_effect from b = go (begins bom8 b) (begins bom_be b) (begins bom_le b
     go false false true = inr (inr (inr refl))
     go false false false = inl refl
 
-during_fits : (t : Tables) (from : Encoding) (s : Decoding) (piece : List ℕ) → IsOwn s → IsInEffect from (encoding_of s)
+during_fits : (t : Tables) (from : Encoding) (s : Decoding) (piece : List ℕ) → IsOwn s → IsInEffect from (decoded_encoding s)
     →
     IsPhaseOf from (During (decoding t false s piece).state)
 during_fits t from s piece own effect =
@@ -63,15 +63,15 @@ during_fits t from s piece own effect =
 -- THE PHASE AND THE ENCODER
 
 -- what a piece leads to
-abbrev Leads : Tables → Encoding → Encoding → Mode → Shift → Fed → Type 0
+abbrev Leads : Tables → Encoding → Encoding → Mode → Shift → FedText → Type 0
 Leads t from to mode shift r =
     IsPhaseOf from r.phase × IsShiftIn r.phase to (coded (encoder t to) mode shift r.text).state
 
 before_leads : (t : Tables) (from to : Encoding) (mode : Mode) (shift : Shift) (held piece : List ℕ) → shift ≡ InAscii →
-    Leads t from to mode shift (fed t from (Before held) piece)
+    Leads t from to mode shift (fed_text t from (Before held) piece)
 before_leads t from to mode shift held piece ascii = go (undecided (held ++ piece)) refl
   where
-    go : (u : Bool) → undecided (held ++ piece) ≡ u → Leads t from to mode shift (fed t from (Before held) piece)
+    go : (u : Bool) → undecided (held ++ piece) ≡ u → Leads t from to mode shift (fed_text t from (Before held) piece)
     go true h = rw (fed_held t from held piece h) (h, coded_nothing (encoder t to) mode shift ∙ ascii)
     go false h =
         let in_effect = (sniffed from (held ++ piece)).0 in
@@ -85,8 +85,8 @@ before_leads t from to mode shift held piece ascii = go (undecided (held ++ piec
 
 leads : (t : Tables) (from to : Encoding) (mode : Mode) (phase : Phase) (shift : Shift) (piece : List ℕ)
     → IsPhaseOf from phase → IsShiftIn phase to shift →
-    Leads t from to mode shift (fed t from phase piece)
-unfolding fed
+    Leads t from to mode shift (fed_text t from phase piece)
+unfolding fed_text
 leads t from to mode (Before held) shift piece p q = before_leads t from to mode shift held piece q
 leads t from to mode (During s) shift piece p q =
     (during_fits t from s piece p.0 p.1, coded_in_ascii t to mode shift (decoding t false s piece).text q)

@@ -2,15 +2,15 @@
 use Rattle.std.proofs.Common.{ℕ, ◌≡◌, true, List, ◌++◌, None, sym, ◌∙◌, ap, append_assoc}
 use Rattle.enc_model.specs.Encode.{Tables}
 use Rattle.enc_model.specs.Decode.{text}
-use Rattle.enc_model.specs.Transcode.{Transcoder, IsAt, stepped, added, added_end, so_far}
+use Rattle.enc_model.specs.Transcode.{Transcoder, IsStateAt, stepped, added, added_end, so_far}
 use Rattle.enc_model.proofs.Transcoding.{text_added, at_next}
 use Rattle.enc_stream.proofs.Ends.{text_ended}
 
 -- what is at hand grows from the text so far to the text with the piece
 pub grows : (t : Tables) (s next : Transcoder) (piece old new : List ℕ) → next ≡ stepped t s piece
     → (added t s piece).fault ≡ None → new ≡ old ++ (added t s piece).bytes →
-    (b : List ℕ) → IsAt t s b →
-    IsAt t next (b ++ piece) × ((before : List ℕ) → old ≡ before ++ (so_far t s b).bytes
+    (b : List ℕ) → IsStateAt t s b →
+    IsStateAt t next (b ++ piece) × ((before : List ℕ) → old ≡ before ++ (so_far t s b).bytes
     → new ≡ before ++ (so_far t s (b ++ piece)).bytes)
 grows t s next piece old new step ok out b here = (
   rw step (at_next t s b piece here ok),
@@ -22,7 +22,7 @@ grows t s next piece old new step ok out b here = (
 -- and to the text with the end
 pub grows_end : (t : Tables) (s : Transcoder) (old new : List ℕ) → (added_end t s).fault ≡ None
     → new ≡ old ++ (added_end t s).bytes →
-    (b : List ℕ) → IsAt t s b →
+    (b : List ℕ) → IsStateAt t s b →
     ((text t s.from s.to s.mode b true).fault ≡ None) × ((before : List ℕ) → old ≡ before ++ (so_far t s b).bytes
     → new ≡ before ++ (text t s.from s.to s.mode b true).bytes)
 grows_end t s old new ok out b here =

@@ -9,11 +9,11 @@ use Rattle.enc_model.specs.Indexes.{tables}
 use Rattle.enc_stream.specs.declared.error.TranscodeError.{TranscodeError}
 use Rattle.enc_stream.specs.declared.error.TranscodeError.TheVariants.{NoMemory, Unencodable, Spent}
 use Rattle.enc_stream.specs.Errors.{error_of}
-use Rattle.enc_stream.specs.Standing.{Standing, spent_by, Stops, IsStopped, IsWritten, Answers}
+use Rattle.enc_stream.specs.TranscoderState.{TranscoderState, spent_by, StopsFor, IsPartWritten, IsAllWritten, RefusedAs}
 
 -- what a sink took
 pub sink_wrote : (a b : SinkState) (x : List ℕ) → SinkTook a x b →
-    IsWritten (code_from (tables a.set) a.encoder x) a.out
+    IsAllWritten (code_from (tables a.set) a.encoder x) a.out
     b.out × (b.encoder ≡ shifted a.encoder (code_from (tables a.set) a.encoder x).state)
 sink_wrote a b x p = (
   record { fault = p.took.fault; items = p.took.out },
@@ -25,21 +25,21 @@ sink_wrote a b x p = (
 )
 
 stops : (a b : SinkState) (x : List ℕ) (e : EncodeError) → SinkRefused a x e b
-    → Stops (error_of e) (code_from (tables a.set) a.encoder x) a.out
+    → StopsFor (error_of e) (code_from (tables a.set) a.encoder x) a.out
 stops a b x encode.NoMemory p = p.memory refl
 stops a b x (encode.Unencodable c) p = p.refused.reason
 
 -- what it refused
 pub sink_stopped : (a b : SinkState) (x : List ℕ) (e : EncodeError) → SinkRefused a x e b
-    → IsStopped (error_of e) (code_from (tables a.set) a.encoder x) a.out b.out
+    → IsPartWritten (error_of e) (code_from (tables a.set) a.encoder x) a.out b.out
 sink_stopped a b x e p = record {
   reason = stops a b x e p;
   items = record { prefix = p.refused.prefix; rest = p.refused.rest; parts = p.refused.parts; out = p.refused.out };
 }
 
-pub stopped_answers : {Z : Type 0} (e : TranscodeError) (code : Coded) (old new : Vec ℕ Z) (before after : Standing)
-    → IsStopped e code old new → after ≡ spent_by before →
-    Answers e code old new before after
+pub stopped_answers : {Z : Type 0} (e : TranscodeError) (code : Coded) (old new : Vec ℕ Z) (before after : TranscoderState)
+    → IsPartWritten e code old new → after ≡ spent_by before →
+    RefusedAs e code old new before after
 stopped_answers NoMemory code old new before after p s = (p, s)
 stopped_answers (Unencodable c) code old new before after p s = (p, s)
 stopped_answers Spent code old new before after p s = absurd p.reason

@@ -2,6 +2,6 @@ pub mod AnyDecoder
 pub mod Errors
 pub mod Sniff
 pub mod Stage
-pub mod Standing
+pub mod TranscoderState
 pub mod StateBytes
 pub mod Progress

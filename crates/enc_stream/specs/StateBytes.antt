@@ -21,12 +21,12 @@ use Rattle.enc_model.specs.Japanese.{introducer_byte}
 use Rattle.enc_model.specs.Encode.{Shift, InAscii, InRoman, InJis}
 use Rattle.enc_model.specs.Decode.{Decoding, OfUtf8, OfUtf16, OfShiftJis, OfEucJp, OfIso2022, OfSingle, undecided}
 use Rattle.enc_model.specs.Transcode.{Transcoder, Phase, Before, During, Over}
-use Rattle.enc_unicode.specs.Utf8State.{IsAfter}
+use Rattle.enc_unicode.specs.Utf8State.{IsUnfinishedState}
 use Rattle.lane_kernels.specs.Units.{IsCarried}
 use Rattle.enc_legacy.specs.ShiftJis.{IsShiftJisState}
 use Rattle.enc_legacy.specs.EucJpState.{IsEucJpState}
-use Rattle.enc_legacy.specs.Iso2022State.{IsStand}
-use Rattle.enc_stream.specs.Standing.{Standing, IsOutput}
+use Rattle.enc_legacy.specs.Iso2022State.{IsIso2022State}
+use Rattle.enc_stream.specs.TranscoderState.{TranscoderState, IsOutput}
 
 -- Numbers.
 
@@ -112,7 +112,7 @@ place_lead (Escape lead) = introducer_byte lead
 
 -- The state of a decoder, without zeros at the end.
 abbrev pub decoder_bytes : Decoding → List ℕ
-decoder_bytes (OfUtf8 s) = counted s.kept
+decoder_bytes (OfUtf8 s) = counted s.partial
 decoder_bytes (OfUtf16 big s) = utf16_bytes s.byte s.lead
 decoder_bytes (OfShiftJis lead) = lead ∷ []
 decoder_bytes (OfEucJp s) = s.lead ∷ flag_number s.flag ∷ []
@@ -121,20 +121,20 @@ decoder_bytes (OfIso2022 s) =
 decoder_bytes (OfSingle e s) = []
 
 -- The encoding that a decoder decodes.
-abbrev pub encoding_of : Decoding → Encoding
-encoding_of (OfUtf8 s) = Utf8
-encoding_of (OfUtf16 big s) = if big then Utf16Be else Utf16Le
-encoding_of (OfShiftJis lead) = ShiftJis
-encoding_of (OfEucJp s) = EucJp
-encoding_of (OfIso2022 s) = Iso2022Jp
-encoding_of (OfSingle e s) = e
+abbrev pub decoded_encoding : Decoding → Encoding
+decoded_encoding (OfUtf8 s) = Utf8
+decoded_encoding (OfUtf16 big s) = if big then Utf16Be else Utf16Le
+decoded_encoding (OfShiftJis lead) = ShiftJis
+decoded_encoding (OfEucJp s) = EucJp
+decoded_encoding (OfIso2022 s) = Iso2022Jp
+decoded_encoding (OfSingle e s) = e
 
 -- The bytes.
 
 -- The state of a phase.
 abbrev pub phase_bytes : Phase → List ℕ
 phase_bytes (Before held) = counted held
-phase_bytes (During s) = encoding_number (encoding_of s) ∷ decoder_bytes s
+phase_bytes (During s) = encoding_number (decoded_encoding s) ∷ decoder_bytes s
 phase_bytes Over = []
 
 -- The bytes, filled with zeros up to n.
@@ -156,24 +156,24 @@ abbrev pub IsInEffect : Encoding → Encoding → Type 0
 IsInEffect from e = (e ≡ from) ⊎ ((e ≡ Utf8) ⊎ ((e ≡ Utf16Be) ⊎ (e ≡ Utf16Le)))
 
 -- A single-byte encoding.
-abbrev pub IsSingle : Encoding → Type 0
-IsSingle Utf8 = ⊥
-IsSingle Utf16Be = ⊥
-IsSingle Utf16Le = ⊥
-IsSingle ShiftJis = ⊥
-IsSingle EucJp = ⊥
-IsSingle Iso2022Jp = ⊥
-IsSingle _ = Unit {0}
+abbrev pub IsSingleByteEncoding : Encoding → Type 0
+IsSingleByteEncoding Utf8 = ⊥
+IsSingleByteEncoding Utf16Be = ⊥
+IsSingleByteEncoding Utf16Le = ⊥
+IsSingleByteEncoding ShiftJis = ⊥
+IsSingleByteEncoding EucJp = ⊥
+IsSingleByteEncoding Iso2022Jp = ⊥
+IsSingleByteEncoding _ = Unit {0}
 
 -- A decoder without a state belongs to a single-byte encoding.
 abbrev pub IsOwn : Decoding → Type 0
-IsOwn (OfSingle e s) = IsSingle e
+IsOwn (OfSingle e s) = IsSingleByteEncoding e
 IsOwn _ = Unit {0}
 
 -- The held bytes may become a BOM, and the decoder is the one of the encoding in effect.
 abbrev pub IsPhaseOf : Encoding → Phase → Type 0
 IsPhaseOf from (Before held) = undecided held ≡ true
-IsPhaseOf from (During s) = IsOwn s × IsInEffect from (encoding_of s)
+IsPhaseOf from (During s) = IsOwn s × IsInEffect from (decoded_encoding s)
 IsPhaseOf from Over = Unit {0}
 
 -- The encoder leaves ASCII only while text is encoded in ISO-2022-JP.
@@ -195,11 +195,11 @@ IsByte (Some b) = b < 256
 
 -- The decoder can be in this state.
 abbrev pub IsReached : Decoding → Type 0
-IsReached (OfUtf8 s) = IsAfter s × (length s.kept ≤ 3)
+IsReached (OfUtf8 s) = IsUnfinishedState s × (length s.partial ≤ 3)
 IsReached (OfUtf16 big s) = IsByte s.byte × IsCarried s.lead
 IsReached (OfShiftJis lead) = IsShiftJisState lead
 IsReached (OfEucJp s) = IsEucJpState s.lead s.flag
-IsReached (OfIso2022 s) = IsStand s.place s.output s.flag
+IsReached (OfIso2022 s) = IsIso2022State s.place s.output s.flag
 IsReached (OfSingle e s) = Unit {0}
 
 -- The decoder of the phase can be in its state.
@@ -208,10 +208,10 @@ IsReachedIn (During s) = IsReached s
 IsReachedIn _ = Unit {0}
 
 -- The states that `pack` encodes and `unpack` decodes.
-pub record IsValid (s : Transcoder) : Type 0 where
+pub record IsValidState (s : Transcoder) : Type 0 where
   pub fitting : IsFitting s
   pub reached : IsReachedIn s.phase
 
 -- A transcoder that isn't spent.
-abbrev pub standing : Transcoder → Standing
-standing s = record { transcoder = s; spent = false }
+abbrev pub transcoder_state : Transcoder → TranscoderState
+transcoder_state s = record { transcoder = s; spent = false }

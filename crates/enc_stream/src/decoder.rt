@@ -5,7 +5,7 @@ ghost use Rattle.enc_model.specs.Decode.{Decoding, decoding, decoding_start};
 ghost use Rattle.enc_model.specs.Indexes.{tables};
 ghost use Rattle.enc_feed.specs.Sink.{Given};
 ghost use Rattle.enc_stream.specs.AnyDecoder.{decoding_of};
-ghost use Rattle.enc_stream.specs.StateBytes.{IsOwn, IsReached, encoding_of, decoder_bytes, padded};
+ghost use Rattle.enc_stream.specs.StateBytes.{IsOwn, IsReached, decoded_encoding, decoder_bytes, padded};
 
 use crate::states::{
     euc_jp_at, euc_jp_bytes, iso2022_at, iso2022_bytes, shift_jis_at, utf8_at, utf8_bytes,
@@ -99,7 +99,7 @@ impl AnyDecoder {
 
     /// The encoding that it decodes.
     pub fn encoding(&self) -> Encoding
-        ensures { result ≡ encoding_of (decoding_of self.now) }
+        ensures { result ≡ decoded_encoding (decoding_of self.now) }
     {
         match self {
             AnyDecoder::Utf8(_) => Encoding::Utf8,
@@ -132,8 +132,8 @@ impl AnyDecoder {
     /// The decoder with this state. Bytes that no decoder packs may be taken for another state's; `Transcoder::unpack`
     /// compares.
     pub fn unpack(encoding: Encoding, bytes: [u8; 4]) -> Option<Self>
-        ensures encoding { IfSome result (λ d. IsOwn (decoding_of d) × (encoding_of (decoding_of d) ≡ encoding)) }
-        ensures same { (s : Decoding) → IsOwn s → IsReached s → encoding_of s ≡ encoding
+        ensures encoding { IfSome result (λ d. IsOwn (decoding_of d) × (decoded_encoding (decoding_of d) ≡ encoding)) }
+        ensures same { (s : Decoding) → IsOwn s → IsReached s → decoded_encoding s ≡ encoding
             → padded 4 (decoder_bytes s) ≡ bytes → MatchOption result ⊥ (λ d. decoding_of d ≡ s) }
     {
         Some(match encoding {

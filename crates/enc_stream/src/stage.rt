@@ -4,7 +4,7 @@ ghost use Rattle.std.specs.Prelude.{◌≡◌, ◌++◌, ◌↔◌, IfOk, IsTrue
 ghost use Rattle.enc_model.specs.Decode.{decoding, decoding_start};
 ghost use Rattle.enc_model.specs.Indexes.{tables};
 ghost use Rattle.enc_feed.specs.Sink.{Given};
-ghost use Rattle.enc_model.specs.Transcode.{Before, fed, fed_end};
+ghost use Rattle.enc_model.specs.Transcode.{Before, fed_text, fed_end};
 ghost use Rattle.enc_stream.specs.AnyDecoder.{decoding_of};
 ghost use Rattle.enc_stream.specs.Sniff.{held_bytes, Sniffs};
 ghost use Rattle.enc_stream.specs.Stage.{phase_at, is_done_at, is_spent_at};
@@ -91,13 +91,13 @@ impl Stage {
 
     /// The stage of this phase with this state. Bytes that no stage packs may be taken for another's;
     /// `Transcoder::unpack` compares.
-    pub fn unpack(from: Encoding, phase: u8, kept: [u8; 5]) -> Option<Self>
+    pub fn unpack(from: Encoding, phase: u8, partial: [u8; 5]) -> Option<Self>
         ensures fits { IfSome result (λ stage. IsPhaseOf from (phase_at stage) × (is_spent_at stage ≡ false)) }
         ensures same { (p : Phase) → IsPhaseOf from p → IsReachedIn p → phase_number p ≡ phase
-            → padded 5 (phase_bytes p) ≡ kept
+            → padded 5 (phase_bytes p) ≡ partial
             → MatchOption result ⊥ (λ stage. phase_at stage ≡ p) }
     {
-        let [first, second, third, fourth, fifth] = kept;
+        let [first, second, third, fourth, fifth] = partial;
         match phase {
             0 => Some(Stage::Before(held_at(first, second, third)?)),
             1 => {
@@ -170,9 +170,9 @@ fn decide<S: Sink>(
     sink: &mut S,
 ) -> Result<Stage, S::Refusal>
     ensures given { Given S.takes S.refuses sink.old
-        (fed (tables set.now) from (Before (held_bytes held)) piece.now).text sink.new result }
+        (fed_text (tables set.now) from (Before (held_bytes held)) piece.now).text sink.new result }
     ensures phase { IfOk result
-        (λ stage. (phase_at stage ≡ (fed (tables set.now) from (Before (held_bytes held)) piece.now).phase) ×
+        (λ stage. (phase_at stage ≡ (fed_text (tables set.now) from (Before (held_bytes held)) piece.now).phase) ×
         (is_spent_at stage ≡ false)) }
 {
     match sniff(held, piece) {
@@ -189,7 +189,7 @@ fn decide<S: Sink>(
 }
 
 /// Decodes a piece. The stage is neither `Over` nor `Spent`.
-#[tactic(auto, unfolding(enc_model::specs::Transcode::fed))]
+#[tactic(auto, unfolding(enc_model::specs::Transcode::fed_text))]
 pub fn go_on<S: Sink>(
     stage: Stage,
     from: Encoding,
@@ -198,10 +198,10 @@ pub fn go_on<S: Sink>(
     sink: &mut S,
 ) -> Result<Stage, S::Refusal>
     requires { is_done_at stage ≡ false }
-    ensures given { Given S.takes S.refuses sink.old (fed (tables set.now) from (phase_at stage) piece.now).text
+    ensures given { Given S.takes S.refuses sink.old (fed_text (tables set.now) from (phase_at stage) piece.now).text
         sink.new result }
     ensures phase { IfOk result
-        (λ next. (phase_at next ≡ (fed (tables set.now) from (phase_at stage) piece.now).phase) × (is_spent_at
+        (λ next. (phase_at next ≡ (fed_text (tables set.now) from (phase_at stage) piece.now).phase) × (is_spent_at
         next ≡ false)) }
 {
     match stage {

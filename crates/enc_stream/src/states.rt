@@ -19,7 +19,7 @@ pub fn utf8_bytes(state: &Utf8State) -> [u8; 4]
     ensures bytes { result ≡ padded 4 (decoder_bytes (OfUtf8 state.now)) }
     ensures reached { IsReached (OfUtf8 state.now) }
 {
-    match state.kept() {
+    match state.partial() {
         [] => [0; 4],
         [first] => [1, *first, 0, 0],
         [first, second] => [2, *first, *second, 0],
@@ -61,9 +61,9 @@ pub fn utf16_at(order: Order, bytes: [u8; 4]) -> Option<Utf16State>
         (decoder_bytes (OfUtf16 (is_big order) s)) ≡ bytes → result ≡ Some (record { big = is_big order; state = s }) }
     ensures order { IfSome result (λ s. s.big ≡ is_big order) }
 {
-    let [kept, byte, high, low] = bytes;
+    let [partial, byte, high, low] = bytes;
     let lead = high as u16 * 256 + low as u16;
-    let (byte, lead) = match kept {
+    let (byte, lead) = match partial {
         0 => (None, None),
         1 => (Some(byte), None),
         2 => (None, Some(lead)),
@@ -71,7 +71,7 @@ pub fn utf16_at(order: Order, bytes: [u8; 4]) -> Option<Utf16State>
         _ => return None,
     };
     match lead {
-        None | Some(0xD800..=0xDBFF) => Some(Utf16State::keeping(order, byte, lead)),
+        None | Some(0xD800..=0xDBFF) => Some(Utf16State::in_state(order, byte, lead)),
         Some(_) => None,
     }
 }
@@ -81,7 +81,7 @@ pub fn shift_jis_at(lead: u8) -> Option<ShiftJisState>
     ensures { IsShiftJisState lead → result ≡ Some lead }
 {
     match lead {
-        0 | 0x81..=0x9F | 0xE0..=0xFC => Some(ShiftJisState::keeping(lead)),
+        0 | 0x81..=0x9F | 0xE0..=0xFC => Some(ShiftJisState::in_state(lead)),
         _ => None,
     }
 }
@@ -91,7 +91,7 @@ pub fn euc_jp_bytes(state: &EucJpState) -> [u8; 4]
     ensures bytes { result ≡ padded 4 (decoder_bytes (OfEucJp state.now)) }
     ensures reached { IsReached (OfEucJp state.now) }
 {
-    let (lead, flag) = state.kept();
+    let (lead, flag) = state.partial();
     [lead, flag as u8, 0, 0]
 }
 
@@ -101,8 +101,8 @@ pub fn euc_jp_at(lead: u8, flag: u8) -> Option<EucJpState>
         → result ≡ Some s }
 {
     match (lead, flag) {
-        (0 | 0x8E | 0x8F, 0) => Some(EucJpState::keeping(lead, false)),
-        (0xA1..=0xFE, 0 | 1) => Some(EucJpState::keeping(lead, flag == 1)),
+        (0 | 0x8E | 0x8F, 0) => Some(EucJpState::in_state(lead, false)),
+        (0xA1..=0xFE, 0 | 1) => Some(EucJpState::in_state(lead, flag == 1)),
         _ => None,
     }
 }
@@ -112,7 +112,7 @@ pub fn iso2022_bytes(state: &Iso2022State) -> [u8; 4]
     ensures bytes { result ≡ padded 4 (decoder_bytes (OfIso2022 state.now)) }
     ensures reached { IsReached (OfIso2022 state.now) }
 {
-    let (place, output, flag) = state.stand();
+    let (place, output, flag) = state.parts();
     let (place, lead) = match place {
         Place::In(set) => (number_of_charset(set), 0),
         Place::Trail(lead) => (4, lead),
@@ -138,5 +138,5 @@ pub fn iso2022_at(bytes: [u8; 4]) -> Option<Iso2022State>
         (6, 0x28) => Place::Escape(Introducer::Paren),
         _ => return None,
     };
-    Some(Iso2022State::standing(place, output, flag == 1))
+    Some(Iso2022State::transcoder_state(place, output, flag == 1))
 }

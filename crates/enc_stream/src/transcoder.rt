@@ -5,12 +5,12 @@ ghost use Rattle.std.specs.Prelude.{MatchOption, IsErrOf, IsTrue, ◌↔◌};
 ghost use Rattle.enc_model.specs.Decode.{text as text_of};
 ghost use Rattle.enc_model.specs.Encode.{Tables};
 ghost use Rattle.enc_model.specs.Indexes.{tables};
-ghost use Rattle.enc_model.specs.Transcode.{Transcoder as State, IsAt, added, added_end, so_far};
+ghost use Rattle.enc_model.specs.Transcode.{Transcoder as State, IsStateAt, added, added_end, so_far};
 ghost use Rattle.enc_encode.specs.State.{EncoderState};
 ghost use Rattle.enc_stream.specs.Progress.{progress_of};
 ghost use Rattle.enc_stream.specs.Stage.{phase_at};
-ghost use Rattle.enc_stream.specs.Standing.{is_done, start, stepped_on, finished, IsOutput, Answers};
-ghost use Rattle.enc_stream.specs.StateBytes.{IsShiftIn, IsValid, encoding_number, mode_number, shift_number, standing};
+ghost use Rattle.enc_stream.specs.TranscoderState.{is_done, start, stepped_on, ended_state, IsOutput, RefusedAs};
+ghost use Rattle.enc_stream.specs.StateBytes.{IsShiftIn, IsValidState, encoding_number, mode_number, shift_number, transcoder_state};
 ghost use Rattle.enc_stream.specs.StateBytes.{state_bytes};
 
 use crate::error::TranscodeError;
@@ -51,9 +51,9 @@ pub struct Transcoder {
 }
 
 impl Model for Transcoder {
-    ghost use Rattle.enc_stream.specs.Standing.{Standing};
+    ghost use Rattle.enc_stream.specs.TranscoderState.{TranscoderState};
 
-    ghost Value = { Standing };
+    ghost Value = { TranscoderState };
 
     ghost use Rattle.enc_stream.specs.Stage.{phase_at, is_spent_at};
 
@@ -110,7 +110,7 @@ impl Transcoder {
     pub fn new(from: Encoding, to: Encoding, mode: Mode) -> Self
         requires { IsOutput to }
         ensures value { result ≡ start from to mode }
-        ensures nothing_read { (t : Tables) → IsAt t result.transcoder [] }
+        ensures nothing_read { (t : Tables) → IsStateAt t result.transcoder [] }
     {
         Transcoder {
             from,
@@ -123,7 +123,7 @@ impl Transcoder {
     /// it.
     pub fn ended(from: Encoding, to: Encoding, mode: Mode) -> Self
         requires { IsOutput to }
-        ensures { result ≡ finished (start from to mode) }
+        ensures { result ≡ ended_state (start from to mode) }
     {
         let encoder = Encoder::new(to, mode);
         Transcoder {
@@ -204,7 +204,7 @@ impl Transcoder {
     pub fn pack(&self) -> [u8; 32]
         requires { self.now.spent ≡ false }
         ensures bytes { result ≡ state_bytes self.now.transcoder }
-        ensures valid { IsValid self.now.transcoder }
+        ensures valid { IsValidState self.now.transcoder }
     {
         let [first, second, third, fourth, fifth] = self.stage.pack();
         let mut bytes = [0; 32];
@@ -224,7 +224,7 @@ impl Transcoder {
     /// The transcoder with these state bytes. Bytes of no state may be taken for another's.
     fn read(bytes: &[u8; 32]) -> Option<Self>
         ensures ready { IfSome result (λ t. t.spent ≡ false) }
-        ensures same { (s : State) → IsValid s → state_bytes s ≡ bytes.now → result ≡ Some (standing s) }
+        ensures same { (s : State) → IsValidState s → state_bytes s ≡ bytes.now → result ≡ Some (transcoder_state s) }
     {
         let [
             from,
@@ -253,9 +253,9 @@ impl Transcoder {
 
     /// The transcoder with these state bytes, or None if no transcoder has them. Each state has exactly one spelling.
     pub fn unpack(bytes: &[u8; 32]) -> Option<Self>
-        ensures unpacked { MatchOption result ((s : State) → IsValid s → state_bytes s ≢ bytes.now)
-            (λ t. (t.spent ≡ false) × IsValid t.transcoder × (state_bytes t.transcoder ≡ bytes.now)) }
-        ensures only { (s : State) → IsValid s → state_bytes s ≡ bytes.now → result ≡ Some (standing s) }
+        ensures unpacked { MatchOption result ((s : State) → IsValidState s → state_bytes s ≢ bytes.now)
+            (λ t. (t.spent ≡ false) × IsValidState t.transcoder × (state_bytes t.transcoder ≡ bytes.now)) }
+        ensures only { (s : State) → IsValidState s → state_bytes s ≡ bytes.now → result ≡ Some (transcoder_state s) }
     {
         let transcoder = Self::read(bytes)?;
         if transcoder.pack() == *bytes {
@@ -284,12 +284,12 @@ impl Transcoder {
             (out.new.items ≡ out.old.items ++ (added (tables set.now) self.old.transcoder piece.now).bytes) }
         ensures no_fault { OnOk result ((added (tables set.now) self.old.transcoder piece.now).fault ≡ None) }
         ensures next { OnOk result (self.new ≡ stepped_on (tables set.now) self.old piece.now) }
-        ensures text { (b : List ℕ) → IsAt (tables set.now) self.old.transcoder b → OnOk result
-            (IsAt (tables set.now) self.new.transcoder (b ++ piece.now)
+        ensures text { (b : List ℕ) → IsStateAt (tables set.now) self.old.transcoder b → OnOk result
+            (IsStateAt (tables set.now) self.new.transcoder (b ++ piece.now)
             × ((before : List ℕ) → out.old.items ≡ before ++ (so_far (tables set.now) self.old.transcoder b).bytes
             → out.new.items ≡ before ++ (so_far (tables set.now) self.old.transcoder (b ++ piece.now)).bytes)) }
         ensures refused { IfErr result
-            (λ e. Answers e (added (tables set.now) self.old.transcoder piece.now) out.old out.new self.old self.new) }
+            (λ e. RefusedAs e (added (tables set.now) self.old.transcoder piece.now) out.old out.new self.old self.new) }
     {
         if self.is_done() {
             return Err(TranscodeError::Spent);
@@ -311,15 +311,15 @@ impl Transcoder {
         ensures added { OnOk result
             (out.new.items ≡ out.old.items ++ (added_end (tables set.now) self.old.transcoder).bytes) }
         ensures no_fault { OnOk result ((added_end (tables set.now) self.old.transcoder).fault ≡ None) }
-        ensures over { OnOk result (self.new ≡ finished self.old) }
-        ensures text { (b : List ℕ) → IsAt (tables set.now) self.old.transcoder b → OnOk result
+        ensures over { OnOk result (self.new ≡ ended_state self.old) }
+        ensures text { (b : List ℕ) → IsStateAt (tables set.now) self.old.transcoder b → OnOk result
             (((text_of (tables set.now) self.old.transcoder.from self.old.transcoder.to self.old.transcoder.mode b
             true).fault ≡ None)
             × ((before : List ℕ) → out.old.items ≡ before ++ (so_far (tables set.now) self.old.transcoder b).bytes
             → out.new.items ≡ before ++ (text_of (tables set.now) self.old.transcoder.from self.old.transcoder.to
             self.old.transcoder.mode b true).bytes)) }
         ensures refused { IfErr result
-            (λ e. Answers e (added_end (tables set.now) self.old.transcoder) out.old out.new self.old self.new) }
+            (λ e. RefusedAs e (added_end (tables set.now) self.old.transcoder) out.old out.new self.old self.new) }
     {
         if self.is_done() {
             return Err(TranscodeError::Spent);

@@ -4,9 +4,9 @@ ghost use Rattle.std.specs.Prelude.{◌≡◌, ◌<◌, ◌≤◌, false, OnOk, 
 ghost use Rattle.enc_encode.specs.State.{shifted, code_from};
 ghost use Rattle.enc_model.specs.Encode.{InAscii, ended_coded};
 ghost use Rattle.enc_model.specs.Indexes.{tables};
-ghost use Rattle.enc_model.specs.Transcode.{fed, fed_end};
+ghost use Rattle.enc_model.specs.Transcode.{fed_text, fed_end};
 ghost use Rattle.enc_stream.specs.Stage.{phase_at, is_done_at, is_spent_at};
-ghost use Rattle.enc_stream.specs.Standing.{IsStopped, IsWritten};
+ghost use Rattle.enc_stream.specs.TranscoderState.{IsPartWritten, IsAllWritten};
 
 use crate::error::TranscodeError;
 use crate::stage::{Stage, conclude, go_on};
@@ -28,14 +28,14 @@ pub fn transcode(
 ) -> Result<(Stage, Encoder), TranscodeError>
     requires { is_done_at stage ≡ false }
     ensures written { let code = code_from (tables set.now) encoder
-        (fed (tables set.now) from (phase_at stage) piece.now).text in
-        IfOk result (λ next. IsWritten code out.old out.new × (next.1 ≡ shifted encoder code.state)) }
+        (fed_text (tables set.now) from (phase_at stage) piece.now).text in
+        IfOk result (λ next. IsAllWritten code out.old out.new × (next.1 ≡ shifted encoder code.state)) }
     ensures phase { IfOk result
-        (λ next. (phase_at next.0 ≡ (fed (tables set.now) from (phase_at stage) piece.now).phase) × (is_spent_at
+        (λ next. (phase_at next.0 ≡ (fed_text (tables set.now) from (phase_at stage) piece.now).phase) × (is_spent_at
         next.0 ≡ false)) }
     ensures stopped { IfErr result
-        (λ e. IsStopped e (code_from (tables set.now) encoder
-        (fed (tables set.now) from (phase_at stage) piece.now).text) out.old out.new) }
+        (λ e. IsPartWritten e (code_from (tables set.now) encoder
+        (fed_text (tables set.now) from (phase_at stage) piece.now).text) out.old out.new) }
 {
     let alloc = *out.allocator();
     let bytes = mem::replace(out, Vec::new(alloc));
@@ -57,10 +57,10 @@ fn transcode_end(
 ) -> Result<Encoder, TranscodeError>
     requires { is_done_at stage ≡ false }
     ensures written { let code = code_from (tables set.now) encoder (fed_end (tables set.now) from (phase_at stage)) in
-        IfOk result (λ next. IsWritten code out.old out.new × (next ≡ shifted encoder code.state)) }
+        IfOk result (λ next. IsAllWritten code out.old out.new × (next ≡ shifted encoder code.state)) }
     ensures capacity { OnOk result (vec_capacity out.old ≤ vec_capacity out.new) }
     ensures stopped { IfErr result
-        (λ e. IsStopped e (code_from (tables set.now) encoder (fed_end (tables set.now) from (phase_at stage))) out.old
+        (λ e. IsPartWritten e (code_from (tables set.now) encoder (fed_end (tables set.now) from (phase_at stage))) out.old
         out.new) }
 {
     let alloc = *out.allocator();
@@ -85,9 +85,9 @@ pub fn write_end(
     requires { is_done_at stage ≡ false }
     ensures written { let code = ended_coded
         (code_from (tables set.now) encoder (fed_end (tables set.now) from (phase_at stage))) in
-        IfOk result (λ next. IsWritten code out.old out.new × (next ≡ shifted encoder InAscii)) }
+        IfOk result (λ next. IsAllWritten code out.old out.new × (next ≡ shifted encoder InAscii)) }
     ensures stopped { IfErr result
-        (λ e. IsStopped e (ended_coded
+        (λ e. IsPartWritten e (ended_coded
         (code_from (tables set.now) encoder (fed_end (tables set.now) from (phase_at stage)))) out.old out.new) }
 {
     let mut encoder = transcode_end(stage, from, encoder, set, out)?;

@@ -3,7 +3,7 @@
 ghost use Rattle.std.specs.Prelude.{◌≤◌};
 
 use lane_kernels::{
-    Order, Pairing, Step, ascii_front, narrow, plain_front_2022, range_front, scalar_front,
+    Order, Pairing, Step, ascii_prefix, narrow, plain_prefix_2022, range_prefix, scalar_prefix,
 };
 use std::process::Abort;
 
@@ -47,12 +47,12 @@ fn prefixes(rt: HostRuntime) {
             for length in 0..201 {
                 let prefix = &bytes[..length];
                 assert_eq!(rt;
-                    ascii_front(prefix),
+                    ascii_prefix(prefix),
                     slow_prefix(prefix, &[]),
                     "of {length}"
                 );
                 assert_eq!(rt;
-                    plain_front_2022(prefix),
+                    plain_prefix_2022(prefix),
                     slow_prefix(prefix, &[0x0E, 0x0F, 0x1B]),
                     "of {length}"
                 );
@@ -79,7 +79,7 @@ fn ranges(rt: HostRuntime) {
             for length in 0..201 {
                 let prefix = &bytes[..length];
                 assert!(rt;
-                    range_front(prefix, lo, hi) == slow_range(prefix, lo, hi),
+                    range_prefix(prefix, lo, hi) == slow_range(prefix, lo, hi),
                     "{lo:X} to {hi:X}, {stop:X} at {place} of {length}"
                 );
             }
@@ -301,7 +301,7 @@ fn prefixes_of_scalars(rt: HostRuntime) {
         ] {
             let mut units = [0xE000; 32];
             units[place] = unit;
-            assert!(rt; scalar_front(&units) == prefix, "{unit:X} at {place}");
+            assert!(rt; scalar_prefix(&units) == prefix, "{unit:X} at {place}");
         }
     }
 }

@@ -4,21 +4,21 @@ use Rattle.std.proofs.Common.{take, length, arith}
 use Rattle.std.proofs.lemmas.List.{length-take}
 use Rattle.std.specs.Str.{IsUtf8, chars}
 use Rattle.enc_feed.specs.Batches.{BatchTook}
-use Rattle.enc_model.specs.Stream.{Run, steps}
+use Rattle.enc_model.specs.Stream.{DecoderRun, steps}
 use Rattle.enc_feed.specs.Sink.{IsSink}
 use Rattle.enc_model.specs.Utf8.{Utf8, utf8, utf8_start}
 use Rattle.enc_model.proofs.Texts.{utf8_text}
 use Rattle.enc_unicode.specs.Utf8State.{IsUtf8State}
 
 -- where no byte is needed it stands at a character's start
-pub at_start : (needed lower upper point current : ℕ) (kept : List ℕ) (s : Utf8) → ◌≡◌ {A = Utf8} (record {
+pub at_start : (needed lower upper point current : ℕ) (partial : List ℕ) (s : Utf8) → ◌≡◌ {A = Utf8} (record {
   needed = needed;
   lower = lower;
   upper = upper;
   point = point;
-  kept = take current kept;
+  partial = take current partial;
 }) s → IsUtf8State needed lower upper point current → needed ≡ 0 → s ≡ utf8_start
-at_start needed lower upper point current kept s view is none =
+at_start needed lower upper point current partial s view is none =
     let p = is.none none in sym view ∙ (rw (none, p.0, p.1, p.2, p.3) refl)
 
 -- the steps over a text that a piece begins with
@@ -50,7 +50,7 @@ text_gathered s rest text old new e u is t =
 
 pub text_state : (s : Utf8) (rest text : List ℕ) → s ≡ utf8_start → IsUtf8 text → text ≡ take (length text) rest →
     s ≡ (steps utf8 false s (take (length text) rest)).state
-text_state s rest text e u is = e ∙ sym (ap (λ (z : Run Utf8). z.state) (text_steps s rest text e u is))
+text_state s rest text e u is = e ∙ sym (ap (λ (z : DecoderRun Utf8). z.state) (text_steps s rest text e u is))
 
 -- a text at the start of what is left is within it
 pub text_within_rest : (rest text : List ℕ) → text ≡ take (length text) rest → length text ≤ length rest

@@ -6,7 +6,7 @@ use Rattle.std.proofs.lemmas.List.{take_rest, length-take-le, get_or-take, drop-
 use Rattle.std.proofs.lemmas.List.Elements.{All-head, All-tail, All-from_get_or}
 use Rattle.std.proofs.Math.Seq.{drop-cons, take-add}
 use Rattle.enc_model.specs.Index.{within}
-use Rattle.enc_model.specs.Stream.{after, steps}
+use Rattle.enc_model.specs.Stream.{text_then, steps}
 use Rattle.enc_model.specs.Utf8.{Utf8, utf8, utf8_start, utf8_first}
 use Rattle.enc_model.specs.declared.Answer.TheVariants.{Error, Nothing}
 use Rattle.enc_model.proofs.Calm.{utf8_calm}
@@ -17,15 +17,15 @@ abbrev IsTrail : ℕ → Type 0
 IsTrail b = within 0x80 0xBF b ≡ true
 
 abbrev needs : ℕ → ℕ → List ℕ → Utf8
-needs n point kept = record { needed = n; lower = 0x80; upper = 0xBF; point = point; kept = kept }
+needs n point partial = record { needed = n; lower = 0x80; upper = 0xBF; point = point; partial = partial }
 
-trail_step : (n p b : ℕ) (kept : List ℕ) → 2 ≤ n → IsTrail b → utf8 (needs n p kept) (Some b) ≡ record {
-  state = needs (n - 1) (p * 64 + (b - 0x80)) (kept ++ b ∷ []);
+trail_step : (n p b : ℕ) (partial : List ℕ) → 2 ≤ n → IsTrail b → utf8 (needs n p partial) (Some b) ≡ record {
+  state = needs (n - 1) (p * 64 + (b - 0x80)) (partial ++ b ∷ []);
   answer = Nothing;
   restored = [];
 }
 unfolding utf8
-trail_step n p b kept l e = grind (arith, nat_tests, l, e)
+trail_step n p b partial l e = grind (arith, nat_tests, l, e)
 
 cut_step : (s : Utf8) (b : ℕ) → 0 < s.needed → within s.lower s.upper b ≡ false → utf8 s (Some b) ≡ record {
   state = utf8_start;
@@ -35,22 +35,22 @@ cut_step : (s : Utf8) (b : ℕ) → 0 < s.needed → within s.lower s.upper b �
 unfolding utf8
 cut_step s b l e = grind (arith, nat_tests, l, e)
 
-trails_cut : (ts : List ℕ) (n p x : ℕ) (kept ys : List ℕ) → length ts < n → All IsTrail ts
-    → within 0x80 0xBF x ≡ false → steps utf8 false (needs n p kept) (ts ++ x ∷ ys)
-    ≡ after (0xFFFD ∷ []) (steps utf8 false utf8_start (x ∷ ys))
-trails_cut [] n p x kept ys l a e =
-    steps_cons utf8 utf8_calm false (needs n p kept) x ys
-    ∙ (rw (cut_step (needs n p kept) x (omega (arith, l)) e) refl)
-trails_cut (t ∷ ts) n p x kept ys l a e =
+trails_cut : (ts : List ℕ) (n p x : ℕ) (partial ys : List ℕ) → length ts < n → All IsTrail ts
+    → within 0x80 0xBF x ≡ false → steps utf8 false (needs n p partial) (ts ++ x ∷ ys)
+    ≡ text_then (0xFFFD ∷ []) (steps utf8 false utf8_start (x ∷ ys))
+trails_cut [] n p x partial ys l a e =
+    steps_cons utf8 utf8_calm false (needs n p partial) x ys
+    ∙ (rw (cut_step (needs n p partial) x (omega (arith, l)) e) refl)
+trails_cut (t ∷ ts) n p x partial ys l a e =
     let two : 2 ≤ n = omega (arith, l) in
     let less : length ts < n - 1 = omega (arith, l) in
-    steps_cons utf8 utf8_calm false (needs n p kept) t (ts ++ x ∷ ys)
-    ∙ (rw (trail_step n p t kept two (All-head IsTrail t ts a)) refl)
-    ∙ trails_cut ts (n - 1) (p * 64 + (t - 0x80)) x (kept ++ t ∷ []) ys less (All-tail IsTrail t ts a) e
+    steps_cons utf8 utf8_calm false (needs n p partial) t (ts ++ x ∷ ys)
+    ∙ (rw (trail_step n p t partial two (All-head IsTrail t ts a)) refl)
+    ∙ trails_cut ts (n - 1) (p * 64 + (t - 0x80)) x (partial ++ t ∷ []) ys less (All-tail IsTrail t ts a) e
 
 char_cut : (lead n x : ℕ) (ts ys : List ℕ) → IsLead lead n → length ts < n → All IsTrail ts
     → within 0x80 0xBF x ≡ false → steps utf8 false utf8_start (lead ∷ ts ++ x ∷ ys)
-    ≡ after (0xFFFD ∷ []) (steps utf8 false utf8_start (x ∷ ys))
+    ≡ text_then (0xFFFD ∷ []) (steps utf8 false utf8_start (x ∷ ys))
 unfolding utf8
 char_cut lead n x ts ys is l a e =
     steps_cons utf8 utf8_calm false utf8_start lead (ts ++ x ∷ ys) ∙ (rw is refl)
@@ -82,7 +82,7 @@ one_cut (lead ∷ rest) n t is l inside trails end (suc k) some =
     ap (steps utf8 false utf8_start) begin
     ∙ char_cut lead n x (take t rest) ys is (omega (arith, few, l)) all
     (subst (λ l. within 0x80 0xBF (get_or l t 0) ≡ false) same end)
-    ∙ ap (λ l. after (0xFFFD ∷ []) (steps utf8 false utf8_start l)) (sym (ap (take (suc k)) tail ∙ later))
+    ∙ ap (λ l. text_then (0xFFFD ∷ []) (steps utf8 false utf8_start l)) (sym (ap (take (suc k)) tail ∙ later))
 
 -- places among the bytes after a place
 pub rest_length : (bytes : List ℕ) (t : ℕ) → 1 + t < length bytes → t < length (take (length bytes - 1) (drop 1 bytes))
@@ -107,14 +107,14 @@ more_cuts bytes rest n m t u is first then k some =
     let count : n + m + k ≡ n + (m + k) = omega arith in
     let left : drop m rest ≡ drop (n + m) bytes = ap (drop m) same ∙ drop-drop m n bytes in
     ap (λ j. from (take j bytes)) count ∙ first (m + k) (omega (arith, some))
-    ∙ ap (λ l. after t (from (take (m + k) l))) (sym same) ∙ ap (after t) (then k some)
-    ∙ after_after t u (from (take k (drop m rest))) ∙ ap (λ l. after (t ++ u) (from (take k l))) left
+    ∙ ap (λ l. text_then t (from (take (m + k) l))) (sym same) ∙ ap (text_then t) (then k some)
+    ∙ after_after t u (from (take k (drop m rest))) ∙ ap (λ l. text_then (t ++ u) (from (take k l))) left
 
 -- a byte that cuts the character that is kept is read from the start
-pub kept_cut : (s : Utf8) (rest : List ℕ) (n : ℕ) → 0 < s.needed → 0 < n → 0 < length rest
+pub unfinished_cut : (s : Utf8) (rest : List ℕ) (n : ℕ) → 0 < s.needed → 0 < n → 0 < length rest
     → within s.lower s.upper (get_or rest 0 0) ≡ false → steps utf8 false s (take n rest)
-    ≡ after (0xFFFD ∷ []) (steps utf8 false utf8_start (take n rest))
-kept_cut s [] n needed some inside out = absurd (omega (arith, inside))
-kept_cut s (x ∷ rest) zero needed some inside out = absurd (omega (arith, some))
-kept_cut s (x ∷ rest) (suc n) needed some inside out =
+    ≡ text_then (0xFFFD ∷ []) (steps utf8 false utf8_start (take n rest))
+unfinished_cut s [] n needed some inside out = absurd (omega (arith, inside))
+unfinished_cut s (x ∷ rest) zero needed some inside out = absurd (omega (arith, some))
+unfinished_cut s (x ∷ rest) (suc n) needed some inside out =
     steps_cons utf8 utf8_calm false s x (take n rest) ∙ (rw (cut_step s x needed out) refl)

@@ -6,7 +6,7 @@ use Rattle.std.proofs.lemmas.List.{take_rest}
 use Rattle.std.proofs.Math.Seq.{drop-cons}
 use Rattle.enc_feed.specs.Batches.{BatchTook, BatchRefused}
 use Rattle.enc_feed.specs.BatchLaws.{batch_sink}
-use Rattle.enc_model.specs.Stream.{Run, steps}
+use Rattle.enc_model.specs.Stream.{DecoderRun, steps}
 use Rattle.enc_model.specs.Utf8.{Utf8, utf8, utf8_start}
 use Rattle.enc_model.specs.declared.Answer.TheVariants.{Error}
 use Rattle.enc_feed.specs.declared.batch.Full.{Full}
@@ -37,7 +37,7 @@ pub none_read : (bytes batch : List ℕ) → BatchTook batch (steps utf8 false u
 none_read bytes batch = feed_begins {E = Full} BatchTook BatchRefused batch_sink utf8 utf8_calm utf8_start batch
 
 pub none_state : (bytes : List ℕ) → utf8_start ≡ (steps utf8 false utf8_start (take 0 bytes)).state
-none_state bytes = ap (λ (run : Run Utf8). run.state) (sym (steps_none utf8 utf8_start))
+none_state bytes = ap (λ (run : DecoderRun Utf8). run.state) (sym (steps_none utf8 utf8_start))
 
 -- a fault more
 pub fault_more : (bytes : List ℕ) (at : ℕ) (old now new : List ℕ) → at < length bytes
@@ -52,7 +52,7 @@ fault_more bytes at old now new inside e state took more =
       part_taken utf8 utf8_calm {E = Full} BatchTook BatchRefused batch_sink utf8_start utf8_start bytes rest at 1 old
           now new refl state took (subst (λ r. BatchTook now r.text new) (sym run) more),
       part_state utf8 utf8_calm utf8_start utf8_start utf8_start bytes rest at 1 refl state
-          (sym (ap (λ (r : Run Utf8). r.state) run)),
+          (sym (ap (λ (r : DecoderRun Utf8). r.state) run)),
     )
 
 -- ASCII at the start
@@ -69,4 +69,4 @@ ascii_taken bytes old new n a took = subst (λ run. BatchTook old run.text new) 
 
 pub ascii_state : (bytes : List ℕ) (n : ℕ) → All (λ b. b < 128) (take n bytes)
     → utf8_start ≡ (steps utf8 false utf8_start (take n bytes)).state
-ascii_state bytes n a = sym (ap (λ (run : Run Utf8). run.state) (ascii_steps bytes n a))
+ascii_state bytes n a = sym (ap (λ (run : DecoderRun Utf8). run.state) (ascii_steps bytes n a))

@@ -10,7 +10,7 @@ use Rattle.std.specs.List.{range_with_len}
 use Rattle.std.specs.Prelude.{count_ones}
 use lib.Lanes.{Each1, all_below, mask_l, put_chunk, zip2}
 use lib.Utf8.{encode, encodes}
-use Rattle.enc_unicode.specs.Packing.{narrow_word, narrow_word_bytes, narrow_places, narrow_row_of, size, sizes}
+use Rattle.enc_unicode.specs.Packing.{narrow_word, narrow_word_bytes, narrow_places, narrow_row_of, utf8_size, sizes}
 use Rattle.enc_unicode.specs.declared.narrow_packs.TheConstants.{NARROW_PACKS}
 use Rattle.enc_unicode.proofs.Places.{all_small, at_row, bit, picks_written, short_unit}
 
@@ -19,13 +19,13 @@ abbrev sizes_in : ℕ → ℕ → List ℕ
 sizes_in zero a = []
 sizes_in (suc n) a = (2 - a % 2) ∷ sizes_in n (a / 2)
 
-abbrev kept : ℕ → List ℕ → List ℕ
-kept i row = take (16 - count_ones i) row
+abbrev selected_units : ℕ → List ℕ → List ℕ
+selected_units i row = take (16 - count_ones i) row
 
 abbrev wanted : ℕ → List ℕ
 wanted i = narrow_places 0 (sizes_in 8 i)
 
-rows : zip2 kept (range_with_len 0 256) NARROW_PACKS ≡ map wanted (range_with_len 0 256)
+rows : zip2 selected_units (range_with_len 0 256) NARROW_PACKS ≡ map wanted (range_with_len 0 256)
 unfolding lib.Count.ones
 rows = refl
 
@@ -38,11 +38,11 @@ wides = refl
 many : length NARROW_PACKS ≡ 256
 many = refl
 
-row_at : (i : ℕ) → i < 256 → kept i (get_or NARROW_PACKS i []) ≡ wanted i
+row_at : (i : ℕ) → i < 256 → selected_units i (get_or NARROW_PACKS i []) ≡ wanted i
 row_at i inside =
     let place : get_or (range_with_len 0 256) i 0 ≡ i = get_or-range_with_len 0 256 i 0 inside ∙ omega arith in
-    ap (λ k. kept k (get_or NARROW_PACKS i [])) (sym place)
-    ∙ sym (get_or-zip2 kept (range_with_len 0 256) NARROW_PACKS i 0 [] []
+    ap (λ k. selected_units k (get_or NARROW_PACKS i [])) (sym place)
+    ∙ sym (get_or-zip2 selected_units (range_with_len 0 256) NARROW_PACKS i 0 [] []
     (omega (arith, length-range_with_len 0 256, inside)) (omega (arith, many, inside)))
     ∙ ap (λ l. get_or l i []) rows
     ∙ get_or-map-range_with_len wanted 0 256 i i [] inside (omega arith)
@@ -53,7 +53,7 @@ small_at i inside = all_small _ (at_row (all_below 16) NARROW_PACKS 256 i true f
 pub wide_at : (i : ℕ) → i < 256 → length (get_or NARROW_PACKS i []) ≡ 16
 wide_at i inside = at_row length NARROW_PACKS 256 i 16 0 [] wides many inside
 
-size_is : (u : ℕ) → u < 2048 → 2 - cond (ltb u 128) 1 0 ≡ size u
+size_is : (u : ℕ) → u < 2048 → 2 - cond (ltb u 128) 1 0 ≡ utf8_size u
 size_is u small = grind (arith, nat_tests, small)
 
 sizes_masks : (units : List ℕ) → Each1 (λ u. u < 2048) units
@@ -66,7 +66,7 @@ sizes_masks (u ∷ units) small =
 
 -- the pack of eight units
 pub row_for : (units : List ℕ) (a : ℕ) → length units ≡ 8 → Each1 (λ u. u < 2048) units
-    → a ≡ mask_l (map (λ u. ltb u 128) units) → a < 256 → kept a (get_or NARROW_PACKS a []) ≡ narrow_row_of units
+    → a ≡ mask_l (map (λ u. ltb u 128) units) → a < 256 → selected_units a (get_or NARROW_PACKS a []) ≡ narrow_row_of units
 row_for units a long small ea la =
     row_at a la ∙ ap (λ x. narrow_places 0 (sizes_in 8 x)) ea
     ∙ ap (narrow_places 0) (subst (λ n. sizes_in n (mask_l (map (λ u. ltb u 128) units)) ≡ sizes units) long
@@ -75,7 +75,7 @@ row_for units a long small ea la =
 -- a unit's bytes at a place
 one_unit : (bytes : List ℕ) (p u : ℕ) → u < 2048 → get_or bytes p 0 ≡ narrow_word u % 256
     → get_or bytes (p + 1) 0 ≡ narrow_word u / 256 % 256 →
-    map (λ j. get_or bytes j 0) (range_with_len p (size u)) ≡ encode u
+    map (λ j. get_or bytes j 0) (range_with_len p (utf8_size u)) ≡ encode u
 one_unit bytes p u small =
     short_unit bytes p u (narrow_word u) small (λ h. grind (arith, nat_tests, h)) (λ h. grind (arith, nat_tests, h))
 
@@ -94,7 +94,7 @@ picked bytes p (u ∷ units) small is =
     (omega arith) (at_drop bytes p 0 rest is) in
     let next : drop (p + 2) bytes ≡ narrow_word_bytes (map narrow_word units) =
     sym (drop-drop 2 p bytes) ∙ ap (drop 2) is in
-    map-append get (range_with_len p (size u)) _
+    map-append get (range_with_len p (utf8_size u)) _
     ∙ ap₂ (λ x y. x ++ y) (one_unit bytes p u small.0 here (at_drop bytes p 1 rest is))
     (picked bytes (p + 2) units small.1 next)
 

@@ -13,7 +13,7 @@ use Rattle.std.specs.List.{range_with_len}
 use lib.Lanes.{Each1, all_below, mask_l, put_chunk}
 use lib.Utf8.{encode, encodes}
 use Rattle.enc_model.proofs.Utf8Bytes.{one_byte, two_bytes, three_bytes}
-use Rattle.enc_unicode.specs.Packing.{word, word_bytes, size, sizes, places, row_of}
+use Rattle.enc_unicode.specs.Packing.{utf8_word, word_bytes, utf8_size, sizes, places, row_of}
 use Rattle.enc_unicode.specs.declared.packs.TheConstants.{PACKS}
 
 -- how many bytes units take, by the bits of two masks
@@ -21,13 +21,13 @@ abbrev sizes_in : ℕ → ℕ → ℕ → List ℕ
 sizes_in zero a b = []
 sizes_in (suc n) a b = (3 - a % 2 - b % 2) ∷ sizes_in n (a / 2) (b / 2)
 
-abbrev kept : List ℕ → List ℕ
-kept row = take (get_or row 15 0) row
+abbrev selected_units : List ℕ → List ℕ
+selected_units row = take (get_or row 15 0) row
 
 abbrev wanted : ℕ → List ℕ
 wanted i = places 0 (sizes_in 4 (i % 16) (i / 16))
 
-rows : map kept PACKS ≡ map wanted (range_with_len 0 256)
+rows : map selected_units PACKS ≡ map wanted (range_with_len 0 256)
 rows = refl
 
 smalls : map (all_below 16) PACKS ≡ replicate 256 true
@@ -42,9 +42,9 @@ wides = refl
 many : length PACKS ≡ 256
 many = refl
 
-row_at : (i : ℕ) → i < 256 → kept (get_or PACKS i []) ≡ wanted i
+row_at : (i : ℕ) → i < 256 → selected_units (get_or PACKS i []) ≡ wanted i
 row_at i inside =
-    sym (get_or-map kept PACKS i [] [] (omega (arith, many, inside)))
+    sym (get_or-map selected_units PACKS i [] [] (omega (arith, many, inside)))
     ∙ ap (λ l. get_or l i []) rows
     ∙ get_or-map-range_with_len wanted 0 256 i i [] inside (omega arith)
 
@@ -81,7 +81,7 @@ pub bit : (b : Bool) (m : ℕ) → ((cond b 1 0 + 2 * m) % 2 ≡ cond b 1 0) × 
 bit true m = (omega arith, omega arith)
 bit false m = (omega arith, omega arith)
 
-size_is : (u : ℕ) → 3 - cond (ltb u 128) 1 0 - cond (ltb u 2048) 1 0 ≡ size u
+size_is : (u : ℕ) → 3 - cond (ltb u 128) 1 0 - cond (ltb u 2048) 1 0 ≡ utf8_size u
 size_is u = grind (arith, nat_tests)
 
 sizes_masks : (units : List ℕ) → sizes_in (length units) (mask_l (map (λ u. ltb u 128) units))
@@ -95,7 +95,7 @@ sizes_masks (u ∷ units) =
 
 -- the pack of four units
 pub row_for : (units : List ℕ) (a b : ℕ) → length units ≡ 4 → a ≡ mask_l (map (λ u. ltb u 128) units) → a < 16
-    → b ≡ mask_l (map (λ u. ltb u 2048) units) → b < 16 → kept (get_or PACKS (a + b * 16) []) ≡ row_of units
+    → b ≡ mask_l (map (λ u. ltb u 2048) units) → b < 16 → selected_units (get_or PACKS (a + b * 16) []) ≡ row_of units
 row_for units a b long ea la eb lb =
     let low : (a + b * 16) % 16 ≡ a = omega (arith, la) in
     let high : (a + b * 16) / 16 ≡ b = omega (arith, la) in
@@ -108,56 +108,56 @@ row_for units a b long ea la eb lb =
 pub short_unit : (bytes : List ℕ) (p u w : ℕ) → u < 2048 → (u < 128 → w ≡ u)
     → (128 ≤ u → w ≡ 0x80C0 + u / 64 + 256 * (u % 64)) → get_or bytes p 0 ≡ w % 256
     → get_or bytes (p + 1) 0 ≡ w / 256 % 256 →
-    map (λ j. get_or bytes j 0) (range_with_len p (size u)) ≡ encode u
+    map (λ j. get_or bytes j 0) (range_with_len p (utf8_size u)) ≡ encode u
 short_unit bytes p u w small one two first second =
     elim (cases_lt u 128) [
       | inl l ↦
-          let n : size u ≡ 1 = grind (arith, nat_tests, l) in
+          let n : utf8_size u ≡ 1 = grind (arith, nat_tests, l) in
           ap (λ n. map (λ j. get_or bytes j 0) (range_with_len p n)) n
           ∙ ap (λ x. x ∷ []) (first ∙ ap (λ w. w % 256) (one l) ∙ omega (arith, l)) ∙ sym (one_byte u l)
       | inr h ↦
-          let n : size u ≡ 2 = grind (arith, nat_tests, small, h) in
+          let n : utf8_size u ≡ 2 = grind (arith, nat_tests, small, h) in
           ap (λ n. map (λ j. get_or bytes j 0) (range_with_len p n)) n
           ∙ ap₂ (λ x y. x ∷ y ∷ []) (first ∙ ap (λ w. w % 256) (two h) ∙ omega (arith, small))
           (second ∙ ap (λ w. w / 256 % 256) (two h) ∙ omega (arith, small)) ∙ sym (two_bytes u h small)
     ]
 
-one_unit : (bytes : List ℕ) (p u : ℕ) → u < 65536 → get_or bytes p 0 ≡ word u % 256
-    → get_or bytes (p + 1) 0 ≡ word u / 256 % 256 → get_or bytes (p + 1 + 1) 0 ≡ word u / 65536 % 256 →
-    map (λ j. get_or bytes j 0) (range_with_len p (size u)) ≡ encode u
+one_unit : (bytes : List ℕ) (p u : ℕ) → u < 65536 → get_or bytes p 0 ≡ utf8_word u % 256
+    → get_or bytes (p + 1) 0 ≡ utf8_word u / 256 % 256 → get_or bytes (p + 1 + 1) 0 ≡ utf8_word u / 65536 % 256 →
+    map (λ j. get_or bytes j 0) (range_with_len p (utf8_size u)) ≡ encode u
 one_unit bytes p u small first second third =
     elim (cases_lt u 2048) [
-      | inl l ↦ short_unit bytes p u (word u) l (λ h. grind (arith, nat_tests, h)) (λ h. grind (arith, nat_tests, h, l))
+      | inl l ↦ short_unit bytes p u (utf8_word u) l (λ h. grind (arith, nat_tests, h)) (λ h. grind (arith, nat_tests, h, l))
           first second
       | inr g ↦
-          let n : size u ≡ 3 = grind (arith, nat_tests, g) in
-          let w : word u ≡ 0x8080E0 + u / 4096 + 256 * (u / 64 % 64) + 65536 * (u % 64) =
+          let n : utf8_size u ≡ 3 = grind (arith, nat_tests, g) in
+          let w : utf8_word u ≡ 0x8080E0 + u / 4096 + 256 * (u / 64 % 64) + 65536 * (u % 64) =
           grind (arith, nat_tests, g) in
-          let x : word u % 256 ≡ 224 + u / 4096 = ap (λ w. w % 256) w ∙ omega (arith, small) in
-          let y : word u / 256 % 256 ≡ 128 + u / 64 % 64 = ap (λ w. w / 256 % 256) w ∙ omega (arith, small) in
-          let z : word u / 65536 % 256 ≡ 128 + u % 64 = ap (λ w. w / 65536 % 256) w ∙ omega (arith, small) in
+          let x : utf8_word u % 256 ≡ 224 + u / 4096 = ap (λ w. w % 256) w ∙ omega (arith, small) in
+          let y : utf8_word u / 256 % 256 ≡ 128 + u / 64 % 64 = ap (λ w. w / 256 % 256) w ∙ omega (arith, small) in
+          let z : utf8_word u / 65536 % 256 ≡ 128 + u % 64 = ap (λ w. w / 65536 % 256) w ∙ omega (arith, small) in
           ap (λ n. map (λ j. get_or bytes j 0) (range_with_len p n)) n
           ∙ ap₂ (λ x rest. x ∷ rest) (first ∙ x) (ap₂ (λ y z. y ∷ z ∷ []) (second ∙ y) (third ∙ z))
           ∙ sym (three_bytes u g small)
     ]
 
 picked : (units : List ℕ) → length units ≡ 4 → Each1 (λ u. u < 65536) units →
-    map (λ j. get_or (word_bytes (map word units)) j 0) (row_of units) ≡ encodes units
+    map (λ j. get_or (word_bytes (map utf8_word units)) j 0) (row_of units) ≡ encodes units
 picked [] long small = absurd (omega (arith, long))
 picked (a ∷ []) long small = absurd (omega (arith, long))
 picked (a ∷ b ∷ []) long small = absurd (omega (arith, long))
 picked (a ∷ b ∷ c ∷ []) long small = absurd (omega (arith, long))
 picked (a ∷ b ∷ c ∷ d ∷ e ∷ more) long small = absurd (omega (arith, long))
 picked (a ∷ b ∷ c ∷ d ∷ []) long small =
-    let bytes = word_bytes (map word (a ∷ b ∷ c ∷ d ∷ [])) in
+    let bytes = word_bytes (map utf8_word (a ∷ b ∷ c ∷ d ∷ [])) in
     let get : ℕ → ℕ = λ j. get_or bytes j 0 in
-    map-append get (range_with_len 0 (size a)) _
+    map-append get (range_with_len 0 (utf8_size a)) _
     ∙ ap₂ (λ x y. x ++ y) (one_unit bytes 0 a small.0 refl refl refl)
-    (map-append get (range_with_len 4 (size b)) _
+    (map-append get (range_with_len 4 (utf8_size b)) _
     ∙ ap₂ (λ x y. x ++ y) (one_unit bytes 4 b small.1.0 refl refl refl)
-    (map-append get (range_with_len 8 (size c)) _
+    (map-append get (range_with_len 8 (utf8_size c)) _
     ∙ ap₂ (λ x y. x ++ y) (one_unit bytes 8 c small.1.1.0 refl refl refl)
-    (map-append get (range_with_len 12 (size d)) _
+    (map-append get (range_with_len 12 (utf8_size d)) _
     ∙ ap₂ (λ x y. x ++ y) (one_unit bytes 12 d small.1.1.1.0 refl refl refl) refl)))
 
 not_high : (j : ℕ) → j < 16 → leb 128 j ≡ false
@@ -191,7 +191,7 @@ picks_written text row bytes code from n wide below few room is =
 
 -- four units after the first so many bytes
 pub four_written : (units row bytes code : List ℕ) (from : ℕ) → length units ≡ 4 → Each1 (λ u. u < 65536) units →
-    length row ≡ 16 → Each1 (λ j. j < 16) row → bytes ≡ word_bytes (map word units) → kept row ≡ row_of units
+    length row ≡ 16 → Each1 (λ j. j < 16) row → bytes ≡ word_bytes (map utf8_word units) → selected_units row ≡ row_of units
     → get_or row 15 0 ≤ 12 → from + 16 ≤ length code →
     take (from + get_or row 15 0) (put_chunk from code (swz_l w8 16 bytes 0 row)) ≡ take from code ++ encodes units
 four_written units row bytes code from long small wide below are is few room =

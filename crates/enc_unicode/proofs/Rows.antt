@@ -10,7 +10,7 @@ two_of_four : utf8_after (0xF0 ∷ 0x90 ∷ []) ≡ record {
   lower = 0x80;
   upper = 0xBF;
   point = 0x10;
-  kept = 0xF0 ∷ 0x90 ∷ [];
+  partial = 0xF0 ∷ 0x90 ∷ [];
 }
 unfolding steps steps_within utf8
 two_of_four = refl
@@ -21,12 +21,12 @@ bounded_second : utf8_after (0xED ∷ []) ≡ record {
   lower = 0x80;
   upper = 0x9F;
   point = 0xD;
-  kept = 0xED ∷ [];
+  partial = 0xED ∷ [];
 }
 unfolding steps steps_within utf8
 bounded_second = refl
 
 -- a byte that doesn't go on is read again, and begins nothing
-nothing_kept : utf8_after (0xE0 ∷ 0x80 ∷ []) ≡ utf8_start
+nothing_unfinished : utf8_after (0xE0 ∷ 0x80 ∷ []) ≡ utf8_start
 unfolding steps steps_within utf8
-nothing_kept = refl
+nothing_unfinished = refl

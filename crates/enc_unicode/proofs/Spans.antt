@@ -15,7 +15,7 @@ use lib.Lanes.{Each1}
 use Rattle.std.specs.List.{prefix_len}
 use Rattle.std.specs.Str.{IsUtf8, chars}
 use Rattle.enc_model.specs.Index.{within}
-use Rattle.enc_model.specs.Stream.{after, steps}
+use Rattle.enc_model.specs.Stream.{text_then, steps}
 use Rattle.enc_model.specs.Utf16.{utf16, utf16_start}
 use Rattle.enc_model.proofs.Calm.{utf16_calm}
 use Rattle.enc_model.proofs.Utf8Bytes.{ascii_utf8, ascii_chars}
@@ -125,6 +125,6 @@ block_more big bytes read old new inside run wrote =
     length-take-le 64 (drop read bytes) (omega (arith, length-drop read bytes, inside)) in
     ap (steps (utf16 big) false utf16_start) (take-add read 64 bytes)
     ∙ steps_append (utf16 big) (utf16_calm big) false utf16_start (take read bytes) block
-    ∙ ap (λ r. after r.text (steps (utf16 big) false r.state block)) run
-    ∙ ap (after (chars old)) (block_steps big block long wrote.scalars)
+    ∙ ap (λ r. text_then r.text (steps (utf16 big) false r.state block)) run
+    ∙ ap (text_then (chars old)) (block_steps big block long wrote.scalars)
     ∙ ap (λ text. record { text = text; state = utf16_start }) (sym wrote.text)

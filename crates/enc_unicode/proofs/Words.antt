@@ -9,7 +9,7 @@ use Rattle.lane_kernels.proofs.Made.{map_alike}
 use lib.Lanes.{Each1, zip2, sel_l, top, number_l, digits_l}
 use mir.Syntax.{Width}
 use mir.Val.{bits, hbits}
-use Rattle.enc_unicode.specs.Packing.{word, word_bytes}
+use Rattle.enc_unicode.specs.Packing.{utf8_word, word_bytes}
 
 abbrev pub last : ℕ → ℕ
 last x = bit_and x 63
@@ -32,7 +32,7 @@ three_is x small =
     let b : bit_and (x / 2 ^ 6) 63 ≡ x / 64 % 64 = and_mask (x / 64) 6 in
     omega (arith, small, a, b)
 
-lane : (x : ℕ) → x < 65536 → cond (ltb x 128) x (cond (ltb x 2048) (two x) (three x)) ≡ word x
+lane : (x : ℕ) → x < 65536 → cond (ltb x 128) x (cond (ltb x 2048) (two x) (three x)) ≡ utf8_word x
 lane x small = ap₂ (λ a b. cond (ltb x 128) x (cond (ltb x 2048) a b)) (two_is x small) (three_is x small)
 
 selected : (t : ℕ → Bool) (f g : ℕ → ℕ) (v : List ℕ) → sel_l (map t v) (map f v) (map g v) ≡ map
@@ -87,11 +87,11 @@ module _ (v : List ℕ) (long : length v ≡ 4) where
   pub words_are : {a b : List ℕ} → a ≡ map two v → b ≡ map three v → Each1 (λ x. x < 65536) v →
       sel_l (map (top (hbits w32)) (zip2 (λ a b. cond (ltb a b) (2 ^ bits w32 - 1) 0) v (replicate 4 128))) v
       (sel_l (map (top (hbits w32)) (zip2 (λ a b. cond (ltb a b) (2 ^ bits w32 - 1) 0) v (replicate 4 2048))) a b)
-      ≡ map word v
+      ≡ map utf8_word v
   words_are p q small =
       chosen w32 4 v 128 (λ x. x) (λ x. cond (ltb x 2048) (two x) (three x)) long (sym (map-id v))
       (chosen w32 4 v 2048 two three long p q)
-      ∙ map_alike 65536 (λ x. cond (ltb x 128) x (cond (ltb x 2048) (two x) (three x))) word lane v small
+      ∙ map_alike 65536 (λ x. cond (ltb x 128) x (cond (ltb x 2048) (two x) (three x))) utf8_word lane v small
 
 -- their bytes
 abbrev pub fours : ℕ → ℕ
@@ -119,9 +119,9 @@ word_digits (suc n) (w ∷ ws) long small =
     (ap₂ (λ a rest. a ∷ rest) d.1.1.0 (ap (digits_l 256 (fours n)) d.1.1.1
     ∙ word_digits n ws (omega (arith, long)) small.1))))
 
-word_small : (u : ℕ) → u < 65536 → word u < 4294967296
+word_small : (u : ℕ) → u < 65536 → utf8_word u < 4294967296
 word_small u small = grind (arith, nat_tests, small)
 
-pub words_small : (units : List ℕ) → Each1 (λ u. u < 65536) units → Each1 (λ w. w < 4294967296) (map word units)
+pub words_small : (units : List ℕ) → Each1 (λ u. u < 65536) units → Each1 (λ w. w < 4294967296) (map utf8_word units)
 words_small [] small = tt
 words_small (u ∷ units) small = (word_small u small.0, words_small units small.1)

@@ -21,5 +21,5 @@ pub record IsUtf8State (needed lower upper point current : ℕ) : Type 0 where
   pub three : needed ≡ 3 → Avoids 0 0x10 0x10F (point * 64 + (lower - 0x80)) (point * 64 + (upper - 0x80))
 
 -- The state is the one after the bytes of its unfinished character.
-abbrev pub IsAfter : Utf8 → Type 0
-IsAfter s = s ≡ utf8_after s.kept
+abbrev pub IsUnfinishedState : Utf8 → Type 0
+IsUnfinishedState s = s ≡ utf8_after s.partial

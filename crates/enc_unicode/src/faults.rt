@@ -53,7 +53,7 @@ fn push_little_ascii(bytes: &[u8], batch: &mut Batch) -> usize
     if prefix == 0 || FEW < prefix {
         return 0;
     }
-    batch.push_front(bytes, prefix);
+    batch.push_prefix(bytes, prefix);
     prefix
 }
 

@@ -7,7 +7,7 @@ ghost use Rattle.std.specs.Simd.Lanes.{chunk, mask_l};
 ghost use Rattle.std.specs.Str.{IsUtf8};
 ghost use Rattle.lane_kernels.specs.Units.{is_scalar_unit};
 ghost use Rattle.enc_unicode.specs.WroteUnits.{WroteUnits};
-ghost use Rattle.enc_unicode.specs.Packing.{row_of, word, word_bytes};
+ghost use Rattle.enc_unicode.specs.Packing.{row_of, utf8_word, word_bytes};
 
 use crate::packs::PACKS;
 use std::simd::prelude::*;
@@ -26,7 +26,7 @@ fn widened(units: u16x4) -> u32x4
 /// For each unit a number of four bytes that begins with the unit's UTF-8, the lowest byte first.
 #[inline(always)]
 fn words(units: u16x4) -> u32x4
-    ensures { result ≡ map word units }
+    ensures { result ≡ map utf8_word units }
 {
     let units = widened(units);
     let last = units & u32x4::splat(63);
@@ -40,7 +40,7 @@ fn words(units: u16x4) -> u32x4
 /// The same numbers as bytes.
 #[inline(always)]
 fn codes(units: u16x4) -> u8x16
-    ensures { result ≡ word_bytes (map word units) }
+    ensures { result ≡ word_bytes (map utf8_word units) }
 {
     words(units).to_le_bytes()
 }

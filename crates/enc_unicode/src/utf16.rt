@@ -231,7 +231,7 @@ impl Utf16State {
     }
 
     /// A decoder with this pending byte and lead surrogate.
-    pub fn keeping(order: Order, byte: Option<u8>, lead: Option<u16>) -> Self
+    pub fn in_state(order: Order, byte: Option<u8>, lead: Option<u16>) -> Self
         requires { IsCarried lead }
         ensures { result ≡ record { big = is_big order; state = record { byte = byte; lead = lead } } }
     {

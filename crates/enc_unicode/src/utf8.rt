@@ -2,7 +2,7 @@
 
 ghost use Rattle.std.specs.Prelude.{◌≡◌, ◌≢◌, IfSome, IfNone, IfOk, IfErr, OnOk, true, false, ◌<◌, ◌≤◌, ◌+◌, ◌*◌, []};
 ghost use Rattle.std.specs.Prelude.{◌∷◌, length, take, Some};
-ghost use Rattle.enc_unicode.specs.Utf8State.{IsUtf8State, IsAfter, utf8_after};
+ghost use Rattle.enc_unicode.specs.Utf8State.{IsUtf8State, IsUnfinishedState, utf8_after};
 ghost use Rattle.enc_model.specs.Stream.{steps};
 ghost use Rattle.enc_feed.specs.Sink.{Given};
 ghost use Rattle.enc_feed.specs.Batches.{BatchTook};
@@ -31,7 +31,7 @@ pub struct Utf8State {
     lower: u8,
     upper: u8,
     point: u32,
-    kept: [u8; 3],
+    partial: [u8; 3],
     current: u8,
     faulty: bool,
 }
@@ -40,15 +40,15 @@ impl Model for Utf8State {
     ghost Value = { Utf8 };
 
     ghost view = { λ s. record
-        { needed = s.needed; lower = s.lower; upper = s.upper; point = s.point; kept = take s.current s.kept } };
+        { needed = s.needed; lower = s.lower; upper = s.upper; point = s.point; partial = take s.current s.partial } };
 
-    ghost invariant = { λ s. IsUtf8State s.needed s.lower s.upper s.point s.current × IsAfter
+    ghost invariant = { λ s. IsUtf8State s.needed s.lower s.upper s.point s.current × IsUnfinishedState
         (record {
           needed = s.needed;
           lower = s.lower;
           upper = s.upper;
           point = s.point;
-          kept = take s.current s.kept;
+          partial = take s.current s.partial;
         }) };
 }
 
@@ -70,29 +70,29 @@ impl Utf8State {
             lower: self.lower,
             upper: self.upper,
             point: self.point,
-            kept: self.kept,
+            partial: self.partial,
             current: self.current,
             faulty: self.faulty,
         }
     }
 
     /// The bytes of an unfinished character. The state is the one after them.
-    pub fn kept(&self) -> &[u8]
-        ensures bytes { result.now ≡ self.now.kept }
-        ensures after { IsAfter self.now }
+    pub fn partial(&self) -> &[u8]
+        ensures bytes { result.now ≡ self.now.partial }
+        ensures after { IsUnfinishedState self.now }
         ensures few { length result.now ≤ 3 }
     {
-        &self.kept[..self.current as usize]
+        &self.partial[..self.current as usize]
     }
 
     /// The decoder state after these bytes, or None if they are not all of one unfinished character.
     pub fn after(bytes: &[u8]) -> Option<Self>
-        ensures some { IfSome result (λ s. (s ≡ utf8_after bytes.now) × (s.kept ≡ bytes.now)) }
-        ensures none { IfNone result ((utf8_after bytes.now).kept ≢ bytes.now) }
+        ensures some { IfSome result (λ s. (s ≡ utf8_after bytes.now) × (s.partial ≡ bytes.now)) }
+        ensures none { IfNone result ((utf8_after bytes.now).partial ≢ bytes.now) }
     {
         let mut state = Self::new();
         match state.feed(bytes, &mut Nowhere) {
-            Ok(()) if state.kept() == bytes => Some(state),
+            Ok(()) if state.partial() == bytes => Some(state),
             _ => None,
         }
     }
@@ -100,18 +100,18 @@ impl Utf8State {
     /// A decoder that needs more bytes after a lead byte.
     fn needs(needed: u8, lower: u8, upper: u8, point: u32, lead: u8, current: u8) -> Self
         requires valid { IsUtf8State needed lower upper point current }
-        requires after { IsAfter
-            (record { needed = needed; lower = lower; upper = upper; point = point; kept = take current (lead ∷ []) }) }
+        requires after { IsUnfinishedState
+            (record { needed = needed; lower = lower; upper = upper; point = point; partial = take current (lead ∷ []) }) }
         requires few { current ≤ 1 }
         ensures { result ≡ record
-            { needed = needed; lower = lower; upper = upper; point = point; kept = take current (lead ∷ []) } }
+            { needed = needed; lower = lower; upper = upper; point = point; partial = take current (lead ∷ []) } }
     {
         Utf8State {
             needed,
             lower,
             upper,
             point,
-            kept: [lead, 0, 0],
+            partial: [lead, 0, 0],
             current,
             faulty: false,
         }
@@ -162,7 +162,7 @@ impl Utf8State {
                 None => unreachable!(),
             };
         }
-        self.kept[self.current as usize] = b;
+        self.partial[self.current as usize] = b;
         self.current += 1;
         self.needed -= 1;
         self.lower = 0x80;
@@ -377,7 +377,7 @@ impl Utf8State {
         ensures state { self.new ≡ (steps utf8 false self.old (take result rest.now)).state }
     {
         if self.needed != 0 {
-            return self.decode_kept(rest, batch);
+            return self.decode_unfinished(rest, batch);
         }
         let few = push_few(rest, batch);
         if 0 < few {
@@ -392,7 +392,7 @@ impl Utf8State {
     }
 
     /// Decodes within a character: one byte that continues it, or cut characters that follow. Returns how many bytes.
-    fn decode_kept(&mut self, rest: &[u8], batch: &mut Batch) -> usize
+    fn decode_unfinished(&mut self, rest: &[u8], batch: &mut Batch) -> usize
         requires needed { 0 < self.old.needed }
         requires some { 0 < length rest.now }
         requires room { length batch.old + 12 * length rest.now ≤ ROOM }

@@ -7,7 +7,7 @@ ghost use Rattle.enc_unicode.specs.Looks.{IsNarrow};
 
 use crate::guesses::{FEWEST, seeming_end};
 use enc_feed::BLOCK;
-use lane_kernels::ascii_front;
+use lane_kernels::ascii_prefix;
 use simdutf8::basic;
 use std::str::from_utf8_unchecked;
 
@@ -215,7 +215,7 @@ fn window(bytes: &[u8], reach: usize) -> &[u8]
 fn ascii_text(bytes: &[u8]) -> &str
     ensures { result.now ≡ take (length result.now) bytes.now }
 {
-    let len = ascii_front(bytes);
+    let len = ascii_prefix(bytes);
     unsafe { from_utf8_unchecked(&bytes[..len]) }
 }
 
@@ -331,7 +331,7 @@ fn text_len(bytes: &[u8]) -> usize
     ensures utf8 { IsUtf8 (take result bytes.now) }
 {
     match bytes[0] {
-        0x00..=0x7F => ascii_front(bytes),
+        0x00..=0x7F => ascii_prefix(bytes),
         0xC2..=0xDF => two_len(bytes),
         0xE1..=0xEC => three_len(bytes),
         0x80..=0xC1 | 0xF5..=0xFF => 0,

@@ -10,12 +10,12 @@ use clap::error::ErrorKind;
 use common::Stop;
 use gateway_files::{
     Failure, Fault, Formatted, Task, delete_file, delete_incomplete_file, ended, export_file,
-    format_file, json_file, list_file, say_formatted, say_read, say_upgraded, text_file,
+    format_file, json_file, list_file, report_formatted, report_read, report_upgraded, text_file,
     upgrade_file,
 };
-use gateway_orders::{Order, USAGE, read_order, say_usage};
+use gateway_orders::{Order, USAGE, read_order, report_usage};
 use scripting::run_script;
-use serving::{Telling, serve_file, serve_up};
+use serving::{Reporting, serve_file, serve_up};
 use std::alloc::Global;
 use std::process::ExitCode;
 use std::{env, io};
@@ -47,10 +47,10 @@ fn obey<'a>(rt: &'a HostRuntime, order: Order<'a>) -> Result<u8, Failure<'a>> {
             indexes,
         } => {
             let Formatted { pages, files } = format_file(rt, alloc, spool, blocks, indexes)?;
-            say_formatted(&mut io::writer(rt), blocks, pages)?;
+            report_formatted(&mut io::writer(rt), blocks, pages)?;
             // If standard error can't be written, the index files aren't reported.
-            let told = say_read(&mut rt.stderr(), files.as_slice());
-            drop(told);
+            let reported = report_read(&mut rt.stderr(), files.as_slice());
+            drop(reported);
         }
         Order::Script { spool } => run_script(rt, alloc, spool)?,
         Order::Serve(service) => serve_file(rt, alloc, service).1?,
@@ -59,7 +59,7 @@ fn obey<'a>(rt: &'a HostRuntime, order: Order<'a>) -> Result<u8, Failure<'a>> {
             listen,
             quiet,
             log,
-        } => serve_up(rt, alloc, spool, listen, Telling { quiet, log }).1?,
+        } => serve_up(rt, alloc, spool, listen, Reporting { quiet, log }).1?,
         Order::List { spool, long } => list_file(rt, alloc, spool, long)?,
         Order::Json { spool } => json_file(rt, alloc, spool)?,
         Order::Delete { spool, numbers } => delete_file(rt, alloc, spool, &numbers)?,
@@ -73,7 +73,7 @@ fn obey<'a>(rt: &'a HostRuntime, order: Order<'a>) -> Result<u8, Failure<'a>> {
         } => text_file(rt, alloc, from, to, mode, indexes)?,
         Order::Upgrade { spool } => {
             upgrade_file(rt, alloc, spool)?;
-            say_upgraded(&mut io::writer(rt))?;
+            report_upgraded(&mut io::writer(rt))?;
         }
     }
     Ok(0)
@@ -105,5 +105,5 @@ fn refuse<'a>(rt: &HostRuntime, error: Error) -> Result<u8, Failure<'a>> {
     if error.kind() == ErrorKind::OutOfMemory {
         return Err(Failure::from(Fault::Stop(Stop::NoMemory)));
     }
-    Ok(say_usage(&error, &mut io::writer(rt), &mut rt.stderr())?)
+    Ok(report_usage(&error, &mut io::writer(rt), &mut rt.stderr())?)
 }

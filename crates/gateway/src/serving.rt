@@ -7,14 +7,14 @@ ghost use Rattle.upload_rules.specs.Answers.{Counts};
 ghost use Rattle.gateway_engine.specs.Gateways.{disk_in};
 ghost use Rattle.gateway.specs.Addresses.{IsLocal};
 ghost use Rattle.gateway_files.specs.Failures.{fault_in};
-ghost use Rattle.gateway_files.specs.Faults.{status_of};
+ghost use Rattle.gateway_files.specs.Faults.{exit_status_of};
 
 use crate::watched::Watched;
 use common::Stop;
 use gateway_engine::{Connections, Gateway};
 use gateway_files::{
-    Failure, Fault, Survey, Task, open_spool, open_surveyed, refused_spool, say_open, say_served,
-    say_up,
+    Failure, Fault, Survey, Task, open_spool, open_surveyed, refused_spool, report_open,
+    report_served, report_up,
 };
 use gateway_log::{Log, Logged};
 use gateway_orders::Service;
@@ -33,7 +33,7 @@ pub(crate) fn serve_file<'a>(
     service: Service<'a>,
 ) -> (Option<FileDisk>, Result<(), Failure<'a>>)
     ensures device { IsSomeAnd result.0 (λ disk. failed_in disk ≢ 0)
-        → IsErrAnd result.1 (λ failure. status_of (fault_in failure) ≡ 3) }
+        → IsErrAnd result.1 (λ failure. exit_status_of (fault_in failure) ≡ 3) }
 {
     let spool = service.spool;
     let gateway = match open_gateway(rt, alloc, spool) {
@@ -53,7 +53,7 @@ pub(crate) fn serve_file<'a>(
         served,
     } = serve_on(alloc, rt, &mut acceptor, gateway, connections, turns);
     // If standard error can't be written, the count isn't reported.
-    drop(say_served(&mut rt.stderr(), clients.opened));
+    drop(report_served(&mut rt.stderr(), clients.opened));
     outcome(served, spool, gateway.into_disk())
 }
 
@@ -79,13 +79,13 @@ fn outcome<'a>(
 ) -> (Option<FileDisk>, Result<(), Failure<'a>>)
     ensures disk { result.0 ≡ Some disk }
     ensures done { IsOk served → IsOk result.1 }
-    ensures device { IsErr served → IsErrAnd result.1 (λ failure. status_of (fault_in failure) ≡ 3) }
+    ensures device { IsErr served → IsErrAnd result.1 (λ failure. exit_status_of (fault_in failure) ≡ 3) }
 {
-    let told = match served {
+    let reported = match served {
         Ok(()) => Ok(()),
         Err(fault) => Err(Failure::on_spool(Fault::from(fault), spool, &disk)),
     };
-    (Some(disk), told)
+    (Some(disk), reported)
 }
 
 /// A listener, what it was asked to listen at, and its actual address: for port 0 the system chooses a port.
@@ -138,14 +138,14 @@ fn address_of(port: u16) -> SocketAddrV4
 
 /// What a server prints while it serves.
 #[derive(Clone, Copy, Drop)]
-pub(crate) struct Telling {
+pub(crate) struct Reporting {
     /// Only errors.
     pub(crate) quiet: bool,
     /// Requests and replies, on standard error.
     pub(crate) log: bool,
 }
 
-impl Telling {
+impl Reporting {
     // Whether there is a log. At a terminal it needn't be asked for.
     fn has_log(self, rt: &HostRuntime) -> bool {
         self.log || !self.quiet && rt.stderr().is_terminal()
@@ -160,25 +160,25 @@ pub(crate) fn serve_up<'a>(
     alloc: Global,
     spool: &'a str,
     listen: SocketAddr,
-    telling: Telling,
+    reporting: Reporting,
 ) -> (Option<FileDisk>, Result<(), Failure<'a>>)
     ensures device { IsSomeAnd result.0 (λ disk. failed_in disk ≢ 0)
-        → IsErrAnd result.1 (λ failure. status_of (fault_in failure) ≡ 3) }
+        → IsErrAnd result.1 (λ failure. exit_status_of (fault_in failure) ≡ 3) }
 {
     let (gateway, survey) = match open_with_survey(rt, alloc, spool) {
         Ok(opened) => opened,
         Err(failure) => return (None, Err(failure)),
     };
-    let told = if telling.quiet {
+    let reported = if reporting.quiet {
         None
     } else {
         Some((spool, survey))
     };
-    let bound = match listen_openly(rt, alloc, listen, told) {
+    let bound = match listen_openly(rt, alloc, listen, reported) {
         Ok(bound) => bound,
         Err(failure) => return (Some(gateway.into_disk()), Err(failure)),
     };
-    let (gateway, served) = if telling.has_log(rt) {
+    let (gateway, served) = if reporting.has_log(rt) {
         serve_logged(rt, alloc, &bound.listener, gateway, survey.blocks)
     } else {
         serve_on_and_on(rt, alloc, &mut Listening::new(&bound.listener), gateway)
@@ -209,7 +209,7 @@ fn listen_openly<'a>(
     rt: &HostRuntime,
     alloc: Global,
     listen: SocketAddr,
-    told: Option<(&'a str, Survey)>,
+    reported: Option<(&'a str, Survey)>,
 ) -> Result<Bound, Failure<'a>>
     ensures { IfOk result (λ bound. bound.asked ≡ listen) }
 {
@@ -221,10 +221,10 @@ fn listen_openly<'a>(
     let place = bound.address.to_string(alloc)?;
     if !bound.address.ip().is_loopback() {
         // If standard error can't be written, the warning is lost.
-        drop(say_open(&mut rt.stderr(), place.as_str()));
+        drop(report_open(&mut rt.stderr(), place.as_str()));
     }
-    if let Some((spool, survey)) = told {
-        say_up(&mut io::writer(rt), spool, &survey, place.as_str())?;
+    if let Some((spool, survey)) = reported {
+        report_up(&mut io::writer(rt), spool, &survey, place.as_str())?;
     }
     Ok(bound)
 }

@@ -1,6 +1,6 @@
 //! A gateway whose log is told what is left in its spool.
 ghost use Rattle.std.specs.Prelude.{◌≡◌};
-ghost use Rattle.gateway_engine.specs.Gateways.{GatewayStands, is_down, store_of};
+ghost use Rattle.gateway_engine.specs.Gateways.{GatewayRepresents, is_down, store_of};
 
 use gateway_engine::{Connections, Gateway};
 use gateway_files::used_of;
@@ -56,7 +56,7 @@ impl<'a, U: Uploads, T: Clock, W: Write + Drop> Watched<'a, U, T, W> {
 }
 
 impl<U: Uploads, T: Clock, W: Write + Drop> Connections for Watched<'_, U, T, W> {
-    ghost stands = { λ w sure st. GatewayStands U.Uploads w.gateway sure st };
+    ghost represents = { λ w sure st. GatewayRepresents U.Uploads w.gateway sure st };
 
     ghost moment = { λ w. U.moment (store_of w.gateway) };
 
@@ -66,10 +66,10 @@ impl<U: Uploads, T: Clock, W: Write + Drop> Connections for Watched<'_, U, T, W>
 
     ghost down = { λ w. is_down w.gateway };
 
-    ghost durable = { λ w st ms stands among.
-        U.durable (store_of w.gateway) st.world ms stands.session.shown among };
+    ghost durable = { λ w st ms represents among.
+        U.durable (store_of w.gateway) st.world ms represents.session.shown among };
 
-    ghost up = { λ w sure st stands. stands.up };
+    ghost up = { λ w sure st represents. represents.up };
 
     fn opened(&mut self, conn: usize) -> Result<(), SessionError> {
         self.gateway.opened(conn)

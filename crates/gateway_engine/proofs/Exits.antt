@@ -16,10 +16,10 @@ use Rattle.gateway_script.specs.Script as script
 use Rattle.gateway_script.specs.Script.{script as the_script, Run, run_lines, script_lines, run_from, ended_as, Exit}
 use Rattle.gateway_script.specs.Script.{Ran, AtLine, Faulted}
 use Rattle.gateway_script.specs.Outputs.{IsFirst, BreaksOff}
-use Rattle.gateway_script.specs.Runs.{View, with_marks, HasWritten, IsHistory, IsAt, IsDown, Reaches, Stops}
-use Rattle.gateway_script.specs.Runs.{script_past, Ends}
+use Rattle.gateway_script.specs.Runs.{RunView, with_marks, HasWritten, IsHistory, IsRunAt, IsDown, Reaches, StopsAt}
+use Rattle.gateway_script.specs.Runs.{script_past, LinesEnd}
 use Rattle.gateway_script.specs.Script.{IsScript}
-use Rattle.gateway_engine.specs.Ran.{Shows, Rests, EndedSo, RestsSo, FailedSo, StoppedSo, HasRun, HasFailed}
+use Rattle.gateway_engine.specs.Ran.{ShowsSince, IsAtRest, EndedSo, RestsSo, FailedSo, StoppedSo, HasRun, HasFailed}
 use Rattle.gateway_engine.specs.Ran.{HasRefused, CountsEither}
 use Rattle.gateway_script.specs.declared.faults.CallFault.{CallFault}
 use Rattle.gateway_script.specs.declared.faults.CallFault.TheVariants as faults
@@ -31,10 +31,10 @@ limits_none : (moment : ℕ) (left_only : Option ℕ → ℕ → List Store → 
     → LimitsTo moment moment left_only left_only stores
 limits_none moment left_only stores = record { later = omega arith; limits = λ n t ms le left among. left }
 
-pub begins : {C : Type 0} (v : View C) → v.before ≡ v.now → v.u.stands v.now v.sure v.st → v.held ≡ v.prefix
-    → IsAt v (run_from v.st [])
-begins v same stands is = record {
-  keeps = stands;
+pub begins : {C : Type 0} (v : RunView C) → v.before ≡ v.now → v.u.represents v.now v.sure v.st → v.held ≡ v.prefix
+    → IsRunAt v (run_from v.st [])
+begins v same represents is = record {
+  represents = represents;
   wrote = record { out = []; wrote = subst (λ h. Appends h v.held []) is (appends_nothing v.held); output = refl };
   up = refl;
   history = record {
@@ -60,7 +60,7 @@ IsDurable u store st = (ms : List Store) → Among st.world.store ms → u.left_
 pub shows_since : {U B : Type 0} (u : Ghosts U B) (before now : U) (st : State) (past : List Marked)
     → IsDurable u before st
     → LimitsTo (u.moment before) (u.moment now) (u.left_only before) (u.left_only now) (stores_of st past)
-    → Shows u before now st past
+    → ShowsSince u before now st past
 shows_since u before now st past durable limits = record {
   since = limits.limits st.world.blocks (u.moment before) (stores_of st past) (omega arith)
       (durable (stores_of st past) (first_store st past)) (all_themselves (stores_of st past));
@@ -68,16 +68,16 @@ shows_since u before now st past durable limits = record {
 }
 
 -- what images may show of the run of the connections
-abbrev pub ShowsIn : {C : Type 0} → View C → List Marked → Type 0
+abbrev pub ShowsIn : {C : Type 0} → RunView C → List Marked → Type 0
 ShowsIn v past = LimitsTo (v.u.moment v.before) (v.u.moment v.now) (v.u.left_only v.before) (v.u.left_only v.now)
     (stores_of v.st past)
 
-abbrev pub LastIn : {C : Type 0} → View C → List Marked → Type 0
+abbrev pub LastIn : {C : Type 0} → RunView C → List Marked → Type 0
 LastIn v past = ShowsLast (v.u.moment v.now) (v.u.left_only v.now) v.st past
 
-module _ {U B C : Type 0} (u : Ghosts U B) (v : View C) (before store : U) (bytes : List ℕ)
-    (closes : (now : State) → v.u.stands v.now v.sure now → Rests u v.sure store now)
-    (shows : v.sure ≡ true → (past : List Marked) → ShowsIn v past → Shows u before store v.st past)
+module _ {U B C : Type 0} (u : Ghosts U B) (v : RunView C) (before store : U) (bytes : List ℕ)
+    (closes : (now : State) → v.u.represents v.now v.sure now → IsAtRest u v.sure store now)
+    (shows : v.sure ≡ true → (past : List Marked) → ShowsIn v past → ShowsSince u before store v.st past)
     (last : (past : List Marked) → LastIn v past → ShowsLast (u.moment store) (u.left_only store) v.st past) where
   abbrev lines : Run → script.Result
   lines = run_lines 1 0 (script_lines bytes)
@@ -101,13 +101,13 @@ module _ {U B C : Type 0} (u : Ghosts U B) (v : View C) (before store : U) (byte
       } in
       subst (λ r. EndedSo u v.sure before store v.st r v.held v.prefix exit) (sym (ends_as s exit p)) now
 
-  rests_so : (s : Run) (exit : Exit) → (p : Reaches lines begun (λ x. ended_as x exit) s) → IsAt v s
+  rests_so : (s : Run) (exit : Exit) → (p : Reaches lines begun (λ x. ended_as x exit) s) → IsRunAt v s
       → (marks : List Mark) × RestsSo u v.sure before store v.st (the_script v.st marks bytes) v.held v.prefix exit
   rests_so s exit p at = (
     p.0 ++ [],
     record {
       ended = ended_so s exit p at.wrote at.history;
-      rests = subst (λ r. Rests u v.sure store r.run.state) (sym (ends_as s exit p)) (closes s.state at.keeps);
+      rests = subst (λ r. IsAtRest u v.sure store r.run.state) (sym (ends_as s exit p)) (closes s.state at.represents);
     },
   )
 
@@ -122,7 +122,7 @@ module _ {U B C : Type 0} (u : Ghosts U B) (v : View C) (before store : U) (byte
     },
   )
 
-  stopped_so : (fault : CallFault) → Stops v fault script_past lines begun
+  stopped_so : (fault : CallFault) → StopsAt v fault script_past lines begun
       → (marks : List Mark) × StoppedSo u v.sure before store v.st (the_script v.st marks bytes) v.held v.prefix fault
   stopped_so fault p = (
     p.1.0 ++ [],
@@ -134,15 +134,15 @@ module _ {U B C : Type 0} (u : Ghosts U B) (v : View C) (before store : U) (byte
         wrote = p.2.wrote;
         most = p.2.replies;
       };
-      rests = subst (Rests u v.sure store) p.2.history.state (closes p.0.state p.2.keeps);
+      rests = subst (IsAtRest u v.sure store) p.2.history.state (closes p.0.state p.2.represents);
       shows = λ known. shows known p.0.past (p.2.history.images known);
     },
   )
 
-  pub ran : Ends v (Ok (tt {0})) lines begun → HasRun u v.sure before (Ok store) v.held v.prefix v.st bytes
+  pub ran : LinesEnd v (Ok (tt {0})) lines begun → HasRun u v.sure before (Ok store) v.held v.prefix v.st bytes
   ran p = rests_so p.0 Ran p.1 p.2
 
-  pub stopped : (fault : ScriptFault) → Ends v (Err fault) lines begun → HasRun u v.sure before (Err (store, fault))
+  pub stopped : (fault : ScriptFault) → LinesEnd v (Err fault) lines begun → HasRun u v.sure before (Err (store, fault))
       v.held v.prefix v.st bytes
   stopped (runs.Stop NoMemory) p = stopped_so (faults.Stop NoMemory) p
   stopped (runs.Stop DiskFault) p = failed_so p.0 p.1 p.2
@@ -151,7 +151,7 @@ module _ {U B C : Type 0} (u : Ghosts U B) (v : View C) (before store : U) (byte
 
 -- THE RUN NEVER BEGAN: the script wasn't read, or it was out of memory
 module _ {U B : Type 0} (u : Ghosts U B) (sure : Bool) (store : U) (held : Option (List ℕ)) (st : State)
-    (bytes : List ℕ) (stands : Rests u sure store st) (durable : sure ≡ true → IsDurable u store st) where
+    (bytes : List ℕ) (represents : IsAtRest u sure store st) (durable : sure ≡ true → IsDurable u store st) where
   none_so : (fault : CallFault) → BreaksOff sure fault st [] []
       → (marks : List Mark) × StoppedSo u sure store store st (the_script st marks bytes) held held fault
   none_so fault most = (
@@ -164,7 +164,7 @@ module _ {U B : Type 0} (u : Ghosts U B) (sure : Bool) (store : U) (held : Optio
         wrote = appends_nothing held;
         most = most;
       };
-      rests = stands;
+      rests = represents;
       shows = λ known. shows_since u store store st [] (durable known)
           (limits_none (u.moment store) (u.left_only store) (stores_of st []));
     },
@@ -277,7 +277,7 @@ shows_through u before first last now stores same quiet shows =
     subst (λ b. LimitsTo (u.moment b) (u.moment now) (u.left_only b) (u.left_only now) stores) same (record {
       later = omega (arith, shows.later, quiet.later);
       limits = λ n t ms le left among.
-          quiet.keeps n t ms (omega (arith, shows.later)) (shows.limits n t ms le left among);
+          quiet.limits n t ms (omega (arith, shows.later)) (shows.limits n t ms le left among);
     })
 
 pub last_through : {U B : Type 0} (u : Ghosts U B) (last now : U) (st : State) (past : List Marked)
@@ -286,7 +286,7 @@ pub last_through : {U B : Type 0} (u : Ghosts U B) (last now : U) (st : State) (
 last_through u last now st past quiet shows = record {
   since = shows.since;
   reached = omega (arith, shows.reached, quiet.later);
-  left = quiet.keeps (last_blocks st past) shows.since (last_stores st past) shows.reached shows.left;
+  left = quiet.limits (last_blocks st past) shows.since (last_stores st past) shows.reached shows.left;
 }
 
 -- of an unread script nothing is told

@@ -20,9 +20,9 @@ use Rattle.tus_session.specs.Images.{stores_of, last_stores}
 use Rattle.gateway_script.proofs.Sure.{outputs_sure, breaks_sure}
 use Rattle.gateway_script.specs.Script as script
 use Rattle.gateway_script.specs.Script.{Exit, Faulted}
-use Rattle.gateway_engine.specs.Ran.{Shows, Rests, EndedSo, RestsSo, FailedSo, StoppedSo, HasRun}
+use Rattle.gateway_engine.specs.Ran.{ShowsSince, IsAtRest, EndedSo, RestsSo, FailedSo, StoppedSo, HasRun}
 use Rattle.gateway_engine.specs.RanOn.{AllShowOne, LastsOver, EndedOn, RestsOn, FailedOn, StoppedOn}
-use Rattle.gateway_engine.specs.RanOn.{HasRunOn, Writes}
+use Rattle.gateway_engine.specs.RanOn.{HasRunOn, WritesRun}
 use Rattle.gateway_script.specs.declared.faults.CallFault.{CallFault}
 use Rattle.gateway_script.specs.declared.faults.ScriptFault.{ScriptFault}
 use Rattle.gateway_script.specs.declared.faults.ScriptFault.TheVariants as runs
@@ -64,17 +64,17 @@ pub same_size : (n k : ℕ) → ◌≡◌ {A = Option ℕ} (Some n) (Some k) →
 same_size n k e = cc
 
 -- a spool's images, by the number of blocks that is said
-pub left_said : {D : Type 0} (disk : Ghosts D) (d : D) (k n t : ℕ) (ms : List Store) → SpoolLeft disk d k (Some n) t ms
+pub left_shows : {D : Type 0} (disk : Ghosts D) (d : D) (k n t : ℕ) (ms : List Store) → SpoolLeft disk d k (Some n) t ms
     → LeftOnly disk d n t ms
-left_said disk d k n t ms left = subst (λ (size : ℕ). LeftOnly disk d size t ms) (same_size n k left.0) left.1
+left_shows disk d k n t ms left = subst (λ (size : ℕ). LeftOnly disk d size t ms) (same_size n k left.0) left.1
 
 -- UPLOADS ON A DISK
-module _ {D U B : Type 0} (disk : Ghosts D) (disk_of : U → D) (size_of : U → ℕ) (stands : U → Bool → World → Type 0)
+module _ {D U B : Type 0} (disk : Ghosts D) (disk_of : U → D) (size_of : U → ℕ) (represents : U → Bool → World → Type 0)
     (number_of : B → ℕ)
     (holds : B → Patch → Type 0) where
   abbrev u : uploads.Ghosts U B
   u = record {
-    stands = stands;
+    represents = represents;
     number_of = number_of;
     holds = holds;
     moment = λ s. disk.moment (disk_of s);
@@ -87,14 +87,14 @@ module _ {D U B : Type 0} (disk : Ghosts D) (disk_of : U → D) (size_of : U →
     abbrev st : State
     st = beginning m (Some n)
 
-    lasts_over : (past : List Marked) → Shows u before now st past
+    lasts_over : (past : List Marked) → ShowsSince u before now st past
         → LastsOver disk (disk_of before) (disk_of now) n (stores_of st past)
     lasts_over past shows = record {
       later = shows.limits.later;
-      since = left_said disk (disk_of now) (size_of now) n (disk.moment (disk_of before)) (stores_of st past)
+      since = left_shows disk (disk_of now) (size_of now) n (disk.moment (disk_of before)) (stores_of st past)
           shows.since;
       always = λ t ms le left among.
-          left_said disk (disk_of now) (size_of now) n t ms
+          left_shows disk (disk_of now) (size_of now) n t ms
           (shows.limits.limits (Some n) t ms le (
             size,
             subst (λ (k : ℕ). LeftOnly disk (disk_of before) k t ms) (sym (same_size n (size_of before) size)) left,
@@ -102,10 +102,10 @@ module _ {D U B : Type 0} (disk : Ghosts D) (disk_of : U → D) (size_of : U →
     }
 
     module _ (counts_now : CountsNow disk (disk_of now))
-        (rests : (st : State) → Rests u true now st → AllShow disk (disk_of now) (size_of now) st.world.store)
+        (rests : (st : State) → IsAtRest u true now st → AllShow disk (disk_of now) (size_of now) st.world.store)
         (held prefix : Option (List ℕ)) where
       -- with as many blocks as it began with
-      rests_all : (past : List Marked) (st' : State) → Shows u before now st past → Rests u true now st'
+      rests_all : (past : List Marked) (st' : State) → ShowsSince u before now st past → IsAtRest u true now st'
           → AllShow disk (disk_of now) n st'.world.store
       rests_all past st' shows is =
           subst (λ (k : ℕ). AllShow disk (disk_of now) k st'.world.store) (same_size n (size_of now) shows.since.0)
@@ -168,11 +168,11 @@ module _ {D U B : Type 0} (disk : Ghosts D) (disk_of : U → D) (size_of : U →
 -- WHAT A RUN WRITES over any disk
 module _ {D U B : Type 0} (u : uploads.Ghosts U B) (before now : U) (d : D) (held prefix : Option (List ℕ)) (st : State)
     (bytes : List ℕ) where
-  pub writes_all : HasRun u false before (Ok now) held prefix st bytes → Writes (Ok d) held prefix st bytes
+  pub writes_all : HasRun u false before (Ok now) held prefix st bytes → WritesRun (Ok d) held prefix st bytes
   writes_all has = (has.0, has.1.ended.writes)
 
   pub writes_most : (fault : ScriptFault) → HasRun u false before (Err (now, fault)) held prefix st bytes
-      → Writes (Err (d, fault)) held prefix st bytes
+      → WritesRun (Err (d, fault)) held prefix st bytes
   writes_most (runs.Stop NoMemory) has = (has.0, has.1.writes)
   writes_most (runs.Stop DiskFault) has = (has.0, has.1.ended.writes)
   writes_most (runs.Script line) has = (has.0, has.1.ended.writes)

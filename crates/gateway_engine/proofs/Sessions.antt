@@ -11,19 +11,19 @@ use Rattle.tus_session.specs.History.{State, Event, Opened, Came, More, Ended, S
 use Rattle.tus_session.specs.History.{opened_if}
 use Rattle.tus_session.specs.declared.session.TheConstants.{MOST_OPEN}
 use Rattle.tus_session.specs.History.{opened_at, came_at, more_at, ended_at}
-use Rattle.tus_session.specs.Places.{places_of}
-use Rattle.tus_session.specs.Stands.{SessionStands}
-use Rattle.tus_session.specs.Told as told
-use Rattle.tus_session.specs.Told.{Told, Opens}
+use Rattle.tus_session.specs.Places.{links_of}
+use Rattle.tus_session.specs.Represents.{SessionRepresents}
+use Rattle.tus_session.specs.Results as results
+use Rattle.tus_session.specs.Results.{RepliesAs, Opens}
 use Rattle.tus_session.specs.declared.answers.Answer.{Answer}
 use Rattle.tus_session.specs.declared.conns.Link.{Link}
 use Rattle.tus_session.specs.declared.errors.SessionError.{SessionError}
 use Rattle.tus_session.specs.declared.errors.SessionError.TheVariants.{Stop, TooMany, Closed, Down}
 use Rattle.common.specs.declared.stop.Stop.TheVariants.{NoMemory, DiskFault}
 use Rattle.tus_session.proofs.Limiting.{still_limits}
-use Rattle.tus_session.specs.Connections.{Gives, Does, mark_of}
+use Rattle.tus_session.specs.Connections.{GivesFor, Does, mark_of}
 use Rattle.tus_session.specs.Images.{shown_by}
-use Rattle.gateway_engine.specs.Gateways.{GatewayStands, is_down}
+use Rattle.gateway_engine.specs.Gateways.{GatewayRepresents, is_down}
 use Rattle.gateway_engine.specs.declared.gateway.Gateway.{Gateway}
 
 -- A REFUSED EVENT LEAVES THE STATE AS IT WAS
@@ -81,65 +81,65 @@ FallsBy down result = (down ≡ true) ↔ IsErrOf result (Stop DiskFault)
 -- HOW A CALL OF THE SESSION LEAVES THE GATEWAY
 module _ {U B : Type 0} (u : Ghosts U B) (g : Gateway U B) (sure : Bool) (st : State) (e : Event) where
   abbrev places : List (Option (Link B))
-  places = places_of g.session
+  places = links_of g.session
 
-  abbrev stands : State → Type 0
-  stands s = GatewayStands u g sure s
+  abbrev represents : State → Type 0
+  represents s = GatewayRepresents u g sure s
 
   still_up : {T : Type 0} (result : Result T SessionError) → FallsBy (is_down g) result
       → (IsErrOf result (Stop DiskFault) → ⊥) → is_down g ≡ false
   still_up result falls valid = false_from_ne_true (is_down g) (λ down. valid (falls.0 down))
 
-  at : (s : State) → SessionStands u sure places g.store s → is_down g ≡ false → GatewayStands u g sure s
+  at : (s : State) → SessionRepresents u sure places g.store s → is_down g ≡ false → GatewayRepresents u g sure s
   at s session up = record { session = session; up = up }
 
-  at_same : (s : State) → s ≡ st → SessionStands u sure places g.store st → is_down g ≡ false → GatewayStands u g sure s
-  at_same s same session up = at s (subst (λ x. SessionStands u sure places g.store x) (sym same) session) up
+  at_same : (s : State) → s ≡ st → SessionRepresents u sure places g.store st → is_down g ≡ false → GatewayRepresents u g sure s
+  at_same s same session up = at s (subst (λ x. SessionRepresents u sure places g.store x) (sym same) session) up
 
-  pub told_gives : (result : Result Answer SessionError) (old new : List ℕ) → FallsBy (is_down g) result
-      → RefusedStays st (step st e Served) → Told u sure places g.store result old new st e
-      → Gives sure stands result old new st e
-  told_gives (Ok a) old new falls stays t =
+  pub result_gives : (result : Result Answer SessionError) (old new : List ℕ) → FallsBy (is_down g) result
+      → RefusedStays st (step st e Served) → RepliesAs u sure places g.store result old new st e
+      → GivesFor sure represents result old new st e
+  result_gives (Ok a) old new falls stays t =
       let up = still_up (Ok a) falls (λ f. absurd (cc)) in
-      (t.0, record { answer = t.1.outcome; keeps = at _ t.1.stands up }, t.2)
-  told_gives (Err (Stop NoMemory)) old new falls stays t =
+      (t.0, record { answer = t.1.outcome; now_represents = at _ t.1.represents up }, t.2)
+  result_gives (Err (Stop NoMemory)) old new falls stays t =
       let up = still_up {T = Answer} (Err (Stop NoMemory)) falls (λ f. absurd (cc)) in
-      ([], record { answer = t.0.outcome; keeps = at _ t.0.stands up }, t.1)
-  told_gives (Err (Stop DiskFault)) old new falls stays t = ([], record { answer = t.0; keeps = tt {0} }, t.1)
-  told_gives (Err TooMany) old new falls stays t =
+      ([], record { answer = t.0.outcome; now_represents = at _ t.0.represents up }, t.1)
+  result_gives (Err (Stop DiskFault)) old new falls stays t = ([], record { answer = t.0; now_represents = tt {0} }, t.1)
+  result_gives (Err TooMany) old new falls stays t =
       let up = still_up {T = Answer} (Err TooMany) falls (λ f. absurd (cc)) in
-      ([], record { answer = t.0.outcome; keeps = at_same _ (stays TooMany t.0.outcome) t.0.stands up }, t.1)
-  told_gives (Err Closed) old new falls stays t =
+      ([], record { answer = t.0.outcome; now_represents = at_same _ (stays TooMany t.0.outcome) t.0.represents up }, t.1)
+  result_gives (Err Closed) old new falls stays t =
       let up = still_up {T = Answer} (Err Closed) falls (λ f. absurd (cc)) in
-      ([], record { answer = t.0.outcome; keeps = at_same _ (stays Closed t.0.outcome) t.0.stands up }, t.1)
-  told_gives (Err Down) old new falls stays t =
+      ([], record { answer = t.0.outcome; now_represents = at_same _ (stays Closed t.0.outcome) t.0.represents up }, t.1)
+  result_gives (Err Down) old new falls stays t =
       let up = still_up {T = Answer} (Err Down) falls (λ f. absurd (cc)) in
-      ([], record { answer = t.0.outcome; keeps = at_same _ (stays Down t.0.outcome) t.0.stands up }, t.1)
+      ([], record { answer = t.0.outcome; now_represents = at_same _ (stays Down t.0.outcome) t.0.represents up }, t.1)
 
   pub ends_does : (result : Result (Unit {0}) SessionError) → FallsBy (is_down g) result
-      → RefusedStays st (step st e Served) → told.Ends u sure places g.store result st e → Does stands result st e
+      → RefusedStays st (step st e Served) → results.Ends u sure places g.store result st e → Does represents result st e
   ends_does (Ok x) falls stays t =
-      record { answer = t.outcome; keeps = at _ t.stands (still_up (Ok x) falls (λ f. absurd (cc))) }
+      record { answer = t.outcome; now_represents = at _ t.represents (still_up (Ok x) falls (λ f. absurd (cc))) }
   ends_does (Err (Stop NoMemory)) falls stays t =
       let up = still_up {T = Unit {0}} (Err (Stop NoMemory)) falls (λ f. absurd (cc)) in
-      record { answer = t.outcome; keeps = at _ t.stands up }
-  ends_does (Err (Stop DiskFault)) falls stays t = record { answer = t; keeps = tt {0} }
+      record { answer = t.outcome; now_represents = at _ t.represents up }
+  ends_does (Err (Stop DiskFault)) falls stays t = record { answer = t; now_represents = tt {0} }
   ends_does (Err TooMany) falls stays t =
       let up = still_up {T = Unit {0}} (Err TooMany) falls (λ f. absurd (cc)) in
-      record { answer = t.outcome; keeps = at_same _ (stays TooMany t.outcome) t.stands up }
+      record { answer = t.outcome; now_represents = at_same _ (stays TooMany t.outcome) t.represents up }
   ends_does (Err Closed) falls stays t =
       let up = still_up {T = Unit {0}} (Err Closed) falls (λ f. absurd (cc)) in
-      record { answer = t.outcome; keeps = at_same _ (stays Closed t.outcome) t.stands up }
+      record { answer = t.outcome; now_represents = at_same _ (stays Closed t.outcome) t.represents up }
   ends_does (Err Down) falls stays t =
       let up = still_up {T = Unit {0}} (Err Down) falls (λ f. absurd (cc)) in
-      record { answer = t.outcome; keeps = at_same _ (stays Down t.outcome) t.stands up }
+      record { answer = t.outcome; now_represents = at_same _ (stays Down t.outcome) t.represents up }
 
   pub opens_does : (result : Result (Unit {0}) SessionError) → is_down g ≡ false
-      → ManyStays st (step st e Served) → Opens u sure places g.store result st e → Does stands result st e
-  opens_does (Ok x) up stays t = record { answer = t.outcome; keeps = at _ t.stands up }
+      → ManyStays st (step st e Served) → Opens u sure places g.store result st e → Does represents result st e
+  opens_does (Ok x) up stays t = record { answer = t.outcome; now_represents = at _ t.represents up }
   opens_does (Err (Stop stop)) up stays t = let f : Stop stop ≡ TooMany = (stays (Stop stop) t.outcome).0 in absurd (cc)
   opens_does (Err TooMany) up stays t =
-      record { answer = t.outcome; keeps = at_same _ ((stays TooMany t.outcome).1) t.stands up }
+      record { answer = t.outcome; now_represents = at_same _ ((stays TooMany t.outcome).1) t.represents up }
   opens_does (Err Closed) up stays t = let f : Closed ≡ TooMany = (stays Closed t.outcome).0 in absurd (cc)
   opens_does (Err Down) up stays t = let f : Down ≡ TooMany = (stays Down t.outcome).0 in absurd (cc)
 

@@ -18,13 +18,13 @@ use Rattle.gateway_script.specs.declared.faults.ScriptFault.TheVariants.{Stop, S
 -- From the uploads before to the uploads now. What a crash at any moment since the run began might have left shows the
 -- uploads of the history after all these events, all but the latest, and so on; and images of earlier moments show
 -- them, or what they showed
-pub record Shows {U B : Type 0} (u : Ghosts U B) (before now : U) (st : State) (past : List Marked) : Type 0 where
+pub record ShowsSince {U B : Type 0} (u : Ghosts U B) (before now : U) (st : State) (past : List Marked) : Type 0 where
   pub since : u.left_only now st.world.blocks (u.moment before) (stores_of st past)
   pub limits : LimitsTo (u.moment before) (u.moment now) (u.left_only before) (u.left_only now) (stores_of st past)
 
 -- the uploads are those of the history, and no draft is open
-abbrev pub Rests : {U B : Type 0} → Ghosts U B → Bool → U → State → Type 0
-Rests u sure store st = u.stands store sure (at_rest st.world.store st.world.blocks)
+abbrev pub IsAtRest : {U B : Type 0} → Ghosts U B → Bool → U → State → Type 0
+IsAtRest u sure store st = u.represents store sure (at_rest st.world.store st.world.blocks)
 
 -- WHAT IS WRITTEN. The script ended so, by the marks of its calls, and the output of all its events was written after
 -- what was there
@@ -48,13 +48,13 @@ pub record EndedSo {U B : Type 0} (u : Ghosts U B) (sure : Bool) (before now : U
   pub writes : WritesAll sure st r held prefix exit
   pub output : r.run.out ≡ output_of st r.run.past
   pub state : r.run.state ≡ history st r.run.past
-  pub shows : sure ≡ true → Shows u before now st r.run.past
+  pub shows : sure ≡ true → ShowsSince u before now st r.run.past
 
 -- the script ended so, and the store has the uploads of its history, no draft open
 pub record RestsSo {U B : Type 0} (u : Ghosts U B) (sure : Bool) (before now : U) (st : State) (r : script.Result)
     (held prefix : Option (List ℕ)) (exit : Exit) : Type 0 where
   pub ended : EndedSo u sure before now st r held prefix exit
-  pub rests : Rests u sure now r.run.state
+  pub rests : IsAtRest u sure now r.run.state
 
 -- the script ended at an event at which the disk failed: images show the uploads after it, or before it
 pub record FailedSo {U B : Type 0} (u : Ghosts U B) (sure : Bool) (before now : U) (st : State) (r : script.Result)
@@ -66,8 +66,8 @@ pub record FailedSo {U B : Type 0} (u : Ghosts U B) (sure : Bool) (before now : 
 pub record StoppedSo {U B : Type 0} (u : Ghosts U B) (sure : Bool) (before now : U) (st : State) (r : script.Result)
     (held prefix : Option (List ℕ)) (fault : CallFault) : Type 0 where
   pub writes : WritesSome sure st r held prefix fault
-  pub rests : Rests u sure now (history st writes.past)
-  pub shows : sure ≡ true → Shows u before now st writes.past
+  pub rests : IsAtRest u sure now (history st writes.past)
+  pub shows : sure ≡ true → ShowsSince u before now st writes.past
 
 -- after a disk fault nothing is known of the store but its images
 abbrev pub HasRun : {U B : Type 0} → Ghosts U B → Bool → U → Result U (U × ScriptFault) → Option (List ℕ)

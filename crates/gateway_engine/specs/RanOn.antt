@@ -89,15 +89,15 @@ HasRunOn disk before (Err (d, Io)) held prefix n st bytes =
 -- WHATEVER THE DISK
 
 -- What a run writes: the output of the script's events over the uploads with which it began, but for the bytes of texts
-abbrev pub Writes : {D : Type 0} → Result D (D × ScriptFault) → Option (List ℕ) → Option (List ℕ) → State → List ℕ
+abbrev pub WritesRun : {D : Type 0} → Result D (D × ScriptFault) → Option (List ℕ) → Option (List ℕ) → State → List ℕ
     → Type 0
-Writes (Ok d) held prefix st bytes =
+WritesRun (Ok d) held prefix st bytes =
     (marks : List Mark) × WritesAll false st (the_script st marks bytes) held prefix Ran
-Writes (Err (d, Script line)) held prefix st bytes =
+WritesRun (Err (d, Script line)) held prefix st bytes =
     (marks : List Mark) × WritesAll false st (the_script st marks bytes) held prefix (AtLine line)
-Writes (Err (d, Stop DiskFault)) held prefix st bytes =
+WritesRun (Err (d, Stop DiskFault)) held prefix st bytes =
     (marks : List Mark) × WritesAll false st (the_script st marks bytes) held prefix Faulted
-Writes (Err (d, Stop NoMemory)) held prefix st bytes =
+WritesRun (Err (d, Stop NoMemory)) held prefix st bytes =
     (marks : List Mark) × WritesSome false st (the_script st marks bytes) held prefix (calls.Stop NoMemory)
-Writes (Err (d, Io)) held prefix st bytes =
+WritesRun (Err (d, Io)) held prefix st bytes =
     (marks : List Mark) × WritesSome false st (the_script st marks bytes) held prefix calls.Io

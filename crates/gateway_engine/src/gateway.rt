@@ -4,7 +4,7 @@ ghost use Rattle.upload_rules.specs.Store.{Store};
 ghost use Rattle.upload_rules.specs.World.{at_rest};
 ghost use Rattle.upload_rules.specs.Answers.{Quiet};
 ghost use Rattle.tus_session.specs.History.{State, beginning};
-ghost use Rattle.gateway_engine.specs.Gateways.{GatewayStands, store_of, is_down};
+ghost use Rattle.gateway_engine.specs.Gateways.{GatewayRepresents, store_of, is_down};
 
 use common::Stop;
 use std::alloc::{AllocError, Global};
@@ -25,8 +25,8 @@ pub struct Gateway<U: Uploads> {
 impl<U: Uploads> Gateway<U> {
     /// No connection is open.
     pub fn new(alloc: Global, store: U) -> Result<Self, (U, AllocError)>
-        ensures ok { (sure : Bool) (m : Store) (blocks : Option ℕ) → U.stands store sure (at_rest m blocks)
-            → IfOk result (λ g. GatewayStands U.Uploads g sure (beginning m blocks)) }
+        ensures ok { (sure : Bool) (m : Store) (blocks : Option ℕ) → U.represents store sure (at_rest m blocks)
+            → IfOk result (λ g. GatewayRepresents U.Uploads g sure (beginning m blocks)) }
         ensures same { IfOk result (λ g. store_of g ≡ store) }
         ensures up { IfOk result (λ g. is_down g ≡ false) }
         ensures back { IfErr result (λ e. e.0 ≡ store) }
@@ -50,8 +50,8 @@ impl<U: Uploads> Gateway<U> {
 
     /// Ends the session: the drafts that are open are dropped. The store has the uploads.
     pub fn close(self) -> U
-        ensures kept { (sure : Bool) (st : State) → GatewayStands U.Uploads self sure st
-            → U.stands result sure (at_rest st.world.store st.world.blocks) }
+        ensures represents { (sure : Bool) (st : State) → GatewayRepresents U.Uploads self sure st
+            → U.represents result sure (at_rest st.world.store st.world.blocks) }
         ensures crash { Quiet (U.moment (store_of self)) (U.moment result) (U.left_only (store_of self))
             (U.left_only result) }
         ensures counts { U.failures result ≡ U.failures (store_of self) }
@@ -86,7 +86,7 @@ fn failed<T>(answer: &Result<T, SessionError>) -> bool
 }
 
 impl<U: Uploads> Connections for Gateway<U> {
-    ghost stands = { λ g sure st. GatewayStands U.Uploads g sure st };
+    ghost represents = { λ g sure st. GatewayRepresents U.Uploads g sure st };
 
     ghost moment = { λ g. U.moment (store_of g) };
 
@@ -96,9 +96,9 @@ impl<U: Uploads> Connections for Gateway<U> {
 
     ghost down = { λ g. is_down g };
 
-    ghost durable = { λ g st ms stands among. U.durable (store_of g) st.world ms stands.session.shown among };
+    ghost durable = { λ g st ms represents among. U.durable (store_of g) st.world ms represents.session.shown among };
 
-    ghost up = { λ g sure st stands. stands.up };
+    ghost up = { λ g sure st represents. represents.up };
 
     fn opened(&mut self, conn: usize) -> Result<(), SessionError> {
         self.up()?;

@@ -29,7 +29,7 @@ pub fn run_over<U: Uploads, R: CountedRead, W: CountedWrite>(
     // What is written is the script's output, with a mark for each call that was out of memory, whatever the disk, but
     // for the bytes of texts. Where the disk is known to be honest these are the texts', and images show the uploads
     // of the script's history.
-    ensures output { (sure : Bool) (m : Store) (blocks : Option ℕ) → U.stands store sure (at_rest m blocks)
+    ensures output { (sure : Bool) (m : Store) (blocks : Option ℕ) → U.represents store sure (at_rest m blocks)
         → (script : List ℕ) × IsScript (R.remaining reader.old) script
         × HasRun U.Uploads sure store result (W.contents writer.new) (W.contents writer.old) (beginning m blocks)
         script }

@@ -3,18 +3,18 @@ ghost use Rattle.std.specs.Prelude.{◌≡◌, ◌↔◌, ℕ, Option, true, fal
 ghost use Rattle.spool_disk.specs.Disk.{Counts};
 ghost use Rattle.spool_disk.specs.Views.{Lasts};
 ghost use Rattle.spool_image.specs.LeftOnly.{AllShow, IsSpool, LeftOrShows, SpoolLeft};
-ghost use Rattle.spool_image.specs.Opening.{OpensBy, OpensExactly, ReadsBy, ReadsSame, Unwritten, refusal_of};
-ghost use Rattle.spool_image.specs.Spool.{IsFault, Keeps, OpensAs, SpoolStands, disk_of};
+ghost use Rattle.spool_image.specs.Opening.{OpensBy, OpensExactly, ReadsBy, ReadsSame, Unwritten, open_refusal_of};
+ghost use Rattle.spool_image.specs.Spool.{IsOpenFault, SpoolHasView, OpensAs, SpoolRepresents, disk_of};
 ghost use Rattle.spool_catalog.specs.Shows.{Shows};
 ghost use Rattle.spool_pages.specs.View.{View};
 ghost use Rattle.upload_rules.specs.Store.{Store};
 ghost use Rattle.upload_rules.specs.World.{at_rest};
 ghost use Rattle.upload_rules.specs.Answers.{Quiet};
 ghost use Rattle.tus_session.specs.History.{State, beginning};
-ghost use Rattle.gateway_engine.specs.Gateways.{GatewayStands, disk_in, size_in, disk_after, is_down, store_of};
+ghost use Rattle.gateway_engine.specs.Gateways.{GatewayRepresents, disk_in, size_in, gateway_disk_after, is_down, store_of};
 ghost use Rattle.gateway_script.specs.Script.{IsScript};
 ghost use Rattle.gateway_engine.specs.Ran.{CountsEither, HasFailed, HasRefused, handed_back};
-ghost use Rattle.gateway_engine.specs.RanOn.{HasRunOn, Writes};
+ghost use Rattle.gateway_engine.specs.RanOn.{HasRunOn, WritesRun};
 
 use crate::gateway::Gateway;
 use crate::scripts::run_over;
@@ -32,31 +32,31 @@ impl<D: Disk> Gateway<Spool<D>> {
     ///
     /// As `Spool::open`, and the disk comes back with each.
     pub fn open(alloc: Global, disk: D) -> Result<Self, (D, OpenFault)>
-        ensures size { D.size (disk_after result) ≡ D.size disk }
-        ensures honest { D.honest disk ↔ D.honest (disk_after result) }
-        ensures counts { Counts (IsFault result) (D.failures disk) (D.failures (disk_after result)) }
+        ensures size { D.size (gateway_disk_after result) ≡ D.size disk }
+        ensures honest { D.honest disk ↔ D.honest (gateway_disk_after result) }
+        ensures counts { Counts (IsOpenFault result) (D.failures disk) (D.failures (gateway_disk_after result)) }
 
         // A disk of which a read shows uploads is opened, and no event came so far, or memory or the disk refuses it.
         ensures opened { (n : ℕ) (m : Store) → IsSpool D.Disk disk n m
-            → OpensAs result (λ g. GatewayStands ⟦<Spool<D> as Uploads>⟧ g true (beginning m (Some n))) }
+            → OpensAs result (λ g. GatewayRepresents ⟦<Spool<D> as Uploads>⟧ g true (beginning m (Some n))) }
 
         // Whatever the disk, what its spool has in memory is a view, which shows uploads, and it stands for these.
-        ensures view { IfOk result (λ g. (v : View) × (m : Store) × Keeps (store_of g) v × Shows v m) }
-        ensures kept { (v : View) (m : Store) → Shows v m
-            → IfOk result (λ g. Keeps (store_of g) v
-            → GatewayStands ⟦<Spool<D> as Uploads>⟧ g false (beginning m (Some v.blocks))) }
+        ensures view { IfOk result (λ g. (v : View) × (m : Store) × SpoolHasView (store_of g) v × Shows v m) }
+        ensures represents_view { (v : View) (m : Store) → Shows v m
+            → IfOk result (λ g. SpoolHasView (store_of g) v
+            → GatewayRepresents ⟦<Spool<D> as Uploads>⟧ g false (beginning m (Some v.blocks))) }
 
         // What is opened is a valid spool. Each refusal has its reason, and each reason is answered so.
-        ensures exact { D.honest disk → OpensExactly (D.size disk) (D.current disk) (refusal_of result) }
+        ensures exact { D.honest disk → OpensExactly (D.size disk) (D.current disk) (open_refusal_of result) }
 
         // On any disk the answer follows in the same way from the bytes that the reads gave, and so does the view in
         // memory.
-        ensures given { ReadsBy (D.reads disk) (D.reads (disk_after result))
-            (OpensBy (λ g. Keeps (store_of g)) (D.size disk) result) }
+        ensures given { ReadsBy (D.reads disk) (D.reads (gateway_disk_after result))
+            (OpensBy (λ g. SpoolHasView (store_of g)) (D.size disk) result) }
 
         // Where no journal is to be replayed nothing is written.
-        ensures unwritten { D.honest disk → Unwritten D.Disk disk (disk_after result) }
-        ensures same { D.honest disk → ReadsSame D.Disk disk (disk_after result) (IsFault result) }
+        ensures unwritten { D.honest disk → Unwritten D.Disk disk (gateway_disk_after result) }
+        ensures same { D.honest disk → ReadsSame D.Disk disk (gateway_disk_after result) (IsOpenFault result) }
 
         // After an opening every image shows the uploads that a read showed.
         ensures shows { (n : ℕ) (m : Store) → IsSpool D.Disk disk n m
@@ -65,7 +65,7 @@ impl<D: Disk> Gateway<Spool<D>> {
 
         // A crash during it leaves what it might have left before, or what shows the same uploads and so many blocks.
         ensures lasts { (n : ℕ) (m : Store) → IsSpool D.Disk disk n m
-            → Lasts D.Disk disk (disk_after result) (LeftOrShows D.Disk disk n m) }
+            → Lasts D.Disk disk (gateway_disk_after result) (LeftOrShows D.Disk disk n m) }
     {
         let spool = Spool::open(alloc, disk)?;
         match Gateway::new(alloc, spool) {
@@ -76,7 +76,7 @@ impl<D: Disk> Gateway<Spool<D>> {
 
     /// Ends the session: the drafts that are open are dropped. The disk has the uploads.
     pub fn into_disk(self) -> D
-        ensures shows { (st : State) (n : ℕ) → GatewayStands ⟦<Spool<D> as Uploads>⟧ self true st
+        ensures shows { (st : State) (n : ℕ) → GatewayRepresents ⟦<Spool<D> as Uploads>⟧ self true st
             → st.world.blocks ≡ Some n → AllShow D.Disk result n st.world.store }
         ensures crash { Quiet (D.moment (disk_in self)) (D.moment result)
             (SpoolLeft D.Disk (disk_in self) (size_in self)) (SpoolLeft D.Disk result (size_in self)) }
@@ -101,13 +101,13 @@ pub fn run<D: Disk, R: CountedRead, W: CountedWrite>(
 ) -> Result<D, (D, ScriptFault)>
     // Whatever the disk: for the uploads that the spool stands for, those that its opening read, the exit and the
     // output are the script's, by a mark for each call, but for the bytes of texts, which are as many.
-    ensures writes { (m : Store) (blocks : Option ℕ) → SpoolStands spool false (at_rest m blocks)
+    ensures writes { (m : Store) (blocks : Option ℕ) → SpoolRepresents spool false (at_rest m blocks)
         → (script : List ℕ) × IsScript (R.remaining reader.old) script
-        × Writes result (W.contents writer.new) (W.contents writer.old) (beginning m blocks) script }
+        × WritesRun result (W.contents writer.new) (W.contents writer.old) (beginning m blocks) script }
 
     // Where the disk is known to be honest and to hold them, the bytes of texts are the texts', and images show the
     // uploads of the script's history, at every moment since.
-    ensures runs { (m : Store) (n : ℕ) → SpoolStands spool true (at_rest m (Some n))
+    ensures runs { (m : Store) (n : ℕ) → SpoolRepresents spool true (at_rest m (Some n))
         → (script : List ℕ) × IsScript (R.remaining reader.old) script
         × HasRunOn D.Disk (disk_of spool) result (W.contents writer.new) (W.contents writer.old) n
         (beginning m (Some n)) script }

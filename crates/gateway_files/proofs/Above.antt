@@ -6,7 +6,7 @@ use Rattle.std.proofs.Common.{Bor, option_copied}
 use Rattle.enc_model.specs.Indexes.{IndexSet}
 use Rattle.gateway_files.specs.Deleting.{incomplete_one, incomplete_record}
 use Rattle.gateway_files.specs.Lines.{record_line, upload_line}
-use Rattle.upload_rules.specs.Records.{above, Tells, TellsOf}
+use Rattle.upload_rules.specs.Records.{above, Represents, RepresentsOf}
 use Rattle.upload_rules.specs.declared.records.Record.{Record}
 use Rattle.upload_rules.specs.Slots.{IsRising}
 use Rattle.upload_rules.specs.Store.{Upload, find}
@@ -88,60 +88,60 @@ all_above (x ∷ xs) some =
     ]
 
 -- before the first all are to be told
-pub told_first : (f : ℕ × Upload → List ℕ) (out : List ℕ) (xs : List (ℕ × Upload))
+pub reported_first : (f : ℕ × Upload → List ℕ) (out : List ℕ) (xs : List (ℕ × Upload))
     → ((u : Upload) → find 0 xs ≡ Some u → ⊥) → out ≡ [] → out ++ flat_map f (after 0 xs) ≡ flat_map f xs
-told_first f out xs some e =
+reported_first f out xs some e =
     ap (λ l. l ++ flat_map f (after 0 xs)) e ∙ ap (λ ys. flat_map f ys) (all_above xs some)
 
 -- one more is told, of what is to be told in the end
-told_more : (f : ℕ × Upload → List ℕ) (whole out : List ℕ) (xs : List (ℕ × Upload)) (n : ℕ) (entry : ℕ × Upload)
+reported_more : (f : ℕ × Upload → List ℕ) (whole out : List ℕ) (xs : List (ℕ × Upload)) (n : ℕ) (entry : ℕ × Upload)
     → IsRising (numbers xs) → above n xs ≡ Some entry → out ++ flat_map f (after n xs) ≡ whole
     → (out ++ f entry) ++ flat_map f (after entry.0 xs) ≡ whole
-told_more f whole out xs n entry rising e before =
+reported_more f whole out xs n entry rising e before =
     append_assoc out (f entry) (flat_map f (after entry.0 xs))
     ∙ (ap (λ ys. out ++ flat_map f ys) (sym (some_above n xs entry rising e)) ∙ before)
 
 -- all are told
-told_all : (f : ℕ × Upload → List ℕ) (whole out : List ℕ) (xs : List (ℕ × Upload)) (n : ℕ) → above n xs ≡ None
+reported_all : (f : ℕ × Upload → List ℕ) (whole out : List ℕ) (xs : List (ℕ × Upload)) (n : ℕ) → above n xs ≡ None
     → out ++ flat_map f (after n xs) ≡ whole → out ≡ whole
-told_all f whole out xs n e before =
+reported_all f whole out xs n e before =
     sym (append-nil out) ∙ (ap (λ ys. out ++ flat_map f ys) (sym (none_above n xs e)) ∙ before)
 
 -- a record says what the line of its upload says
-pub record_is : (long : Bool) (x : IndexSet) (r : Record) (entry : ℕ × Upload) → Tells x entry.0 r entry.1
+pub record_is : (long : Bool) (x : IndexSet) (r : Record) (entry : ℕ × Upload) → Represents x entry.0 r entry.1
     → record_line long r ≡ upload_line long x entry
 record_is long x r entry t = rw (t.number_is, t.accepted, t.declared, t.text_len, t.from, t.to, t.mode, t.metadata) refl
 
 -- and its number, where it isn't complete
-pub incomplete_is : (x : IndexSet) (r : Record) (entry : ℕ × Upload) → Tells x entry.0 r entry.1
+pub incomplete_is : (x : IndexSet) (r : Record) (entry : ℕ × Upload) → Represents x entry.0 r entry.1
     → incomplete_record r ≡ incomplete_one entry
 incomplete_is x r entry t = rw (t.number_is, t.accepted, t.declared) refl
 
-pub untold : (x : IndexSet) (o : Option (ℕ × Upload)) (r : Option Record) → r ≡ None → TellsOf x o r → o ≡ None
-untold x None r e t = refl
-untold x (Some y) None e t = absurd t
-untold x (Some y) (Some r) e t = absurd (cc)
+pub none_represented : (x : IndexSet) (o : Option (ℕ × Upload)) (r : Option Record) → r ≡ None → RepresentsOf x o r → o ≡ None
+none_represented x None r e t = refl
+none_represented x (Some y) None e t = absurd t
+none_represented x (Some y) (Some r) e t = absurd (cc)
 
-pub told : (x : IndexSet) (o : Option (ℕ × Upload)) (r : Record) → TellsOf x o (Some r)
-    → (entry : ℕ × Upload) × (o ≡ Some entry) × Tells x entry.0 r entry.1
-told x None r t = absurd t
-told x (Some entry) r t = (entry, refl, t)
+pub represented : (x : IndexSet) (o : Option (ℕ × Upload)) (r : Record) → RepresentsOf x o (Some r)
+    → (entry : ℕ × Upload) × (o ≡ Some entry) × Represents x entry.0 r entry.1
+represented x None r t = absurd t
+represented x (Some entry) r t = (entry, refl, t)
 
 -- what is told of each upload, by its record
 module _ (x : IndexSet) (f : ℕ × Upload → List ℕ) (whole out : List ℕ) (xs : List (ℕ × Upload)) (n : ℕ)
-    (r : Option (Bor Record)) (t : TellsOf x (above n xs) (option_copied r))
+    (r : Option (Bor Record)) (t : RepresentsOf x (above n xs) (option_copied r))
     (before : out ++ flat_map f (after n xs) ≡ whole) where
-  pub told_none : r ≡ None → out ≡ whole
-  told_none e =
-      told_all f whole out xs n (untold x (above n xs) (option_copied r) (ap (λ o. option_copied o) e) t) before
+  pub reported_none : r ≡ None → out ≡ whole
+  reported_none e =
+      reported_all f whole out xs n (none_represented x (above n xs) (option_copied r) (ap (λ o. option_copied o) e) t) before
 
-  pub told_next : (of : Record → List ℕ)
-      → ((r : Record) (entry : ℕ × Upload) → Tells x entry.0 r entry.1 → of r ≡ f entry)
+  pub reported_next : (of : Record → List ℕ)
+      → ((r : Record) (entry : ℕ × Upload) → Represents x entry.0 r entry.1 → of r ≡ f entry)
       → (now : Bor Record) (more : List ℕ) → IsRising (numbers xs) → r ≡ Some now → more ≡ out ++ of now.now
       → more ++ flat_map f (after now.now.number xs) ≡ whole
-  told_next of is now more rising e pushed =
-      let it = told x (above n xs) now.now (subst (λ o. TellsOf x (above n xs) (option_copied o)) e t) in
+  reported_next of is now more rising e pushed =
+      let it = represented x (above n xs) now.now (subst (λ o. RepresentsOf x (above n xs) (option_copied o)) e t) in
       ap (λ l. l ++ flat_map f (after now.now.number xs)) pushed
       ∙ (ap (λ l. (out ++ l) ++ flat_map f (after now.now.number xs)) (is now.now it.0 it.2)
       ∙ (ap (λ k. (out ++ f it.0) ++ flat_map f (after k xs)) it.2.number_is
-      ∙ told_more f whole out xs n it.0 rising it.1 before))
+      ∙ reported_more f whole out xs n it.0 rising it.1 before))

@@ -6,22 +6,22 @@ use Rattle.std.specs.Io.KnownBytes.{Appends, Consumes, IsAtEnd}
 use Rattle.std.proofs.Common.{append-nil}
 use Rattle.enc_model.specs.Decode.{decoded_text}
 use Rattle.enc_model.specs.Encode.{Encoder, InAscii, Shift, Tables, coded, coded_within, encoder}
-use Rattle.enc_model.specs.Transcode.{IsAt, added, added_end, so_far, stepped}
+use Rattle.enc_model.specs.Transcode.{IsStateAt, added, added_end, so_far, stepped}
 use Rattle.enc_model.specs.declared.Mode.{Mode}
 use Rattle.enc_model.proofs.Pieces.{decoded_none}
-use Rattle.enc_stream.specs.Standing.{Standing, start}
+use Rattle.enc_stream.specs.TranscoderState.{TranscoderState, start}
 use Rattle.enc_stream.proofs.Begins.{start_at}
 use Rattle.enc_stream.proofs.Grows.{grows, grows_end}
-use Rattle.gateway_files.specs.Transcoding.{CopiesOn, EndsOn, IsStored}
+use Rattle.gateway_files.specs.Transcoding.{CopiesOn, EndsOn, IsConverted}
 use Rattle.gateway_files.specs.declared.transcoding.Conversion.{Conversion}
 
 -- so many bytes were read, and their text so far was written
-pub record Copied (t : Tables) (c : Conversion) (s : Standing) (left left' prefix held : Option (List ℕ)) : Type 0 where
+pub record Copied (t : Tables) (c : Conversion) (s : TranscoderState) (left left' prefix held : Option (List ℕ)) : Type 0 where
   pub bytes : List ℕ
   pub from : s.transcoder.from ≡ c.from
   pub to : s.transcoder.to ≡ c.to
   pub mode : s.transcoder.mode ≡ c.mode
-  pub at : IsAt t s.transcoder bytes
+  pub at : IsStateAt t s.transcoder bytes
   pub read : Consumes left left' bytes
   pub wrote : Appends prefix held (so_far t s.transcoder bytes).bytes
 
@@ -29,7 +29,7 @@ no_code : (f : Encoder) (mode : Mode) (s : Shift) → (coded f mode s []).bytes 
 unfolding coded coded_within
 no_code f mode s = refl
 
-pub copied_none : (t : Tables) (c : Conversion) (s : Standing) (left prefix : Option (List ℕ))
+pub copied_none : (t : Tables) (c : Conversion) (s : TranscoderState) (left prefix : Option (List ℕ))
     → s ≡ start c.from c.to c.mode → Copied t c s left left prefix prefix
 copied_none t c s left prefix is =
     rw is (record {
@@ -45,7 +45,7 @@ copied_none t c s left prefix is =
           (Appends-nil prefix);
     })
 
-pub copied_more : (t : Tables) (c : Conversion) (s s' : Standing) (left mid left' prefix on held : Option (List ℕ))
+pub copied_more : (t : Tables) (c : Conversion) (s s' : TranscoderState) (left mid left' prefix on held : Option (List ℕ))
     → Copied t c s left mid prefix on → CopiesOn t s s' mid left' on held → Copied t c s' left left' prefix held
 copied_more t c s s' left mid left' prefix on held is more =
     let a = s.transcoder in
@@ -63,25 +63,25 @@ copied_more t c s s' left mid left' prefix on held is more =
           (Appends-trans prefix on held old (added t a more.piece).bytes is.wrote more.wrote);
     })
 
-stored_with : (t : Tables) (c : Conversion) (s : Standing) (bytes : List ℕ) (prefix held : Option (List ℕ))
+stored_with : (t : Tables) (c : Conversion) (s : TranscoderState) (bytes : List ℕ) (prefix held : Option (List ℕ))
     → s.transcoder.from ≡ c.from → s.transcoder.to ≡ c.to → s.transcoder.mode ≡ c.mode
-    → IsStored t (record { from = s.transcoder.from; to = s.transcoder.to; mode = s.transcoder.mode }) (Some bytes)
+    → IsConverted t (record { from = s.transcoder.from; to = s.transcoder.to; mode = s.transcoder.mode }) (Some bytes)
     prefix held
-    → IsStored t c (Some bytes) prefix held
+    → IsConverted t c (Some bytes) prefix held
 stored_with t c s bytes prefix held from to mode is = rw (← from, ← to, ← mode) is
 
 known : (t : Tables) (c : Conversion) (left left' prefix held : Option (List ℕ)) (bytes : List ℕ)
-    → Consumes left left' bytes → IsAtEnd left' → IsStored t c (Some bytes) prefix held → IsStored t c left prefix held
+    → Consumes left left' bytes → IsAtEnd left' → IsConverted t c (Some bytes) prefix held → IsConverted t c left prefix held
 known t c None left' prefix held bytes read end is = tt
 known t c (Some x) None prefix held bytes read end is = absurd read
 known t c (Some x) (Some y) prefix held bytes read end is =
     rw (read ∙ ap (λ z. bytes ++ z) end ∙ append-nil bytes) is
 
 -- nothing was read, and nothing written
-pub copied_still : (t : Tables) (c : Conversion) (s s' : Standing) (left mid left' prefix on held : Option (List ℕ))
+pub copied_still : (t : Tables) (c : Conversion) (s s' : TranscoderState) (left mid left' prefix on held : Option (List ℕ))
     → Copied t c s left mid prefix on → s' ≡ s → Consumes mid left' [] → held ≡ on
     → Copied t c s' left left' prefix held
-copied_still t c s s' left mid left' prefix on held is same none kept =
+copied_still t c s s' left mid left' prefix on held is same none unchanged =
     rw same (record {
       bytes = is.bytes;
       from = is.from;
@@ -89,11 +89,11 @@ copied_still t c s s' left mid left' prefix on held is same none kept =
       mode = is.mode;
       at = is.at;
       read = rw (append-nil is.bytes) at (Consumes-trans left mid left' is.bytes [] is.read none);
-      wrote = rw kept is.wrote;
+      wrote = rw unchanged is.wrote;
     })
 
-ended : (t : Tables) (c : Conversion) (s : Standing) (left left' prefix on held : Option (List ℕ))
-    → Copied t c s left left' prefix on → IsAtEnd left' → EndsOn t s on held → IsStored t c left prefix held
+ended : (t : Tables) (c : Conversion) (s : TranscoderState) (left left' prefix on held : Option (List ℕ))
+    → Copied t c s left left' prefix on → IsAtEnd left' → EndsOn t s on held → IsConverted t c left prefix held
 ended t c s left left' prefix on held is end ends =
     let a = s.transcoder in
     let old = (so_far t a is.bytes).bytes in
@@ -106,9 +106,9 @@ ended t c s left left' prefix on held is end ends =
     ))
 
 -- all was read, and the end taken
-pub copied_all : {E : Type 0} (t : Tables) (c : Conversion) (s : Standing) (left left' prefix on held : Option (List ℕ))
+pub copied_all : {E : Type 0} (t : Tables) (c : Conversion) (s : TranscoderState) (left left' prefix on held : Option (List ℕ))
     (result : Result (Unit {0}) E) → Copied t c s left left' prefix on → IsAtEnd left'
     → OnOk result (EndsOn t s on held)
-    → OnOk result (IsStored t c left prefix held)
+    → OnOk result (IsConverted t c left prefix held)
 copied_all t c s left left' prefix on held (Ok x) is end ends = ended t c s left left' prefix on held is end ends
 copied_all t c s left left' prefix on held (Err e) is end ends = tt

@@ -28,15 +28,15 @@ others_all n (x ∷ xs) e = grind (arith, nat_tests, others_all n xs)
 none_there : (o : Option Upload) (e : UploadRefusal) → no_such o ≡ Some e → o ≡ None
 none_there o e is = grind arith
 
-stays : (stands : World → Type 0) (w : World) (n : ℕ) (e : UploadRefusal) → no_such (upload_of w.store n) ≡ Some e
-    → stands w → stands (terminated w n)
-stays stands w n e is now = rw (others_all n w.store.uploads (none_there (upload_of w.store n) e is)) now
+stays : (represents : World → Type 0) (w : World) (n : ℕ) (e : UploadRefusal) → no_such (upload_of w.store n) ≡ Some e
+    → represents w → represents (terminated w n)
+stays represents w n e is now = rw (others_all n w.store.uploads (none_there (upload_of w.store n) e is)) now
 
-pub refused_stays : {T : Type 0} (stands : World → Type 0) (w : World) (n : ℕ) (done : T → Type 0) (f : UploadError)
-    (e : UploadRefusal) → f ≡ Refused e → Answers {T = T} (no_such (upload_of w.store n)) (Err f) done (stands w)
-    → stands (terminated w n)
-refused_stays stands w n done (Stop stop) e is said = absurd (cc)
-refused_stays stands w n done (Refused f) e is said = stays stands w n f said.0 said.1
+pub refused_stays : {T : Type 0} (represents : World → Type 0) (w : World) (n : ℕ) (done : T → Type 0) (f : UploadError)
+    (e : UploadRefusal) → f ≡ Refused e → Answers {T = T} (no_such (upload_of w.store n)) (Err f) done (represents w)
+    → represents (terminated w n)
+refused_stays represents w n done (Stop stop) e is answer_is = absurd (cc)
+refused_stays represents w n done (Refused f) e is answer_is = stays represents w n f answer_is.0 answer_is.1
 
 -- no failure was counted
 pub unfailed : (P : Type 0) (a b : ℕ) → (P → ⊥) → Counts P a b → b ≡ a
@@ -75,7 +75,7 @@ and_again a b c d e = grind arith
 pub record Halfway {U B : Type 0} (u : Ghosts U B) (sure : Bool) (w : World) (before now : U) (numbers rest : List ℕ)
     (prefix held : Option (List ℕ)) (all : Bool) : Type 0 where
   pub store : Store
-  pub stands : u.stands now sure (record w { store = store })
+  pub represents : u.represents now sure (record w { store = store })
   pub remains : left store rest ≡ left w.store numbers
   pub out : List ℕ
   pub wrote : Appends prefix held out
@@ -86,11 +86,11 @@ pub record Halfway {U B : Type 0} (u : Ghosts U B) (sure : Bool) (w : World) (be
       (stages w.store numbers)
 
 module _ {U B : Type 0} (u : Ghosts U B) (sure : Bool) (w : World) (numbers : List ℕ) where
-  pub begun : (now : U) (prefix : Option (List ℕ)) → u.stands now sure w
+  pub begun : (now : U) (prefix : Option (List ℕ)) → u.represents now sure w
       → Halfway u sure w now now numbers numbers prefix prefix true
-  begun now prefix stands = record {
+  begun now prefix represents = record {
     store = w.store;
-    stands = stands;
+    represents = represents;
     remains = refl;
     out = [];
     wrote = Appends-nil prefix;
@@ -117,12 +117,12 @@ module _ {U B : Type 0} (u : Ghosts U B) (sure : Bool) (w : World) (numbers : Li
     }
 
     pub further : (on : Option (List ℕ)) (there : Bool)
-        → u.stands next sure (terminated (record w { store = is.store }) n)
+        → u.represents next sure (terminated (record w { store = is.store }) n)
         → there ≡ is_there (upload_of is.store n) → Appends held on (deletion_line there n)
         → Halfway u sure w before next numbers rest prefix on (all && there)
-    further on there stands same line = record {
+    further on there represents same line = record {
       store = deleted_store is.store n;
-      stands = stands;
+      represents = represents;
       remains = left_deleted is.store n rest ∙ is.remains;
       out = is.out ++ deletion_line there n;
       wrote = Appends-trans prefix held on is.out (deletion_line there n) is.wrote line;
@@ -137,8 +137,8 @@ module _ {U B : Type 0} (u : Ghosts U B) (sure : Bool) (w : World) (numbers : Li
 
   module _ (before now : U) (prefix held : Option (List ℕ)) (all : Bool)
       (is : Halfway u sure w before now numbers [] prefix held all) where
-    pub done_stands : u.stands now sure (record w { store = left w.store numbers })
-    done_stands = rw (sym is.remains ∙ left_all is.store) is.stands
+    pub done_represents : u.represents now sure (record w { store = left w.store numbers })
+    done_represents = rw (sym is.remains ∙ left_all is.store) is.represents
 
     pub done_lines : Appends prefix held (deletion_lines w.store numbers)
     done_lines = rw (sym is.lines ∙ append-nil is.out) is.wrote

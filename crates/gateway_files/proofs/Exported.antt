@@ -13,7 +13,7 @@ use Rattle.gateway_files.specs.Copies.{AreOf}
 use Rattle.gateway_files.specs.Exporting.{ExportedAs, Exports, ExportsAs, ExportsOneAs, ExportsSome, ExportsSomeAs}
 use Rattle.gateway_files.specs.Exporting.{HoldsTexts, IsJob, differs_as, differs_from, differs_one, exported}
 use Rattle.gateway_files.specs.Exporting.{exported_as, exported_one, some_differ}
-use Rattle.gateway_files.specs.Folders.{Files, HoldsAll, HoldsEither, Keeps, new_file}
+use Rattle.gateway_files.specs.Folders.{Files, HoldsAll, HoldsEither, PreservesFiles, new_file}
 use Rattle.gateway_files.specs.Naming.{given_name}
 use Rattle.gateway_files.specs.Planning.{Job, file_name, is_name, is_used, job_shown, jobs_from, jobs_of}
 use Rattle.gateway_files.proofs.Pieces.{are_same}
@@ -153,25 +153,25 @@ differ_more sure m files now jobs i job lt same is =
 
 -- WHAT AN EXPORT LEAVES
 
-new_keeps : (there : Option (List ℕ)) (files : Files) (name text : List ℕ) → files name ≡ there
-    → Keeps files (new_file there files name text)
-new_keeps (Some bytes) files name text is = λ other held here. here
-new_keeps None files name text none = λ other held here. elim (true_or_false (bytes_eq other name)) [
+new_preserves : (there : Option (List ℕ)) (files : Files) (name text : List ℕ) → files name ≡ there
+    → PreservesFiles files (new_file there files name text)
+new_preserves (Some bytes) files name text is = λ other held here. here
+new_preserves None files name text none = λ other held here. elim (true_or_false (bytes_eq other name)) [
   | inl same ↦
       let one : other ≡ name = (bytes_eq-Decides other name).0 same in
       let bad : ◌≡◌ {A = Option (List ℕ)} None (Some held) = sym none ∙ (ap files (sym one) ∙ here) in absurd (cc)
   | inr differs ↦ ap (λ (b : Bool). if b then Some text else files other) differs ∙ here
 ]
 
-as_keeps : (files : Files) (name : Option (List ℕ)) (text : List ℕ) → Keeps files (exported_as files name text)
-as_keeps files None text = λ other held here. here
-as_keeps files (Some name) text = new_keeps (files name) files name text refl
+as_preserves : (files : Files) (name : Option (List ℕ)) (text : List ℕ) → PreservesFiles files (exported_as files name text)
+as_preserves files None text = λ other held here. here
+as_preserves files (Some name) text = new_preserves (files name) files name text refl
 
-pub exported_keeps : (m : Store) (files : Files) (jobs : List Job) → Keeps files (exported m files jobs)
-exported_keeps m files [] = λ other held here. here
-exported_keeps m files (job ∷ jobs) = λ other held here.
-    exported_keeps m (exported_one m files job) jobs other held
-    (as_keeps files job.1 (text_at m (upload_of m job.0)) other held here)
+pub exported_preserves : (m : Store) (files : Files) (jobs : List Job) → PreservesFiles files (exported m files jobs)
+exported_preserves m files [] = λ other held here. here
+exported_preserves m files (job ∷ jobs) = λ other held here.
+    exported_preserves m (exported_one m files job) jobs other held
+    (as_preserves files job.1 (text_at m (upload_of m job.0)) other held here)
 
 -- a new file holds its text
 new_here : (there : Option (List ℕ)) (files : Files) (name text : List ℕ) → there ≡ None
@@ -223,7 +223,7 @@ texts_more m files jobs job new texts number name is none =
     let mid : Files = exported m files jobs in
     ap (λ (now : Files). now name) (exported_last m files jobs job)
     ∙ elim (job_of jobs job (number, Some name) is) [
-      | inl among ↦ as_keeps mid job.1 (text_at m (upload_of m job.0)) name text (texts number name among none)
+      | inl among ↦ as_preserves mid job.1 (text_at m (upload_of m job.0)) name text (texts number name among none)
       | inr same ↦
           let unused = new name (ap (λ (j : Job). j.1) (sym same)) in
           rw (← same) (new_here (mid name) mid name text (exported_other m files jobs name unused ∙ none))
@@ -260,7 +260,7 @@ exports (Err e) holds all m files rises held = tt
 exports (Ok t) holds all m files rises held = record {
   now = exported m files (jobs_of all m);
   held = held;
-  keeps = exported_keeps m files (jobs_of all m);
+  preserves = exported_preserves m files (jobs_of all m);
   texts = texts_from all m files [] 0 m.uploads rises tt (λ number name never none. absurd never);
 }
 
@@ -272,5 +272,5 @@ holds_both held holds files before next =
     record {
       now = after.now;
       held = after.held;
-      keeps = λ name bytes is. after.keeps name bytes (before.keeps name bytes is);
+      preserves = λ name bytes is. after.preserves name bytes (before.preserves name bytes is);
     }

@@ -11,7 +11,7 @@ pub unread : {D : Type 0} (disk : Ghosts D) (d : D) → OnlyRead disk d d
 unread disk d = record {
   size = refl;
   honest = λ honest. honest;
-  keeps = λ honest. record { same = λ p. refl; unsyncs = λ p is. is };
+  preserves = λ honest. record { same = λ p. refl; unsyncs = λ p is. is };
   lasts = λ honest. record { later = omega arith; nothing_else = λ t image le since. inl since };
 }
 

@@ -9,7 +9,7 @@ use Rattle.spool_image.specs.LeftOnly.{AllShow, LeftOnly, LeftOrShows, ShowsOne,
 use Rattle.upload_rules.specs.Answers.{Among}
 use Rattle.upload_rules.specs.Store.{Store}
 use Rattle.gateway_files.specs.Changing.{LimitsTo}
-use Rattle.gateway_files.specs.Leaving.{LastsOver}
+use Rattle.gateway_files.specs.Leaving.{LastsOverOpening}
 
 pub when_ok : {T E : Type 0} (result : Result T E) (P : Type 0) → IsOk result → OnOk result P → P
 when_ok (Ok t) P ok on = on
@@ -27,15 +27,15 @@ CountsNow disk d = (t : ℕ) (image : ℕ → ℕ) → t ≤ disk.moment d → I
     → disk.left_since d t image
 
 -- a spool's images, by the number of blocks that is said
-left_said : {D : Type 0} (disk : Ghosts D) (d : D) (k n t : ℕ) (ms : List Store) → SpoolLeft disk d k (Some n) t ms
+left_shows : {D : Type 0} (disk : Ghosts D) (d : D) (k n t : ℕ) (ms : List Store) → SpoolLeft disk d k (Some n) t ms
     → LeftOnly disk d n t ms
-left_said disk d k n t ms left = let size : k ≡ n = cc left.0 in rw size at left.1
+left_shows disk d k n t ms left = let size : k ≡ n = cc left.0 in rw size at left.1
 
 -- where only these uploads are left since now, each image of now shows them
 pub all_show : {D : Type 0} (disk : Ghosts D) (d : D) (k n : ℕ) (m : Store) → CountsNow disk d
     → SpoolLeft disk d k (Some n) (disk.moment d) (m ∷ []) → AllShow disk d n m
-all_show disk d k n m now said =
-    let left = left_said disk d k n (disk.moment d) (m ∷ []) said in
+all_show disk d k n m now answer_is =
+    let left = left_shows disk d k n (disk.moment d) (m ∷ []) answer_is in
     record {
       honest = left.honest;
       room = left.room;
@@ -63,16 +63,16 @@ module _ {D : Type 0} (disk : Ghosts D) (before opened now : D) (k k' n : ℕ) (
     }),
   )
 
-  pub lasts_over : LastsOver disk before now n m stores
+  pub lasts_over : LastsOverOpening disk before now n m stores
   lasts_over = record {
     opened = opened;
     opening = opening;
     shown = shown;
     later = limits.later;
-    since = left_said disk now k' n (disk.moment opened) stores
+    since = left_shows disk now k' n (disk.moment opened) stores
         (limits.limits (Some n) (disk.moment opened) stores (omega arith) durable (λ x among. among));
     always = λ t ms le left among.
-        left_said disk now k' n t ms
+        left_shows disk now k' n t ms
         (limits.limits (Some n) t ms (let a = opening.later in omega (arith, le, a))
         (opened_left t ms le (among m first) left) among);
   }

@@ -45,8 +45,8 @@ pub quiet_both : (m0 m1 m2 : ℕ) (l0 l1 l2 : Option ℕ → ℕ → List Store 
     → Quiet m1 m2 l1 l2 → Quiet m0 m2 l0 l2
 quiet_both m0 m1 m2 l0 l1 l2 a b = record {
   later = let x = a.later in let y = b.later in omega (arith, x, y);
-  keeps = λ blocks t ms le left.
-      let x = a.later in b.keeps blocks t ms (omega (arith, le, x)) (a.keeps blocks t ms le left);
+  limits = λ blocks t ms le left.
+      let x = a.later in b.limits blocks t ms (omega (arith, le, x)) (a.limits blocks t ms le left);
 }
 
 -- a call that writes nothing that a text owns leaves the uploads that it found
@@ -54,5 +54,5 @@ pub quiet_limits : (m0 m1 : ℕ) (l0 l1 : Option ℕ → ℕ → List Store → 
     → LimitsTo m0 m1 l0 l1 stores
 quiet_limits m0 m1 l0 l1 stores q = record {
   later = q.later;
-  limits = λ blocks t ms le left among. q.keeps blocks t ms le left;
+  limits = λ blocks t ms le left among. q.limits blocks t ms le left;
 }

@@ -9,7 +9,7 @@ use Rattle.spool_pages.specs.View.{View}
 use Rattle.spool_image.proofs.Opening.{view_more}
 use Rattle.upload_rules.specs.Store.{Store}
 use Rattle.gateway_files.specs.Changing.{IsChangeFault}
-use Rattle.gateway_files.specs.Listing.{AnswersAs, IsWriteFault, ListRefusedBy, Lists}
+use Rattle.gateway_files.specs.Listing.{AnswersAs, IsLineFault, ListRefusedBy, IsListResult}
 use Rattle.spool_catalog.specs.declared.error.OpenFault.{OpenFault}
 use Rattle.spool_catalog.specs.declared.error.OpenFault.TheVariants as opens
 use Rattle.gateway_files.specs.declared.faults.Fault.{Fault}
@@ -18,12 +18,12 @@ use Rattle.gateway_files.specs.Faults.{open_fault}
 
 -- only by memory and the disk, so it is listed but for these
 pub lists_as : {S : Type 0} (T : Type 0) (done : S → Type 0) (e : OpenFault) (f : Fault) → f ≡ open_fault e
-    → LoadsAs {T = S} (Err e) done → Lists {T = T} (Err f)
-lists_as T done (opens.Stop NoMemory) f said loads = inl (inl said)
-lists_as T done (opens.Stop DiskFault) f said loads = inr said
-lists_as T done opens.NotASpool f said loads = absurd loads
-lists_as T done opens.Damaged f said loads = absurd loads
-lists_as T done opens.Version f said loads = absurd loads
+    → LoadsAs {T = S} (Err e) done → IsListResult {T = T} (Err f)
+lists_as T done (opens.Stop NoMemory) f answer_is loads = inl (inl answer_is)
+lists_as T done (opens.Stop DiskFault) f answer_is loads = inr answer_is
+lists_as T done opens.NotASpool f answer_is loads = absurd loads
+lists_as T done opens.Damaged f answer_is loads = absurd loads
+lists_as T done opens.Version f answer_is loads = absurd loads
 
 -- refused by the disk or out of memory, whatever was to be answered
 pub loads_err : {T U : Type 0} (P : T → Type 0) (Q : U → Type 0) (e : OpenFault) → LoadsAs {T = T} (Err e) P
@@ -36,9 +36,9 @@ loads_err P Q (opens.Stop stop) is = is
 pub refused_as : (it e : OpenFault) (f : Fault) → f ≡ open_fault e
     → (e ≡ it) ⊎ (e ≡ opens.Stop NoMemory) ⊎ (e ≡ opens.Stop DiskFault)
     → (f ≡ open_fault it) ⊎ (f ≡ Stop NoMemory) ⊎ (f ≡ Stop DiskFault)
-refused_as it e f said (inl is) = inl (said ∙ ap (λ x. open_fault x) is)
-refused_as it e f said (inr (inl is)) = inr (inl (said ∙ ap (λ x. open_fault x) is))
-refused_as it e f said (inr (inr is)) = inr (inr (said ∙ ap (λ x. open_fault x) is))
+refused_as it e f answer_is (inl is) = inl (answer_is ∙ ap (λ x. open_fault x) is)
+refused_as it e f answer_is (inr (inl is)) = inr (inl (answer_is ∙ ap (λ x. open_fault x) is))
+refused_as it e f answer_is (inr (inr is)) = inr (inr (answer_is ∙ ap (λ x. open_fault x) is))
 
 -- of another version, and damaged
 pub other_version : (e : OpenFault) (f : Fault) → f ≡ open_fault e
@@ -97,6 +97,6 @@ ok_if Q (Ok t) q = q
 ok_if Q (Err f) q = tt
 
 -- what a writer refuses a change meets too
-pub write_fault : (f : Fault) → IsWriteFault f → IsChangeFault f
+pub write_fault : (f : Fault) → IsLineFault f → IsChangeFault f
 write_fault f (inl is) = inl is
 write_fault f (inr is) = inr (inl is)

@@ -22,6 +22,6 @@ abbrev pub IsChangeFault : Fault → Type 0
 IsChangeFault f = (f ≡ Stop NoMemory) ⊎ (f ≡ Io) ⊎ (f ≡ Stop DiskFault)
 
 -- done, or refused for one of these
-abbrev pub Changes : {T : Type 0} → Result T Fault → Type 0
-Changes (Ok t) = Unit {0}
-Changes (Err f) = IsChangeFault f
+abbrev pub IsChangeResult : {T : Type 0} → Result T Fault → Type 0
+IsChangeResult (Ok t) = Unit {0}
+IsChangeResult (Err f) = IsChangeFault f

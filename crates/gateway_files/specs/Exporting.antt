@@ -4,7 +4,7 @@ use Rattle.std.specs.Prelude.{Option, Some, None, length, take}
 use Rattle.upload_rules.specs.Reading.{text_at}
 use Rattle.upload_rules.specs.Store.{Store, upload_of}
 use Rattle.gateway_files.specs.Copies.{AreOf}
-use Rattle.gateway_files.specs.Folders.{Files, Keeps, new_file}
+use Rattle.gateway_files.specs.Folders.{Files, PreservesFiles, new_file}
 use Rattle.gateway_files.specs.Planning.{Job}
 use Rattle.gateway_files.specs.declared.exporting.Outcome.{Outcome}
 use Rattle.gateway_files.specs.declared.exporting.Outcome.TheVariants.{Exported, There, Differs, Failed, Incomplete}
@@ -85,7 +85,7 @@ HoldsTexts m jobs before now =
 pub record Exports (holds : Files → Type 0) (m : Store) (jobs : List Job) (before : Files) : Type 0 where
   pub now : Files
   pub held : holds now
-  pub keeps : Keeps before now
+  pub preserves : PreservesFiles before now
   pub texts : HoldsTexts m jobs before now
 
 -- there is such a file already, of another length

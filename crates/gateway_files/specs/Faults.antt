@@ -15,54 +15,54 @@ use Rattle.gateway_files.specs.declared.faults.Fault.{Fault}
 use Rattle.gateway_files.specs.declared.faults.Fault.TheVariants as faults
 
 -- THE PROGRAM'S REFUSALS, each with its number and its name. A disk fault is none
-abbrev pub refusal_of : Fault → Option (ℕ × List ℕ)
-refusal_of (faults.Stop stops.NoMemory) = Some (0, codes "NoMemory")
-refusal_of (faults.Stop stops.DiskFault) = None
-refusal_of faults.Damaged = Some (2, codes "Damaged")
-refusal_of (faults.Index file (lines.Line line)) = Some (3, codes "Line")
-refusal_of (faults.Index file (lines.Range line)) = Some (4, codes "Range")
-refusal_of (faults.Index file (lines.Twice line)) = Some (5, codes "Twice")
-refusal_of (faults.Index file lines.NoMemory) = Some (0, codes "NoMemory")
-refusal_of (faults.Unencodable c) = Some (6, codes "Unencodable")
-refusal_of faults.NoSuch = Some (8, codes "NoSuch")
-refusal_of faults.AlreadySpool = Some (13, codes "AlreadySpool")
-refusal_of faults.Size = Some (14, codes "Size")
-refusal_of faults.NotASpool = Some (15, codes "NotASpool")
-refusal_of faults.Version = Some (16, codes "Version")
-refusal_of faults.BadLabel = Some (28, codes "BadLabel")
-refusal_of (faults.Script line) = Some (32, codes "Script")
-refusal_of faults.Io = Some (33, codes "Io")
-refusal_of faults.AlreadyNew = Some (35, codes "AlreadyNew")
-refusal_of faults.FileThere = Some (36, codes "FileThere")
-refusal_of faults.FileDiffers = Some (37, codes "FileDiffers")
-refusal_of faults.InUse = Some (38, codes "InUse")
-refusal_of faults.CannotOpen = Some (39, codes "CannotOpen")
+abbrev pub numbered_refusal_of : Fault → Option (ℕ × List ℕ)
+numbered_refusal_of (faults.Stop stops.NoMemory) = Some (0, codes "NoMemory")
+numbered_refusal_of (faults.Stop stops.DiskFault) = None
+numbered_refusal_of faults.Damaged = Some (2, codes "Damaged")
+numbered_refusal_of (faults.Index file (lines.Line line)) = Some (3, codes "Line")
+numbered_refusal_of (faults.Index file (lines.Range line)) = Some (4, codes "Range")
+numbered_refusal_of (faults.Index file (lines.Twice line)) = Some (5, codes "Twice")
+numbered_refusal_of (faults.Index file lines.NoMemory) = Some (0, codes "NoMemory")
+numbered_refusal_of (faults.Unencodable c) = Some (6, codes "Unencodable")
+numbered_refusal_of faults.NoSuch = Some (8, codes "NoSuch")
+numbered_refusal_of faults.AlreadySpool = Some (13, codes "AlreadySpool")
+numbered_refusal_of faults.Size = Some (14, codes "Size")
+numbered_refusal_of faults.NotASpool = Some (15, codes "NotASpool")
+numbered_refusal_of faults.Version = Some (16, codes "Version")
+numbered_refusal_of faults.BadLabel = Some (28, codes "BadLabel")
+numbered_refusal_of (faults.Script line) = Some (32, codes "Script")
+numbered_refusal_of faults.Io = Some (33, codes "Io")
+numbered_refusal_of faults.AlreadyNew = Some (35, codes "AlreadyNew")
+numbered_refusal_of faults.FileThere = Some (36, codes "FileThere")
+numbered_refusal_of faults.FileDiffers = Some (37, codes "FileDiffers")
+numbered_refusal_of faults.InUse = Some (38, codes "InUse")
+numbered_refusal_of faults.CannotOpen = Some (39, codes "CannotOpen")
 
 -- a number and a name, as the code gives them
 abbrev pub row : ℕ × Bor (List ℕ) → ℕ × List ℕ
 row refusal = (refusal.0, refusal.1.now)
 
 -- after them the index file and its line, or the script's line: each with a space before it
-abbrev pub place_of : Fault → List ℕ
-place_of (faults.Index file (lines.Line line)) = 32 ∷ (file.now ++ (32 ∷ decimal line))
-place_of (faults.Index file (lines.Range line)) = 32 ∷ (file.now ++ (32 ∷ decimal line))
-place_of (faults.Index file (lines.Twice line)) = 32 ∷ (file.now ++ (32 ∷ decimal line))
-place_of (faults.Script line) = 32 ∷ decimal line
-place_of fault = []
+abbrev pub fault_place : Fault → List ℕ
+fault_place (faults.Index file (lines.Line line)) = 32 ∷ (file.now ++ (32 ∷ decimal line))
+fault_place (faults.Index file (lines.Range line)) = 32 ∷ (file.now ++ (32 ∷ decimal line))
+fault_place (faults.Index file (lines.Twice line)) = 32 ∷ (file.now ++ (32 ∷ decimal line))
+fault_place (faults.Script line) = 32 ∷ decimal line
+fault_place fault = []
 
-abbrev pub said : Option (ℕ × List ℕ) → List ℕ → List ℕ
-said None place = codes "device fault"
-said (Some refusal) place = codes "refused: " ++ (decimal refusal.0 ++ (32 ∷ (refusal.1 ++ place)))
+abbrev pub refusal_line_of : Option (ℕ × List ℕ) → List ℕ → List ℕ
+refusal_line_of None place = codes "device fault"
+refusal_line_of (Some refusal) place = codes "refused: " ++ (decimal refusal.0 ++ (32 ∷ (refusal.1 ++ place)))
 
 -- the line that the program ends with
-abbrev pub line_of : Fault → List ℕ
-line_of fault = said (refusal_of fault) (place_of fault)
+abbrev pub failure_line : Fault → List ℕ
+failure_line fault = refusal_line_of (numbered_refusal_of fault) (fault_place fault)
 
 -- and its status: 3 for the disk, 4 for a file that differs, 2 for each other refusal
-abbrev pub status_of : Fault → ℕ
-status_of (faults.Stop stops.DiskFault) = 3
-status_of faults.FileDiffers = 4
-status_of fault = 2
+abbrev pub exit_status_of : Fault → ℕ
+exit_status_of (faults.Stop stops.DiskFault) = 3
+exit_status_of faults.FileDiffers = 4
+exit_status_of fault = 2
 
 -- why a file isn't opened or made as a spool, where the system says this of it
 abbrev pub opening_fault : ErrorKind → Fault

@@ -19,11 +19,11 @@ abbrev pub HoldsEither : (Files → Type 0) → Files → Files → Type 0
 HoldsEither holds these those = holds these ⊎ holds those
 
 -- each file that was there is there still, with the same content
-abbrev pub Keeps : Files → Files → Type 0
-Keeps files files' = (name bytes : List ℕ) → files name ≡ Some bytes → files' name ≡ Some bytes
+abbrev pub PreservesFiles : Files → Files → Type 0
+PreservesFiles files files' = (name bytes : List ℕ) → files name ≡ Some bytes → files' name ≡ Some bytes
 
 -- some files are held, and among them all of these
 pub record HoldsAll (holds : Files → Type 0) (files : Files) : Type 0 where
   pub now : Files
   pub held : holds now
-  pub keeps : Keeps files now
+  pub preserves : PreservesFiles files now

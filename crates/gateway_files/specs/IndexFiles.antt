@@ -6,7 +6,7 @@ use Rattle.common.specs.declared.stop.Stop.TheVariants.{NoMemory}
 use Rattle.enc_model.specs.declared.Encoding.TheVariants as e
 use Rattle.enc_model.specs.Index.{Index, code}
 use Rattle.enc_model.specs.Indexes.{IndexSet, no_indexes}
-use Rattle.enc_index.specs.Files.{file_of}
+use Rattle.enc_index.specs.Files.{pairs_of_file}
 use Rattle.enc_index.specs.Kinds.{set_kind}
 use Rattle.enc_index.specs.declared.kind.Kind.{Kind}
 use Rattle.enc_index.specs.declared.kind.Kind.TheVariants.{Jis0208, Jis0212, Katakana, Single}
@@ -37,14 +37,14 @@ with_read set kind (Err error) = set
 
 abbrev pub with_file : IndexSet → Kind → Option (List ℕ) → IndexSet
 with_file set kind None = set
-with_file set kind (Some bytes) = with_read set kind (file_of kind bytes)
+with_file set kind (Some bytes) = with_read set kind (pairs_of_file kind bytes)
 
 -- why it isn't: the file's first bad line, or memory or the folder
 abbrev pub IsReadFault : List ℕ → Kind → Option (List ℕ) → Fault → Type 0
 IsReadFault name kind there (faults.Stop NoMemory) = Unit {0}
 IsReadFault name kind there faults.Io = Unit {0}
 IsReadFault name kind there (faults.Index file lines.NoMemory) = file.now ≡ name
-IsReadFault name kind (Some bytes) (faults.Index file error) = (file.now ≡ name) × (file_of kind bytes ≡ Err error)
+IsReadFault name kind (Some bytes) (faults.Index file error) = (file.now ≡ name) × (pairs_of_file kind bytes ≡ Err error)
 IsReadFault name kind there fault = ⊥
 
 -- with what the files of these names have, each as an index of its kind

@@ -9,7 +9,7 @@ use Rattle.gateway_files.specs.Changing.{AllAmong}
 -- From the disk before to the disk now, by way of the disk once it was opened. From then on a crash at any moment
 -- leaves one of these stores and so many blocks; and from any earlier moment it leaves what it was limited to before,
 -- once these stores are among that
-pub record LastsOver {D : Type 0} (disk : Ghosts D) (before now : D) (n : ℕ) (m : Store) (stores : List Store) :
+pub record LastsOverOpening {D : Type 0} (disk : Ghosts D) (before now : D) (n : ℕ) (m : Store) (stores : List Store) :
     Type 0 where
   pub opened : D
   pub opening : Lasts disk before opened (LeftOrShows disk before n m)
@@ -22,4 +22,4 @@ pub record LastsOver {D : Type 0} (disk : Ghosts D) (before now : D) (n : ℕ) (
 -- the same, or it wasn't opened: then a crash leaves what it might have left before, or what shows the same uploads
 abbrev pub LeavesOne : {D : Type 0} → Ghosts D → D → D → ℕ → Store → List Store → Type 0
 LeavesOne disk before now n m stores =
-    Lasts disk before now (LeftOrShows disk before n m) ⊎ LastsOver disk before now n m stores
+    Lasts disk before now (LeftOrShows disk before n m) ⊎ LastsOverOpening disk before now n m stores

@@ -2,7 +2,7 @@ pub mod Faults
 pub mod Failures
 pub mod IndexFiles
 pub mod Streams
-pub mod Said
+pub mod Reports
 pub mod Lines
 pub mod Listing
 pub mod Changing

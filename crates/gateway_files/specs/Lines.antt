@@ -26,8 +26,8 @@ spaced [] = []
 spaced (b ∷ text) = 32 ∷ b ∷ text
 
 -- the metadata, where it is to be told
-abbrev pub told_of : Bool → List ℕ → List ℕ
-told_of long metadata = if long then metadata else []
+abbrev pub to_show : Bool → List ℕ → List ℕ
+to_show long metadata = if long then metadata else []
 
 -- the file name that the metadata gives, where no byte of it is barred
 abbrev pub shown_name : Option (List ℕ) → List ℕ
@@ -46,16 +46,16 @@ line number accepted declared text_len from to mode metadata =
 abbrev pub upload_line : Bool → IndexSet → ℕ × Upload → List ℕ
 upload_line long x entry =
     line entry.0 (accepted_count entry.1) entry.1.declared (length (text_of x entry.1)) entry.1.from entry.1.to
-    entry.1.mode (told_of long entry.1.metadata)
+    entry.1.mode (to_show long entry.1.metadata)
 
 -- THE LINES of all uploads, by their numbers
-abbrev pub lines_of : Bool → Store → List ℕ
-lines_of long m = flat_map (upload_line long m.indexes) m.uploads
+abbrev pub list_lines : Bool → Store → List ℕ
+list_lines long m = flat_map (upload_line long m.indexes) m.uploads
 
 -- what a record says in its line
 abbrev pub record_line : Bool → Record → List ℕ
 record_line long r =
-    line r.number r.accepted r.declared r.text_len r.from r.to r.mode (told_of long r.metadata.bytes.items)
+    line r.number r.accepted r.declared r.text_len r.from r.to r.mode (to_show long r.metadata.bytes.items)
 
 -- the uploads stand by ascending numbers, from 1 on
 pub record IsInOrder (m : Store) : Type 0 where

@@ -9,8 +9,8 @@ use Rattle.spool_load.specs.Reads.{NeedsReplay}
 use Rattle.spool_load.specs.Refusals.{HasOtherVersion, IsDamaged, IsNoSpool}
 use Rattle.spool_image.specs.LeftOnly.{AllShow, IsSpool, LeftOrShows}
 use Rattle.upload_rules.specs.Store.{Store}
-use Rattle.gateway_files.specs.Lines.{lines_of}
-use Rattle.gateway_files.specs.Listing.{ListRefusedFor, Lists, RefusesListAs}
+use Rattle.gateway_files.specs.Lines.{list_lines}
+use Rattle.gateway_files.specs.Listing.{ListRefusedFor, IsListResult, RefusesListAs}
 use Rattle.gateway_files.specs.SpoolFiles.{OnlyRead}
 use Rattle.gateway_files.specs.declared.faults.Fault.{Fault}
 use Rattle.gateway_files.specs.declared.faults.Fault.TheVariants.{NotASpool, Version, Damaged, Stop}
@@ -20,13 +20,13 @@ use Rattle.gateway_files.specs.declared.surveying.Survey.{Survey}
 pub record ListsAs {D : Type 0} (disk : Ghosts D) (d d' : D) (long : Bool) (before after : Option (List ℕ))
     (result : Result Survey Fault) : Type 0
   where
-    pub lines : (n : ℕ) (m : Store) → IsSpool disk d n m → OnOk result (Appends before after (lines_of long m))
+    pub lines : (n : ℕ) (m : Store) → IsSpool disk d n m → OnOk result (Appends before after (list_lines long m))
     pub shows : (n : ℕ) (m : Store) → IsSpool disk d n m → IsOk result → AllShow disk d' n m
     pub blocks : (n : ℕ) (m : Store) → IsSpool disk d n m → IfOk result (λ survey. survey.blocks ≡ n)
     pub lasts : (n : ℕ) (m : Store) → IsSpool disk d n m → Lasts disk d d' (LeftOrShows disk d n m)
     pub unwritten : disk.honest d → (NeedsReplay (disk.size d) (disk.current d) → ⊥)
         → Lasts disk d d' (IsImage (disk.current d) (disk.unsynced d))
-    pub listed : (n : ℕ) (m : Store) → IsSpool disk d n m → Lists result
+    pub listed : (n : ℕ) (m : Store) → IsSpool disk d n m → IsListResult result
     pub refused : disk.honest d → IfErr result (ListRefusedFor (disk.size d) (disk.current d))
     pub not_a_spool : disk.honest d → IsNoSpool (disk.size d) (disk.current d) → RefusesListAs result NotASpool
     pub version : disk.honest d → HasOtherVersion (disk.size d) (disk.current d) → RefusesListAs result Version

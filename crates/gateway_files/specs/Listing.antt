@@ -35,10 +35,10 @@ RefusesListAs (Ok t) fault = ⊥
 RefusesListAs (Err f) fault = (f ≡ fault) ⊎ (f ≡ Stop NoMemory) ⊎ (f ≡ Stop DiskFault)
 
 -- why lines aren't written: for memory, or for the writer
-abbrev pub IsWriteFault : Fault → Type 0
-IsWriteFault f = (f ≡ Stop NoMemory) ⊎ (f ≡ Io)
+abbrev pub IsLineFault : Fault → Type 0
+IsLineFault f = (f ≡ Stop NoMemory) ⊎ (f ≡ Io)
 
 -- listed, or out of memory, or refused by the disk or the writer
-abbrev pub Lists : {T : Type 0} → Result T Fault → Type 0
-Lists (Ok t) = Unit {0}
-Lists (Err f) = IsWriteFault f ⊎ (f ≡ Stop DiskFault)
+abbrev pub IsListResult : {T : Type 0} → Result T Fault → Type 0
+IsListResult (Ok t) = Unit {0}
+IsListResult (Err f) = IsLineFault f ⊎ (f ≡ Stop DiskFault)

@@ -3,7 +3,7 @@ use Rattle.std.specs.Prelude.{ℕ, Bool, true, false, not, ◌&&◌, ◌||◌, �
 use Rattle.std.specs.Prelude.{length, nat_le, nat_lt, if◌then◌else◌, Option, Some, None}
 use Rattle.std.specs.List.{find, list_all}
 use Rattle.std.specs.Str.{is_utf8}
-use Rattle.common.specs.Splits.{before, after}
+use Rattle.common.specs.Splits.{before, rest_after}
 use Rattle.tus_request.specs.Texts.{parts, skipped}
 use Rattle.tus_request.specs.Value.{value_of}
 
@@ -23,7 +23,7 @@ text_in (Some bytes) = if is_utf8 bytes then Some bytes else None
 -- the name that the first pair with that key gives. Spaces round the pair don't count
 abbrev pub name_in : Option (List ℕ) → Option (List ℕ)
 name_in None = None
-name_in (Some part) = text_in (value_of (before 32 (after 32 (pair part))))
+name_in (Some part) = text_in (value_of (before 32 (rest_after 32 (pair part))))
 
 -- THE NAME THAT METADATA GIVES
 abbrev pub given_name : List ℕ → Option (List ℕ)

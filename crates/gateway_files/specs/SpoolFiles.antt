@@ -1,7 +1,7 @@
 -- Files that spools are in, by their paths, and what a call leaves in one.
 use Rattle.std.specs.Prelude.{◌≡◌, List, Option, Some, ℕ, bytes_eq, if◌then◌else◌}
 use Rattle.std.specs.declared.io.ErrorKind.{ErrorKind}
-use Rattle.spool_disk.specs.Disk.{IsImage, Keeps}
+use Rattle.spool_disk.specs.Disk.{IsImage, Preserves}
 use Rattle.spool_disk.specs.Views.{Lasts}
 use Rattle.spool_disk.specs.declared.disk.Disk.{Ghosts}
 use Rattle.gateway_files.specs.Failures.{fault_in}
@@ -41,5 +41,5 @@ pub record NotOpened {D : Type 0} (d : D) (failure : Failure) (d' : D) : Type 0 
 pub record OnlyRead {D : Type 0} (disk : Ghosts D) (d d' : D) : Type 0 where
   pub size : disk.size d' ≡ disk.size d
   pub honest : disk.honest d → disk.honest d'
-  pub keeps : disk.honest d → Keeps (disk.current d) (disk.current d') (disk.unsynced d) (disk.unsynced d')
+  pub preserves : disk.honest d → Preserves (disk.current d) (disk.current d') (disk.unsynced d) (disk.unsynced d')
   pub lasts : disk.honest d → Lasts disk d d' (IsImage (disk.current d) (disk.unsynced d))

@@ -5,11 +5,11 @@ use Rattle.gateway_files.specs.declared.losses.Tally.{Tally}
 use Rattle.gateway_files.specs.declared.streams.Noted.{Noted}
 
 -- what one stands over that keeps why its latest call failed, and that
-abbrev pub stream_of : {S : Type 0} → Noted S → S
-stream_of noted = noted.stream
+abbrev pub noted_stream : {S : Type 0} → Noted S → S
+noted_stream noted = noted.stream
 
-abbrev pub error_of : {S : Type 0} → Noted S → Option Error
-error_of noted = noted.error
+abbrev pub latest_error_of : {S : Type 0} → Noted S → Option Error
+latest_error_of noted = noted.error
 
 -- what one stands over that counts
 abbrev pub tallied : {S : Type 0} → Tally S → S

@@ -5,7 +5,7 @@ use Rattle.common.specs.declared.stop.Stop.TheVariants.{NoMemory}
 use Rattle.enc_model.specs.Decode.{text}
 use Rattle.enc_model.specs.Encode.{Coded, Tables}
 use Rattle.enc_model.specs.Transcode.{added, added_end}
-use Rattle.enc_stream.specs.Standing.{Standing, stepped_on}
+use Rattle.enc_stream.specs.TranscoderState.{TranscoderState, stepped_on}
 use Rattle.enc_stream.specs.declared.error.TranscodeError.{TranscodeError}
 use Rattle.enc_stream.specs.declared.error.TranscodeError.TheVariants as errors
 use Rattle.tus_request.specs.Metadata as metadata
@@ -22,9 +22,9 @@ abbrev pub stored_as : Tables → Conversion → List ℕ → Coded
 stored_as t c input = text t c.from c.to c.mode input true
 
 -- the code of all that was there to be read was written, and it has no fault, where it is known what was there
-abbrev pub IsStored : Tables → Conversion → Option (List ℕ) → Option (List ℕ) → Option (List ℕ) → Type 0
-IsStored t c None prefix held = ⊤
-IsStored t c (Some input) prefix held =
+abbrev pub IsConverted : Tables → Conversion → Option (List ℕ) → Option (List ℕ) → Option (List ℕ) → Type 0
+IsConverted t c None prefix held = ⊤
+IsConverted t c (Some input) prefix held =
     ((stored_as t c input).fault ≡ None) × Appends prefix held (stored_as t c input).bytes
 
 -- why it isn't: for memory, for the reader or the writer, or since a character has no code
@@ -38,7 +38,7 @@ transcode_fault (errors.Unencodable c) = Unencodable (Some c)
 transcode_fault errors.Spent = Unencodable None
 
 -- ONE PIECE was read, and what it adds to the text was written
-pub record CopiesOn (t : Tables) (before after : Standing) (left left' prefix held : Option (List ℕ)) : Type 0 where
+pub record CopiesOn (t : Tables) (before after : TranscoderState) (left left' prefix held : Option (List ℕ)) : Type 0 where
   pub piece : List ℕ
   pub read : Consumes left left' piece
   pub next : after ≡ stepped_on t before piece
@@ -46,6 +46,6 @@ pub record CopiesOn (t : Tables) (before after : Standing) (left left' prefix he
   pub wrote : Appends prefix held (added t before.transcoder piece).bytes
 
 -- and what the end adds
-pub record EndsOn (t : Tables) (s : Standing) (prefix held : Option (List ℕ)) : Type 0 where
+pub record EndsOn (t : Tables) (s : TranscoderState) (prefix held : Option (List ℕ)) : Type 0 where
   pub fault : (added_end t s.transcoder).fault ≡ None
   pub wrote : Appends prefix held (added_end t s.transcoder).bytes

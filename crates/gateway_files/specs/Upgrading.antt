@@ -1,7 +1,7 @@
 -- What `upgrade` makes of the spool in a file.
 use Rattle.std.specs.Prelude.{◌≡◌, ◌⊎◌, ◌↔◌, ◌≤◌, ◌*◌, ℕ, Result, Ok, Err, IfErr, OnOk}
 use Rattle.common.specs.declared.stop.Stop.TheVariants.{DiskFault}
-use Rattle.spool_disk.specs.Disk.{Counts, IsImage, Keeps}
+use Rattle.spool_disk.specs.Disk.{Counts, IsImage, Preserves}
 use Rattle.spool_disk.specs.Views.{Lasts}
 use Rattle.spool_disk.specs.declared.disk.Disk.{Ghosts}
 use Rattle.spool_catalog.specs.declared.error.OpenFault.TheVariants.{Damaged, NotASpool, Stop, Version}
@@ -46,7 +46,7 @@ pub record Upgrades {T D : Type 0} (disk : Ghosts D) (d d' : D) (result : Result
       → Lasts disk d d' (IsImage (disk.current d) (disk.unsynced d)))
   pub same : disk.honest d → (NeedsReplay (disk.size d) (disk.current d) → ⊥)
       → IfErr result (λ e. (e ≡ Open (Stop DiskFault) → ⊥)
-      → Keeps (disk.current d) (disk.current d') (disk.unsynced d) (disk.unsynced d'))
+      → Preserves (disk.current d) (disk.current d') (disk.unsynced d) (disk.unsynced d'))
   pub lasts : disk.honest d → (v : View) → IsValid v → IsViewOf (disk.current d) v
       → PAGE * all_pages v.blocks ≤ disk.size d → Lasts disk d d' (λ image.
       IsImage (disk.current d) (disk.unsynced d) image ⊎ IsViewOf image v ⊎ IsViewOf image (of_version_2 v))
@@ -55,16 +55,16 @@ pub record Upgrades {T D : Type 0} (disk : Ghosts D) (d d' : D) (result : Result
       → AllShow disk d' n m
 
 -- what is answered for that
-abbrev pub Tells : {T : Type 0} → Result T UpgradeError → Result T Failure → Type 0
-Tells (Ok t) (Ok u) = Unit {0}
-Tells (Err e) (Err failure) = fault_in failure ≡ upgrade_fault e
-Tells (Ok t) (Err failure) = ⊥
-Tells (Err e) (Ok u) = ⊥
+abbrev pub FailsAs : {T : Type 0} → Result T UpgradeError → Result T Failure → Type 0
+FailsAs (Ok t) (Ok u) = Unit {0}
+FailsAs (Err e) (Err failure) = fault_in failure ≡ upgrade_fault e
+FailsAs (Ok t) (Err failure) = ⊥
+FailsAs (Err e) (Ok u) = ⊥
 
 -- THE SPOOL IN A FILE WAS UPGRADED, and then at most looked at
 pub record UpgradedIn {T D : Type 0} (disk : Ghosts D) (d : D) (result : Result T Failure) (d' : D) : Type 0 where
   pub now : D
   pub answer : Result T UpgradeError
   pub upgrades : Upgrades disk d now answer
-  pub told : Tells answer result
+  pub fails_as : FailsAs answer result
   pub reads : OnlyRead disk now d'

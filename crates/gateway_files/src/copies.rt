@@ -24,13 +24,13 @@ pub fn copy_text<W: Write, U: Uploads>(
     number: u64,
 ) -> Result<(), Fault>
     // Whatever the disk, as many bytes were written as the text has, and exactly the text if the store is sure of it.
-    ensures copied { (sure : Bool) (w : World) → U.stands uploads.old sure w
+    ensures copied { (sure : Bool) (w : World) → U.represents uploads.old sure w
         → OnOk result (AppendsOf sure (W.contents writer.old) (W.contents writer.new)
         (text_at w.store (upload_of w.store number))) }
 
     // The uploads stay as they are, and whatever a crash may leave.
-    ensures stands { (sure : Bool) (w : World) → U.stands uploads.old sure w
-        → OnOk result (U.stands uploads.new sure w) }
+    ensures represents { (sure : Bool) (w : World) → U.represents uploads.old sure w
+        → OnOk result (U.represents uploads.new sure w) }
     ensures crash { Quiet (U.moment uploads.old) (U.moment uploads.new) (U.left_only uploads.old)
         (U.left_only uploads.new) }
     ensures refused { IfErr result IsChangeFault }
@@ -51,12 +51,12 @@ fn copy_bytes<W: Write, U: Uploads>(
     number: u64,
     len: u64,
 ) -> Result<(), Fault>
-    ensures copied { (sure : Bool) (w : World) → U.stands uploads.old sure w
+    ensures copied { (sure : Bool) (w : World) → U.represents uploads.old sure w
         → len ≡ length (text_at w.store (upload_of w.store number))
         → OnOk result (AppendsOf sure (W.contents writer.old) (W.contents writer.new)
         (text_at w.store (upload_of w.store number))) }
-    ensures stands { (sure : Bool) (w : World) → U.stands uploads.old sure w
-        → OnOk result (U.stands uploads.new sure w) }
+    ensures represents { (sure : Bool) (w : World) → U.represents uploads.old sure w
+        → OnOk result (U.represents uploads.new sure w) }
     ensures crash { Quiet (U.moment uploads.old) (U.moment uploads.new) (U.left_only uploads.old)
         (U.left_only uploads.new) }
     ensures refused { IfErr result IsChangeFault }
@@ -80,12 +80,12 @@ fn copy_piece<W: Write, U: Uploads>(
 ) -> Result<u64, Fault>
     requires { at < len }
     ensures next { IfOk result (λ next. next ≡ at + min (len - at) PIECE) }
-    ensures copied { (sure : Bool) (w : World) → U.stands uploads.old sure w
+    ensures copied { (sure : Bool) (w : World) → U.represents uploads.old sure w
         → len ≡ length (text_at w.store (upload_of w.store number))
         → IfOk result (λ next. AppendsOf sure (W.contents writer.old) (W.contents writer.new)
         (take (next - at) (drop at (text_at w.store (upload_of w.store number))))) }
-    ensures stands { (sure : Bool) (w : World) → U.stands uploads.old sure w
-        → OnOk result (U.stands uploads.new sure w) }
+    ensures represents { (sure : Bool) (w : World) → U.represents uploads.old sure w
+        → OnOk result (U.represents uploads.new sure w) }
     ensures crash { Quiet (U.moment uploads.old) (U.moment uploads.new) (U.left_only uploads.old)
         (U.left_only uploads.new) }
     ensures refused { IfErr result IsChangeFault }
@@ -102,12 +102,12 @@ fn copy_piece<W: Write, U: Uploads>(
 
 // Reads as many bytes of a text as the piece has, where there are so many.
 fn read_at<U: Uploads>(uploads: &mut U, number: u64, at: u64, piece: &mut [u8]) -> Result<(), Fault>
-    ensures read { (sure : Bool) (w : World) → U.stands uploads.old sure w
+    ensures read { (sure : Bool) (w : World) → U.represents uploads.old sure w
         → at + length piece.old ≤ length (text_at w.store (upload_of w.store number))
         → OnOk result (AreOf sure piece.new
         (take (length piece.old) (drop at (text_at w.store (upload_of w.store number))))) }
-    ensures stands { (sure : Bool) (w : World) → U.stands uploads.old sure w
-        → OnOk result (U.stands uploads.new sure w) }
+    ensures represents { (sure : Bool) (w : World) → U.represents uploads.old sure w
+        → OnOk result (U.represents uploads.new sure w) }
     ensures crash { Quiet (U.moment uploads.old) (U.moment uploads.new) (U.left_only uploads.old)
         (U.left_only uploads.new) }
     ensures refused { IfErr result IsChangeFault }

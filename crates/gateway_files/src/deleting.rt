@@ -10,7 +10,7 @@ ghost use Rattle.upload_rules.specs.World.{World, is_there};
 ghost use Rattle.spool_image.specs.LeftOnly.{AllShow, IsSpool};
 ghost use Rattle.spool_image.specs.Opening.{OpensOn};
 ghost use Rattle.gateway_files.specs.declared.faults.Fault.{Fault};
-ghost use Rattle.gateway_files.specs.Changing.{Changes, IsChangeFault, LimitsTo};
+ghost use Rattle.gateway_files.specs.Changing.{IsChangeResult, IsChangeFault, LimitsTo};
 ghost use Rattle.gateway_files.specs.Deleting.{all_there, deletion_line, deletion_lines, left, stages};
 ghost use Rattle.gateway_files.specs.Leaving.{LeavesOne};
 ghost use Rattle.gateway_files.specs.Listing.{AnswersAs, ListRefusedFor, RefusesListAs};
@@ -75,7 +75,7 @@ pub fn delete_on<D: Disk + Drop, W: Write>(
         → LeavesOne D.Disk disk result.0 n m (stages m numbers.now) }
 
     // A spool's uploads are deleted, unless memory, the disk or the writer refuses it.
-    ensures deletes { (n : ℕ) (m : Store) → IsSpool D.Disk disk n m → Changes result.1 }
+    ensures deletes { (n : ℕ) (m : Store) → IsSpool D.Disk disk n m → IsChangeResult result.1 }
 
     // On any disk it answers by what the reads of its opening gave: for the uploads of the view that they encode.
     ensures given { OpensOn D.Disk disk (AnswersAs
@@ -110,14 +110,14 @@ pub fn delete_uploads<W: Write, U: Uploads>(
 ) -> Result<bool, Fault>
     // Whatever the disk, for the uploads that they stand for: those of all other numbers are left, and what was written
     // tells which were there.
-    ensures stands { (sure : Bool) (w : World) → U.stands uploads.old sure w
-        → OnOk result (U.stands uploads.new sure (record w { store = left w.store numbers.now })) }
-    ensures lines { (sure : Bool) (w : World) → U.stands uploads.old sure w
+    ensures represents { (sure : Bool) (w : World) → U.represents uploads.old sure w
+        → OnOk result (U.represents uploads.new sure (record w { store = left w.store numbers.now })) }
+    ensures lines { (sure : Bool) (w : World) → U.represents uploads.old sure w
         → OnOk result (Appends (W.contents writer.old) (W.contents writer.new)
         (deletion_lines w.store numbers.now)) }
-    ensures all { (sure : Bool) (w : World) → U.stands uploads.old sure w
+    ensures all { (sure : Bool) (w : World) → U.represents uploads.old sure w
         → IfOk result (λ all. all ≡ all_there w.store numbers.now) }
-    ensures crash { (w : World) → U.stands uploads.old true w
+    ensures crash { (w : World) → U.represents uploads.old true w
         → LimitsTo (U.moment uploads.old) (U.moment uploads.new) (U.left_only uploads.old) (U.left_only uploads.new)
         (stages w.store numbers.now) }
     ensures refused { IfErr result IsChangeFault }
@@ -138,13 +138,13 @@ fn delete_one<W: Write, U: Uploads>(
     uploads: &mut U,
     number: u64,
 ) -> Result<bool, Fault>
-    ensures stands { (sure : Bool) (w : World) → U.stands uploads.old sure w
-        → OnOk result (U.stands uploads.new sure (terminated w number)) }
-    ensures there { (sure : Bool) (w : World) → U.stands uploads.old sure w
+    ensures represents { (sure : Bool) (w : World) → U.represents uploads.old sure w
+        → OnOk result (U.represents uploads.new sure (terminated w number)) }
+    ensures there { (sure : Bool) (w : World) → U.represents uploads.old sure w
         → IfOk result (λ there. there ≡ is_there (upload_of w.store number)) }
     ensures line { IfOk result (λ there. Appends (W.contents writer.old) (W.contents writer.new)
         (deletion_line there number)) }
-    ensures crash { (w : World) → U.stands uploads.old true w
+    ensures crash { (w : World) → U.represents uploads.old true w
         → Limits (U.moment uploads.old) (U.moment uploads.new) (U.left_only uploads.old) (U.left_only uploads.new)
         w.store (deleted_store w.store number) }
     ensures refused { IfErr result IsChangeFault }
@@ -152,17 +152,17 @@ fn delete_one<W: Write, U: Uploads>(
         (U.failures uploads.new) }
 {
     let there = terminate(uploads, number)?;
-    say_deleted(writer, number, there)?;
+    report_deleted(writer, number, there)?;
     Ok(there)
 }
 
 // Deletes the upload of a number: whether there was one.
 fn terminate<U: Uploads>(uploads: &mut U, number: u64) -> Result<bool, Fault>
-    ensures stands { (sure : Bool) (w : World) → U.stands uploads.old sure w
-        → OnOk result (U.stands uploads.new sure (terminated w number)) }
-    ensures there { (sure : Bool) (w : World) → U.stands uploads.old sure w
+    ensures represents { (sure : Bool) (w : World) → U.represents uploads.old sure w
+        → OnOk result (U.represents uploads.new sure (terminated w number)) }
+    ensures there { (sure : Bool) (w : World) → U.represents uploads.old sure w
         → IfOk result (λ there. there ≡ is_there (upload_of w.store number)) }
-    ensures crash { (w : World) → U.stands uploads.old true w
+    ensures crash { (w : World) → U.represents uploads.old true w
         → Limits (U.moment uploads.old) (U.moment uploads.new) (U.left_only uploads.old) (U.left_only uploads.new)
         w.store (deleted_store w.store number) }
     ensures refused { IfErr result IsChangeFault }
@@ -177,7 +177,7 @@ fn terminate<U: Uploads>(uploads: &mut U, number: u64) -> Result<bool, Fault>
 }
 
 // Says whether an upload was there, and so is deleted.
-fn say_deleted<W: Write>(writer: &mut W, number: u64, there: bool) -> io::Result<()>
+fn report_deleted<W: Write>(writer: &mut W, number: u64, there: bool) -> io::Result<()>
     ensures { OnOk result (Appends (W.contents writer.old) (W.contents writer.new) (deletion_line there number)) }
 {
     if there {

@@ -11,7 +11,7 @@ ghost use Rattle.upload_rules.specs.World.{World};
 ghost use Rattle.spool_image.specs.LeftOnly.{AllShow, IsSpool};
 ghost use Rattle.spool_image.specs.Opening.{OpensOn};
 ghost use Rattle.gateway_files.specs.declared.faults.Fault.{Fault};
-ghost use Rattle.gateway_files.specs.Changing.{Changes, IsChangeFault};
+ghost use Rattle.gateway_files.specs.Changing.{IsChangeResult, IsChangeFault};
 ghost use Rattle.gateway_files.specs.Exporting.{Exports, ExportsAs, ExportsOneAs, ExportsSome, ExportsSomeAs};
 ghost use Rattle.gateway_files.specs.Exporting.{differs_one, exported, is_other, outcome_line, some_differ};
 ghost use Rattle.gateway_files.specs.Exporting.{summary_line};
@@ -76,7 +76,7 @@ pub fn export_on<D: Disk + Drop, F: Folder, W: Write>(
         → OnOk result.1 (F.holds folder.new (exported m files (jobs_of all m))) }
     ensures texts { (n : ℕ) (m : Store) → IsSpool D.Disk disk n m → (files : Files) → F.holds folder.old files
         → OnOk result.1 (Exports (F.holds folder.new) m (jobs_of all m) files) }
-    ensures keeps { (files : Files) → F.holds folder.old files → HoldsAll (F.holds folder.new) files }
+    ensures preserves { (files : Files) → F.holds folder.old files → HoldsAll (F.holds folder.new) files }
 
     // However it ends, no file of an upload's name has a part of a text: the folder holds what it does after some of
     // the uploads.
@@ -92,7 +92,7 @@ pub fn export_on<D: Disk + Drop, F: Folder, W: Write>(
     ensures lasts { (n : ℕ) (m : Store) → IsSpool D.Disk disk n m → LeavesOne D.Disk disk result.0 n m (m ∷ []) }
 
     // A spool's texts are written, unless memory, the disk, the folder or the writer refuses it.
-    ensures exports { (n : ℕ) (m : Store) → IsSpool D.Disk disk n m → Changes result.1 }
+    ensures exports { (n : ℕ) (m : Store) → IsSpool D.Disk disk n m → IsChangeResult result.1 }
 
     // On any disk it answers by what the reads of its opening gave: for the uploads of the view that they encode.
     ensures given { OpensOn D.Disk disk (AnswersAs
@@ -130,23 +130,23 @@ pub fn export_uploads<W: Write, F: Folder, U: Uploads>(
 ) -> Result<Done, Fault>
     // Whatever the disk, for the uploads that they stand for: the folder holds a file of each text that is to be
     // written, where there was none of its name. It has as many bytes as the text, and is the text if that is sure.
-    ensures files { (sure : Bool) (w : World) → U.stands uploads.old sure w → IsInOrder w.store → (files : Files)
+    ensures files { (sure : Bool) (w : World) → U.represents uploads.old sure w → IsInOrder w.store → (files : Files)
         → F.holds folder.old files
         → OnOk result (ExportsAs sure (F.holds folder.new) w.store (jobs_of all w.store) files) }
 
     // However it ends, the folder holds what it does after some of the uploads, and each file that was there.
-    ensures whole { (sure : Bool) (w : World) → U.stands uploads.old sure w → IsInOrder w.store → (files : Files)
+    ensures whole { (sure : Bool) (w : World) → U.represents uploads.old sure w → IsInOrder w.store → (files : Files)
         → F.holds folder.old files → ExportsSomeAs sure (F.holds folder.new) w.store (jobs_of all w.store) files }
-    ensures keeps { (files : Files) → F.holds folder.old files → HoldsAll (F.holds folder.new) files }
+    ensures preserves { (files : Files) → F.holds folder.old files → HoldsAll (F.holds folder.new) files }
 
     // It is told whether a file that was there has another length than its upload's text.
-    ensures differs { (sure : Bool) (w : World) → U.stands uploads.old sure w → IsInOrder w.store → (files : Files)
+    ensures differs { (sure : Bool) (w : World) → U.represents uploads.old sure w → IsInOrder w.store → (files : Files)
         → F.holds folder.old files
         → IfOk result (λ done. done.differs ≡ some_differ w.store files (jobs_of all w.store)) }
 
     // The uploads stay as they are, and whatever a crash may leave.
-    ensures stands { (sure : Bool) (w : World) → U.stands uploads.old sure w
-        → OnOk result (U.stands uploads.new sure w) }
+    ensures represents { (sure : Bool) (w : World) → U.represents uploads.old sure w
+        → OnOk result (U.represents uploads.new sure w) }
     ensures crash { Quiet (U.moment uploads.old) (U.moment uploads.new) (U.left_only uploads.old)
         (U.left_only uploads.new) }
     ensures refused { IfErr result IsChangeFault }
@@ -155,7 +155,7 @@ pub fn export_uploads<W: Write, F: Folder, U: Uploads>(
 {
     let jobs = plan(alloc, uploads, all)?;
     let done = do_jobs(writer, folder, uploads, &jobs)?;
-    say_done(writer, done, jobs.len())?;
+    report_done(writer, done, jobs.len())?;
     Ok(done)
 }
 
@@ -177,18 +177,18 @@ fn do_jobs<W: Write, F: Folder, U: Uploads>(
     uploads: &mut U,
     jobs: &[Job],
 ) -> Result<Done, Fault>
-    ensures files { (sure : Bool) (w : World) → U.stands uploads.old sure w → (files : Files)
+    ensures files { (sure : Bool) (w : World) → U.represents uploads.old sure w → (files : Files)
         → F.holds folder.old files
         → OnOk result (ExportsAs sure (F.holds folder.new) w.store (map job_shown jobs.now) files) }
-    ensures whole { (sure : Bool) (w : World) → U.stands uploads.old sure w → (files : Files)
+    ensures whole { (sure : Bool) (w : World) → U.represents uploads.old sure w → (files : Files)
         → F.holds folder.old files
         → ExportsSomeAs sure (F.holds folder.new) w.store (map job_shown jobs.now) files }
-    ensures differs { (sure : Bool) (w : World) → U.stands uploads.old sure w → (files : Files)
+    ensures differs { (sure : Bool) (w : World) → U.represents uploads.old sure w → (files : Files)
         → F.holds folder.old files
         → IfOk result (λ done. done.differs ≡ some_differ w.store files (map job_shown jobs.now)) }
-    ensures keeps { (files : Files) → F.holds folder.old files → HoldsAll (F.holds folder.new) files }
-    ensures stands { (sure : Bool) (w : World) → U.stands uploads.old sure w
-        → OnOk result (U.stands uploads.new sure w) }
+    ensures preserves { (files : Files) → F.holds folder.old files → HoldsAll (F.holds folder.new) files }
+    ensures represents { (sure : Bool) (w : World) → U.represents uploads.old sure w
+        → OnOk result (U.represents uploads.new sure w) }
     ensures crash { Quiet (U.moment uploads.old) (U.moment uploads.new) (U.left_only uploads.old)
         (U.left_only uploads.new) }
     ensures refused { IfErr result IsChangeFault }
@@ -246,18 +246,18 @@ fn do_job<'j, W: Write, F: Folder, U: Uploads>(
     uploads: &mut U,
     job: &'j Job,
 ) -> Result<Outcome<'j>, Fault>
-    ensures files { (sure : Bool) (w : World) → U.stands uploads.old sure w → (files : Files)
+    ensures files { (sure : Bool) (w : World) → U.represents uploads.old sure w → (files : Files)
         → F.holds folder.old files
         → OnOk result (ExportsAs sure (F.holds folder.new) w.store (job_shown job.now ∷ []) files) }
-    ensures failed { (sure : Bool) (w : World) → U.stands uploads.old sure w → (files : Files)
+    ensures failed { (sure : Bool) (w : World) → U.represents uploads.old sure w → (files : Files)
         → F.holds folder.old files
         → OnErr result (ExportsOneAs sure (F.holds folder.new) w.store (job_shown job.now) files) }
-    ensures differs { (sure : Bool) (w : World) → U.stands uploads.old sure w → (files : Files)
+    ensures differs { (sure : Bool) (w : World) → U.represents uploads.old sure w → (files : Files)
         → F.holds folder.old files
         → IfOk result (λ outcome. is_other outcome ≡ differs_one w.store files (job_shown job.now)) }
-    ensures keeps { (files : Files) → F.holds folder.old files → HoldsAll (F.holds folder.new) files }
-    ensures stands { (sure : Bool) (w : World) → U.stands uploads.old sure w
-        → OnOk result (U.stands uploads.new sure w) }
+    ensures preserves { (files : Files) → F.holds folder.old files → HoldsAll (F.holds folder.new) files }
+    ensures represents { (sure : Bool) (w : World) → U.represents uploads.old sure w
+        → OnOk result (U.represents uploads.new sure w) }
     ensures crash { Quiet (U.moment uploads.old) (U.moment uploads.new) (U.left_only uploads.old)
         (U.left_only uploads.new) }
     ensures refused { IfErr result IsChangeFault }
@@ -266,13 +266,13 @@ fn do_job<'j, W: Write, F: Folder, U: Uploads>(
 {
     match (export_job(folder, uploads, job), &job.name) {
         (Ok(outcome), _) => {
-            say_outcome(writer, job.number, outcome)?;
+            report_outcome(writer, job.number, outcome)?;
             Ok(outcome)
         }
         (Err(fault), Some(name)) => {
             // where this can't be written either, the end tells of the fault alone
-            let told = say_outcome(writer, job.number, Outcome::Failed(name.as_str()));
-            drop(told);
+            let reported = report_outcome(writer, job.number, Outcome::Failed(name.as_str()));
+            drop(reported);
             Err(fault)
         }
         (Err(fault), None) => Err(fault),
@@ -285,18 +285,18 @@ fn export_job<'j, F: Folder, U: Uploads>(
     uploads: &mut U,
     job: &'j Job,
 ) -> Result<Outcome<'j>, Fault>
-    ensures files { (sure : Bool) (w : World) → U.stands uploads.old sure w → (files : Files)
+    ensures files { (sure : Bool) (w : World) → U.represents uploads.old sure w → (files : Files)
         → F.holds folder.old files
         → OnOk result (ExportsAs sure (F.holds folder.new) w.store (job_shown job.now ∷ []) files) }
-    ensures failed { (sure : Bool) (w : World) → U.stands uploads.old sure w → (files : Files)
+    ensures failed { (sure : Bool) (w : World) → U.represents uploads.old sure w → (files : Files)
         → F.holds folder.old files
         → OnErr result (ExportsOneAs sure (F.holds folder.new) w.store (job_shown job.now) files) }
-    ensures differs { (sure : Bool) (w : World) → U.stands uploads.old sure w → (files : Files)
+    ensures differs { (sure : Bool) (w : World) → U.represents uploads.old sure w → (files : Files)
         → F.holds folder.old files
         → IfOk result (λ outcome. is_other outcome ≡ differs_one w.store files (job_shown job.now)) }
-    ensures keeps { (files : Files) → F.holds folder.old files → HoldsAll (F.holds folder.new) files }
-    ensures stands { (sure : Bool) (w : World) → U.stands uploads.old sure w
-        → OnOk result (U.stands uploads.new sure w) }
+    ensures preserves { (files : Files) → F.holds folder.old files → HoldsAll (F.holds folder.new) files }
+    ensures represents { (sure : Bool) (w : World) → U.represents uploads.old sure w
+        → OnOk result (U.represents uploads.new sure w) }
     ensures crash { Quiet (U.moment uploads.old) (U.moment uploads.new) (U.left_only uploads.old)
         (U.left_only uploads.new) }
     ensures refused { IfErr result IsChangeFault }
@@ -315,7 +315,7 @@ fn export_job<'j, F: Folder, U: Uploads>(
 
 // What there is of an upload's text: a file of this name and of so many bytes.
 fn found<'j, U: Uploads>(uploads: &U, number: u64, name: &'j str, len: u64) -> Outcome<'j>
-    ensures { (sure : Bool) (w : World) → U.stands uploads.now sure w
+    ensures { (sure : Bool) (w : World) → U.represents uploads.now sure w
         → is_other result ≡ not (len == length (text_at w.store (upload_of w.store number))) }
 {
     let text = match uploads.record(number) {
@@ -336,15 +336,15 @@ fn write_text<F: Folder, U: Uploads>(
     number: u64,
     name: &str,
 ) -> Result<(), Fault>
-    ensures files { (sure : Bool) (w : World) → U.stands uploads.old sure w → (files : Files)
+    ensures files { (sure : Bool) (w : World) → U.represents uploads.old sure w → (files : Files)
         → F.holds folder.old files → OnOk result ((files name.now ≡ None)
         × ExportsAs sure (F.holds folder.new) w.store ((number, Some name.now) ∷ []) files) }
-    ensures failed { (sure : Bool) (w : World) → U.stands uploads.old sure w → (files : Files)
+    ensures failed { (sure : Bool) (w : World) → U.represents uploads.old sure w → (files : Files)
         → F.holds folder.old files
         → OnErr result (ExportsOneAs sure (F.holds folder.new) w.store (number, Some name.now) files) }
-    ensures keeps { (files : Files) → F.holds folder.old files → HoldsAll (F.holds folder.new) files }
-    ensures stands { (sure : Bool) (w : World) → U.stands uploads.old sure w
-        → OnOk result (U.stands uploads.new sure w) }
+    ensures preserves { (files : Files) → F.holds folder.old files → HoldsAll (F.holds folder.new) files }
+    ensures represents { (sure : Bool) (w : World) → U.represents uploads.old sure w
+        → OnOk result (U.represents uploads.new sure w) }
     ensures crash { Quiet (U.moment uploads.old) (U.moment uploads.new) (U.left_only uploads.old)
         (U.left_only uploads.new) }
     ensures refused { IfErr result IsChangeFault }
@@ -365,7 +365,7 @@ fn write_text<F: Folder, U: Uploads>(
 }
 
 // Says what became of an upload.
-fn say_outcome<W: Write>(writer: &mut W, number: u64, outcome: Outcome) -> io::Result<()>
+fn report_outcome<W: Write>(writer: &mut W, number: u64, outcome: Outcome) -> io::Result<()>
     ensures { OnOk result (Appends (W.contents writer.old) (W.contents writer.new)
         (outcome_line number outcome.entry)) }
 {
@@ -381,7 +381,7 @@ fn say_outcome<W: Write>(writer: &mut W, number: u64, outcome: Outcome) -> io::R
 }
 
 // Says how many texts were written, of how many uploads, and whether a file has another length than its text.
-fn say_done<W: Write>(writer: &mut W, done: Done, uploads: usize) -> io::Result<()>
+fn report_done<W: Write>(writer: &mut W, done: Done, uploads: usize) -> io::Result<()>
     ensures { OnOk result (Appends (W.contents writer.old) (W.contents writer.new)
         (summary_line done.exported uploads done.differs)) }
 {

@@ -1,8 +1,8 @@
 //! What the program says of its end: the fault, and what the system said where it was the system that failed.
 ghost use Rattle.std.specs.Prelude.{◌≡◌};
 ghost use Rattle.std.specs.IoError.{error_kind};
-ghost use Rattle.gateway_files.specs.Faults.{opening_fault, status_of};
-ghost use Rattle.gateway_files.specs.Failures.{ended_with, fault_in};
+ghost use Rattle.gateway_files.specs.Faults.{opening_fault, exit_status_of};
+ghost use Rattle.gateway_files.specs.Failures.{status_with, fault_in};
 
 use crate::faults::Fault;
 use common::Stop;
@@ -247,7 +247,7 @@ impl<'a> Failure<'a> {
 
     /// The status that the program ends with, as `Fault::status`.
     pub fn status(&self) -> u8
-        ensures { result ≡ status_of (fault_in self.now) }
+        ensures { result ≡ exit_status_of (fault_in self.now) }
     {
         self.fault.status()
     }
@@ -256,13 +256,13 @@ impl<'a> Failure<'a> {
 /// The status that the program ends with. A failure is told to a writer; where that takes nothing, the status alone
 /// says it.
 pub fn ended<W: Write>(writer: &mut W, outcome: Result<u8, Failure>) -> u8
-    ensures { result ≡ ended_with outcome.entry }
+    ensures { result ≡ status_with outcome.entry }
 {
     match outcome {
         Ok(status) => status,
         Err(failure) => {
-            let told = writeln!(writer, "{failure}");
-            drop(told);
+            let reported = writeln!(writer, "{failure}");
+            drop(reported);
             failure.status()
         }
     }

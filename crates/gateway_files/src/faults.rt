@@ -1,6 +1,6 @@
 //! Why the program ends before its work is done.
 ghost use Rattle.std.specs.Prelude.{◌≡◌, Some, option_map};
-ghost use Rattle.gateway_files.specs.Faults.{line_of, opening_fault, refusal_of, row, status_of};
+ghost use Rattle.gateway_files.specs.Faults.{failure_line, opening_fault, numbered_refusal_of, row, exit_status_of};
 
 use common::Stop;
 use enc_index::ReadError;
@@ -52,7 +52,7 @@ pub enum Fault {
 }
 
 impl fmt::Display for Fault {
-    ghost output = { λ fault. Some (line_of fault) };
+    ghost output = { λ fault. Some (failure_line fault) };
 
     fn fmt<W: fmt::Write>(&self, f: &mut fmt::Formatter<W>) -> fmt::Result {
         let Some((number, name)) = self.refusal() else {
@@ -96,7 +96,7 @@ impl Fault {
 
     /// The number and the name of the refusal. `None` for a disk fault, which is none.
     pub fn refusal(self) -> Option<(u8, &'static str)>
-        ensures { option_map row result ≡ refusal_of self }
+        ensures { option_map row result ≡ numbered_refusal_of self }
     {
         Some(match self {
             Fault::Stop(Stop::DiskFault) => return None,
@@ -124,7 +124,7 @@ impl Fault {
 
     /// The status that the program ends with: 3 for a disk fault, 4 for `FileDiffers`, 2 for any other refusal.
     pub fn status(self) -> u8
-        ensures { result ≡ status_of self }
+        ensures { result ≡ exit_status_of self }
     {
         match self {
             Fault::Stop(Stop::DiskFault) => 3,

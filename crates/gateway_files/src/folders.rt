@@ -22,13 +22,13 @@ pub trait Folder {
     fn len_of(&mut self, name: &str) -> io::Result<Option<u64>>
         ensures len { (files : Files) → holds self.old files
             → IfOk result (λ len. len ≡ option_map length (files name.now)) }
-        ensures keeps { (files : Files) → holds self.old files → holds self.new files };
+        ensures preserves { (files : Files) → holds self.old files → holds self.new files };
 
     /// Begins a file. The folder holds what it held.
     fn begin(&mut self) -> io::Result<Self::File>
         ensures empty { (files : Files) → holds self.old files
             → IfOk result (λ file. Self.File.contents file ≡ Some []) }
-        ensures keeps { (files : Files) → holds self.old files → holds self.new files };
+        ensures preserves { (files : Files) → holds self.old files → holds self.new files };
 
     /// Ends a file: it has this name, and what was written to it lasts from then on. It fails where a file has the name
     /// already, which stays as it is. Where it fails for another reason, the folder may have the whole file or none.
@@ -37,11 +37,11 @@ pub trait Folder {
             → OnOk result ((files name.now ≡ None) × holds self.new (with_file files name.now bytes)) }
         ensures failed { (files : Files) (bytes : List ℕ) → holds self.old files → Self.File.contents file ≡ Some bytes
             → OnErr result (HoldsEither (holds self.new) files (new_file (files name.now) files name.now bytes)) }
-        ensures keeps { (files : Files) → holds self.old files → HoldsAll (holds self.new) files };
+        ensures preserves { (files : Files) → holds self.old files → HoldsAll (holds self.new) files };
 
     /// Gives a file up, of which nothing stays. The folder holds what it held.
     fn give_up(&mut self, file: Self::File)
-        ensures keeps { (files : Files) → holds self.old files → holds self.new files };
+        ensures preserves { (files : Files) → holds self.old files → holds self.new files };
 }
 
 // The name of the file that is being written. It begins with a dot, as the name of no upload's file does.

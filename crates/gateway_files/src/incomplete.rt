@@ -12,7 +12,7 @@ ghost use Rattle.spool_image.specs.Opening.{ReadsBy};
 ghost use Rattle.gateway_files.specs.declared.faults.Fault.{Fault};
 ghost use Rattle.gateway_files.specs.Deleting.{doomed_line, incomplete_of, incomplete_record};
 ghost use Rattle.gateway_files.specs.Lines.{IsInOrder};
-ghost use Rattle.gateway_files.specs.Listing.{AnswersAs, ListRefusedFor, Lists, RefusesListAs};
+ghost use Rattle.gateway_files.specs.Listing.{AnswersAs, ListRefusedFor, IsListResult, RefusesListAs};
 
 use crate::deleting::delete_numbers;
 use crate::failures::Failure;
@@ -41,11 +41,11 @@ pub fn delete_incomplete_file<'a>(
     if yes {
         return delete_numbers(rt, alloc, spool, disk, &numbers);
     }
-    say_doomed(&mut io::writer(rt), &numbers)?;
+    report_doomed(&mut io::writer(rt), &numbers)?;
     if !numbers.is_empty() {
         // If standard error can't be written, this isn't said.
-        let told = eprintln!(rt; "nothing was deleted: --yes deletes them");
-        drop(told);
+        let reported = eprintln!(rt; "nothing was deleted: --yes deletes them");
+        drop(reported);
     }
     Ok(())
 }
@@ -66,7 +66,7 @@ pub fn incomplete_on<D: Disk + Drop>(alloc: Global, disk: D) -> (D, Result<Vec<u
 
     // Each refusal has its reason, and each reason is answered so, unless memory or the disk refuses it. On any disk it
     // answers by what the reads of its opening gave.
-    ensures listed { (n : ℕ) (m : Store) → IsSpool D.Disk disk n m → Lists result.1 }
+    ensures listed { (n : ℕ) (m : Store) → IsSpool D.Disk disk n m → IsListResult result.1 }
     ensures given { ReadsBy (D.reads disk) (D.reads result.0) (AnswersAs
         (λ m. IfOk result.1 (λ numbers. numbers.items ≡ incomplete_of m)) (D.size disk) result.1) }
     ensures refused { D.honest disk → IfErr result.1 (ListRefusedFor (D.size disk) (D.current disk)) }
@@ -91,7 +91,7 @@ pub fn incomplete_on<D: Disk + Drop>(alloc: Global, disk: D) -> (D, Result<Vec<u
 /// Refused with `Stop(NoMemory)` alone.
 pub fn incomplete_numbers<U: Uploads>(alloc: Global, uploads: &U) -> Result<Vec<u64>, Fault>
     // Whatever the disk: for the uploads that they stand for.
-    ensures numbers { (sure : Bool) (w : World) → U.stands uploads.now sure w → IsInOrder w.store
+    ensures numbers { (sure : Bool) (w : World) → U.represents uploads.now sure w → IsInOrder w.store
         → IfOk result (λ numbers. numbers.items ≡ incomplete_of w.store) }
     ensures refused { IfErr result (λ fault. fault ≡ Fault.Stop Stop.NoMemory) }
 {
@@ -119,7 +119,7 @@ fn push_incomplete(numbers: &mut Vec<u64>, record: &Record) -> Result<(), AllocE
 }
 
 // Says of each of these uploads that it would be deleted.
-fn say_doomed<W: Write>(writer: &mut W, numbers: &[u64]) -> io::Result<()>
+fn report_doomed<W: Write>(writer: &mut W, numbers: &[u64]) -> io::Result<()>
     ensures { OnOk result (Appends (W.contents writer.old) (W.contents writer.new) (flat_map doomed_line numbers.now)) }
 {
     for number in numbers {

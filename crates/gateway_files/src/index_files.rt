@@ -91,7 +91,7 @@ pub struct IndexFile {
 /// warning.
 impl fmt::Display for IndexFile {
     ghost use Rattle.std.specs.Prelude.{Some};
-    ghost use Rattle.gateway_files.specs.Said.{file_lines};
+    ghost use Rattle.gateway_files.specs.Reports.{file_lines};
 
     ghost output = { λ file. Some (file_lines file) };
 

@@ -16,7 +16,7 @@ mod listing;
 mod losses;
 mod naming;
 mod planning;
-mod said;
+mod reports;
 mod spool_files;
 mod streams;
 mod surveying;
@@ -40,7 +40,9 @@ pub use listing::{list_file, list_in, list_on, write_uploads};
 pub use losses::Tally;
 pub use naming::{given_name, is_safe_name};
 pub use planning::{Job, plan};
-pub use said::{say_formatted, say_open, say_read, say_served, say_up, say_upgraded};
+pub use reports::{
+    report_formatted, report_open, report_read, report_served, report_up, report_upgraded,
+};
 pub use spool_files::{SpoolFiles, SystemFiles, open_in, open_spool, refused_in, refused_spool};
 pub use streams::Noted;
 pub use surveying::{Survey, Used, open_surveyed, used_of};

@@ -14,17 +14,17 @@ ghost use Rattle.spool_image.specs.Opening.{ReadsBy};
 ghost use Rattle.gateway_files.specs.declared.faults.Fault.{Fault};
 ghost use Rattle.gateway_files.specs.Failures.{fault_in};
 ghost use Rattle.gateway_files.specs.Listed.{ListsAs, RefusedList};
-ghost use Rattle.gateway_files.specs.Listing.{AnswersAs, IsWriteFault, ListRefusedFor, Lists, RefusesListAs};
-ghost use Rattle.gateway_files.specs.Lines.{IsInOrder, length_text, lines_of, mode_text, record_line, spaced};
-ghost use Rattle.gateway_files.specs.Lines.{shown_name, told_of};
+ghost use Rattle.gateway_files.specs.Listing.{AnswersAs, IsLineFault, ListRefusedFor, IsListResult, RefusesListAs};
+ghost use Rattle.gateway_files.specs.Lines.{IsInOrder, length_text, list_lines, mode_text, record_line, spaced};
+ghost use Rattle.gateway_files.specs.Lines.{shown_name, to_show};
 ghost use Rattle.gateway_files.specs.SpoolFiles.{Disks, Leaves, NotOpened, with_disk};
-ghost use Rattle.gateway_files.specs.Streams.{stream_of};
+ghost use Rattle.gateway_files.specs.Streams.{noted_stream};
 
 use crate::failures::Failure;
 use crate::faults::Fault;
 use crate::losses::losses_of;
 use crate::naming::{given_name, is_clean};
-use crate::said::{say_free, say_losses_of};
+use crate::reports::{report_free, report_losses_of};
 use crate::spool_files::{SpoolFiles, SystemFiles, open_in, refused_by, refused_spool};
 use crate::streams::Noted;
 use crate::surveying::{Survey, open_surveyed};
@@ -49,9 +49,9 @@ pub fn list_file<'a>(
     let mut output = Noted::new(io::writer(rt));
     let (disk, survey) = list_in(alloc, &mut SystemFiles::new(rt), &mut output, spool, long)?;
     // If standard error can't be written, this isn't reported.
-    drop(say_free(&mut rt.stderr(), &survey));
+    drop(report_free(&mut rt.stderr(), &survey));
     if long {
-        tell_losses(rt, alloc, spool, disk)?;
+        report_losses_first(rt, alloc, spool, disk)?;
     }
     Ok(())
 }
@@ -68,13 +68,13 @@ pub fn list_in<'a, F: SpoolFiles, W: Write>(
     // Its disk is listed, with what `list_on` promises. The other files stay.
     ensures listed { (disks : Disks F.File) (d : F.File) → F.holds files.old disks → disks path.now ≡ Some d
         → IfOk result (λ opened. F.holds files.new (with_disk disks path.now None) × ListsAs F.File.Disk d opened.0 long
-        (W.contents (stream_of writer.old)) (W.contents (stream_of writer.new)) (Ok opened.1)) }
+        (W.contents (noted_stream writer.old)) (W.contents (noted_stream writer.new)) (Ok opened.1)) }
 
     // Or it can't be opened, or it is refused as `list_on` refuses it, and then at most looked at.
     ensures refused { (disks : Disks F.File) (d : F.File) → F.holds files.old disks → disks path.now ≡ Some d
         → IfErr result (λ failure. Leaves (F.holds files.new) disks path.now
-        (λ d'. NotOpened d failure d' ⊎ RefusedList F.File.Disk d long (W.contents (stream_of writer.old))
-        (W.contents (stream_of writer.new)) (fault_in failure) d')) }
+        (λ d'. NotOpened d failure d' ⊎ RefusedList F.File.Disk d long (W.contents (noted_stream writer.old))
+        (W.contents (noted_stream writer.new)) (fault_in failure) d')) }
 {
     let disk = match open_in(files, path) {
         Ok(disk) => disk,
@@ -88,7 +88,7 @@ pub fn list_in<'a, F: SpoolFiles, W: Write>(
 }
 
 // Says on standard error which texts have U+FFFD, and how often.
-fn tell_losses<'a>(
+fn report_losses_first<'a>(
     rt: &HostRuntime,
     alloc: Global,
     spool: &'a str,
@@ -98,9 +98,9 @@ fn tell_losses<'a>(
         Ok(uploads) => uploads,
         Err((disk, fault)) => return Err(refused_spool(Fault::from(fault), spool, disk)),
     };
-    let told = say_all_losses(&mut rt.stderr(), &mut uploads);
+    let reported = report_all_losses(&mut rt.stderr(), &mut uploads);
     let disk = uploads.into_disk();
-    match told {
+    match reported {
         // If standard error can't be written, this isn't reported.
         Ok(()) | Err(Fault::Io) => Ok(()),
         Err(fault) => Err(refused_spool(fault, spool, disk)),
@@ -108,7 +108,7 @@ fn tell_losses<'a>(
 }
 
 // Says of each text that has U+FFFD how often.
-fn say_all_losses<W: Write, U: Uploads>(writer: &mut W, uploads: &mut U) -> Result<(), Fault> {
+fn report_all_losses<W: Write, U: Uploads>(writer: &mut W, uploads: &mut U) -> Result<(), Fault> {
     let mut number = 0;
     for _ in 0..SLOTS {
         let Some(record) = uploads.record_after(number) else {
@@ -118,7 +118,7 @@ fn say_all_losses<W: Write, U: Uploads>(writer: &mut W, uploads: &mut U) -> Resu
         let to = record.to;
         let losses = losses_of(uploads, number, to)?;
         if losses > 0 {
-            say_losses_of(writer, number, losses)?;
+            report_losses_of(writer, number, losses)?;
         }
     }
     Ok(())
@@ -134,7 +134,7 @@ pub fn list_on<D: Disk + Drop, W: Write>(
 ) -> (D, Result<Survey, Fault>)
     // What was written is the lines of the uploads that the disk shows, and it shows them still.
     ensures lines { (n : ℕ) (m : Store) → IsSpool D.Disk disk n m
-        → OnOk result.1 (Appends (W.contents writer.old) (W.contents writer.new) (lines_of long m)) }
+        → OnOk result.1 (Appends (W.contents writer.old) (W.contents writer.new) (list_lines long m)) }
     ensures shows { (n : ℕ) (m : Store) → IsSpool D.Disk disk n m → IsOk result.1 → AllShow D.Disk result.0 n m }
     ensures blocks { (n : ℕ) (m : Store) → IsSpool D.Disk disk n m → IfOk result.1 (λ survey. survey.blocks ≡ n) }
 
@@ -148,11 +148,11 @@ pub fn list_on<D: Disk + Drop, W: Write>(
         → Lasts D.Disk disk result.0 (IsImage (D.current disk) (D.unsynced disk)) }
 
     // A spool is listed, unless memory, the disk or the writer refuses it.
-    ensures listed { (n : ℕ) (m : Store) → IsSpool D.Disk disk n m → Lists result.1 }
+    ensures listed { (n : ℕ) (m : Store) → IsSpool D.Disk disk n m → IsListResult result.1 }
 
     // On any disk it answers by what the reads of its opening gave: for the uploads of the view that they encode.
     ensures given { ReadsBy (D.reads disk) (D.reads result.0) (AnswersAs
-        (λ m. Appends (W.contents writer.old) (W.contents writer.new) (lines_of long m)) (D.size disk) result.1) }
+        (λ m. Appends (W.contents writer.old) (W.contents writer.new) (list_lines long m)) (D.size disk) result.1) }
 
     // Each refusal has its reason, and each reason is answered so, unless memory or the disk refuses it.
     ensures refused { D.honest disk → IfErr result.1 (ListRefusedFor (D.size disk) (D.current disk)) }
@@ -186,9 +186,9 @@ pub fn write_uploads<W: Write, U: Uploads>(
     long: bool,
 ) -> Result<(), Fault>
     // Whatever the disk: for the uploads that they stand for.
-    ensures lines { (sure : Bool) (w : World) → U.stands uploads.now sure w → IsInOrder w.store
-        → OnOk result (Appends (W.contents writer.old) (W.contents writer.new) (lines_of long w.store)) }
-    ensures refused { IfErr result IsWriteFault }
+    ensures lines { (sure : Bool) (w : World) → U.represents uploads.now sure w → IsInOrder w.store
+        → OnOk result (Appends (W.contents writer.old) (W.contents writer.new) (list_lines long w.store)) }
+    ensures refused { IfErr result IsLineFault }
 {
     let lines = lines_of(alloc, uploads, long)?;
     writer.write_all(lines.as_bytes())?;
@@ -197,8 +197,8 @@ pub fn write_uploads<W: Write, U: Uploads>(
 
 // The lines of the uploads, by number.
 fn lines_of<U: Uploads>(alloc: Global, uploads: &U, long: bool) -> Result<String, AllocError>
-    ensures lines { (sure : Bool) (w : World) → U.stands uploads.now sure w → IsInOrder w.store
-        → IfOk result (λ lines. string_bytes lines ≡ lines_of long w.store) }
+    ensures lines { (sure : Bool) (w : World) → U.represents uploads.now sure w → IsInOrder w.store
+        → IfOk result (λ lines. string_bytes lines ≡ list_lines long w.store) }
 {
     let mut lines = String::new(alloc);
     let mut number = 0;
@@ -226,9 +226,9 @@ fn push_line(
     let to = name_of(record.to);
     let mode = mode_name(record.mode);
     let declared = Declared(record.declared);
-    let told = told_of(record, long);
-    let name = given_name(alloc, told.as_bytes())?;
-    let metadata = Spaced(told);
+    let reported = to_show(record, long);
+    let name = given_name(alloc, reported.as_bytes())?;
+    let metadata = Spaced(reported);
     let named = Named(name);
     writeln!(
         lines,
@@ -253,8 +253,8 @@ impl fmt::Display for Declared {
 }
 
 // What is told of an upload's metadata: all or nothing.
-fn told_of(record: &Record, long: bool) -> &str
-    ensures { result.now ≡ told_of long record.now.metadata.bytes.items }
+fn to_show(record: &Record, long: bool) -> &str
+    ensures { result.now ≡ to_show long record.now.metadata.bytes.items }
 {
     if long { record.metadata.as_str() } else { "" }
 }

@@ -107,7 +107,7 @@ pub(crate) fn losses_of<U: Uploads>(
     number: u64,
     to: Encoding,
 ) -> Result<u64, Fault>
-    ensures stands { (w : World) → U.stands uploads.old true w → OnOk result (U.stands uploads.new true w) }
+    ensures represents { (w : World) → U.represents uploads.old true w → OnOk result (U.represents uploads.new true w) }
     ensures crash { Quiet (U.moment uploads.old) (U.moment uploads.new) (U.left_only uploads.old)
         (U.left_only uploads.new) }
     ensures refused { IfErr result IsChangeFault }

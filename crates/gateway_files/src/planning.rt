@@ -34,7 +34,7 @@ impl Job {
 /// its metadata gives, where that is safe and no other file has it, and else its number.
 pub fn plan<U: Uploads>(alloc: Global, uploads: &U, all: bool) -> Result<Vec<Job>, AllocError>
     // Whatever the disk: for the uploads that they stand for.
-    ensures { (sure : Bool) (w : World) → U.stands uploads.now sure w → IsInOrder w.store
+    ensures { (sure : Bool) (w : World) → U.represents uploads.now sure w → IsInOrder w.store
         → IfOk result (λ jobs. map job_shown jobs.items ≡ jobs_of all w.store) }
 {
     let mut jobs = Vec::new(alloc);

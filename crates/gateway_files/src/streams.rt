@@ -11,12 +11,12 @@ pub struct Noted<S> {
 }
 
 impl<S> Noted<S> {
-    ghost use Rattle.gateway_files.specs.Streams.{error_of, stream_of};
+    ghost use Rattle.gateway_files.specs.Streams.{latest_error_of, noted_stream};
 
     /// No call failed so far.
     pub fn new(stream: S) -> Self
-        ensures stream { stream_of result ≡ stream }
-        ensures none { error_of result ≡ None }
+        ensures stream { noted_stream result ≡ stream }
+        ensures none { latest_error_of result ≡ None }
     {
         Noted {
             stream,
@@ -26,23 +26,23 @@ impl<S> Noted<S> {
 
     /// What it stands over.
     pub fn into_stream(self) -> S
-        ensures { result ≡ stream_of self }
+        ensures { result ≡ noted_stream self }
     {
         self.stream
     }
 
     /// Why the latest call failed. `None` where it didn't, or there was none.
     pub fn error(&self) -> Option<io::Error>
-        ensures { result ≡ error_of self.now }
+        ensures { result ≡ latest_error_of self.now }
     {
         self.error
     }
 }
 
 impl<R: Read> Read for Noted<R> {
-    ghost use Rattle.gateway_files.specs.Streams.{stream_of};
+    ghost use Rattle.gateway_files.specs.Streams.{noted_stream};
 
-    ghost remaining = { λ noted. R.remaining (stream_of noted) };
+    ghost remaining = { λ noted. R.remaining (noted_stream noted) };
 
     fn read(&mut self, buf: &mut [u8]) -> io::Result<usize> {
         let outcome = self.stream.read(buf);
@@ -52,9 +52,9 @@ impl<R: Read> Read for Noted<R> {
 }
 
 impl<W: Write> Write for Noted<W> {
-    ghost use Rattle.gateway_files.specs.Streams.{stream_of};
+    ghost use Rattle.gateway_files.specs.Streams.{noted_stream};
 
-    ghost contents = { λ noted. W.contents (stream_of noted) };
+    ghost contents = { λ noted. W.contents (noted_stream noted) };
 
     fn write(&mut self, buf: &[u8]) -> io::Result<usize> {
         let outcome = self.stream.write(buf);

@@ -7,7 +7,7 @@ ghost use Rattle.upload_rules.specs.Store.{Store};
 ghost use Rattle.upload_rules.specs.World.{at_rest};
 ghost use Rattle.spool_image.specs.LeftOnly.{AllShow, IsSpool, LeftOrShows};
 ghost use Rattle.spool_image.specs.Opening.{OpensBy, ReadsBy, ReadsSame, Unwritten};
-ghost use Rattle.spool_image.specs.Spool.{IsFault, Keeps, OpensAs, OpensFrom, RefusesAs, SpoolStands, disk_of, size_of};
+ghost use Rattle.spool_image.specs.Spool.{IsOpenFault, SpoolHasView, OpensAs, OpensFrom, RefusesAs, SpoolRepresents, disk_of, block_count_of};
 ghost use Rattle.spool_catalog.specs.Shows.{Shows};
 ghost use Rattle.spool_pages.specs.View.{View, version_number};
 ghost use Rattle.gateway_files.specs.Surveying.{disk_left};
@@ -39,24 +39,24 @@ pub struct Survey {
 pub fn open_surveyed<D: Disk>(alloc: Global, disk: D) -> Result<(Spool<D>, Survey), (D, OpenFault)>
     ensures size { D.size (disk_left result) ≡ D.size disk }
     ensures honest { D.honest disk ↔ D.honest (disk_left result) }
-    ensures counts { Counts (IsFault result) (D.failures disk) (D.failures (disk_left result)) }
+    ensures counts { Counts (IsOpenFault result) (D.failures disk) (D.failures (disk_left result)) }
 
     // A spool is opened, unless memory or the disk refuses it, and stands for its uploads. The survey has its number of
     // blocks and its version.
-    ensures stands { (n : ℕ) (m : Store) → IsSpool D.Disk disk n m
-        → OpensAs result (λ opened. SpoolStands opened.0 true (at_rest m (Some n))) }
+    ensures represents { (n : ℕ) (m : Store) → IsSpool D.Disk disk n m
+        → OpensAs result (λ opened. SpoolRepresents opened.0 true (at_rest m (Some n))) }
     ensures blocks { (n : ℕ) (m : Store) → IsSpool D.Disk disk n m → IfOk result (λ opened. opened.1.blocks ≡ n) }
-    ensures survey { (v : View) → IfOk result (λ opened. Keeps opened.0 v
+    ensures survey { (v : View) → IfOk result (λ opened. SpoolHasView opened.0 v
         → (opened.1.version ≡ version_number v.version) × (opened.1.blocks ≡ v.blocks)) }
 
     // On any disk what it has in memory is a view, which shows uploads, and it stands for these.
-    ensures view { IfOk result (λ opened. (v : View) × (m : Store) × Keeps opened.0 v × Shows v m) }
-    ensures kept { (v : View) (m : Store) → Shows v m
-        → IfOk result (λ opened. Keeps opened.0 v → SpoolStands opened.0 false (at_rest m (Some v.blocks))) }
+    ensures view { IfOk result (λ opened. (v : View) × (m : Store) × SpoolHasView opened.0 v × Shows v m) }
+    ensures represents_view { (v : View) (m : Store) → Shows v m
+        → IfOk result (λ opened. SpoolHasView opened.0 v → SpoolRepresents opened.0 false (at_rest m (Some v.blocks))) }
 
     // And the answer follows from the bytes that the reads gave, and so does this view.
     ensures given { ReadsBy (D.reads disk) (D.reads (disk_left result))
-        (OpensBy (λ opened. Keeps opened.0) (D.size disk) result) }
+        (OpensBy (λ opened. SpoolHasView opened.0) (D.size disk) result) }
 
     // What is opened is a valid spool, and it is what a read shows. Each refusal has its reason, and each reason is
     // answered so, unless memory or the disk refuses it.
@@ -71,7 +71,7 @@ pub fn open_surveyed<D: Disk>(alloc: Global, disk: D) -> Result<(Spool<D>, Surve
     // Where no journal is to be replayed it writes nothing: every image is one from before, and so is what a read
     // gives.
     ensures unwritten { D.honest disk → Unwritten D.Disk disk (disk_left result) }
-    ensures same { D.honest disk → ReadsSame D.Disk disk (disk_left result) (IsFault result) }
+    ensures same { D.honest disk → ReadsSame D.Disk disk (disk_left result) (IsOpenFault result) }
 
     // Every image shows these then, and a crash during it leaves what it might have left before, or what shows them.
     ensures shows { (n : ℕ) (m : Store) → IsSpool D.Disk disk n m
@@ -86,8 +86,8 @@ pub fn open_surveyed<D: Disk>(alloc: Global, disk: D) -> Result<(Spool<D>, Surve
 
 // How much of a spool is in use.
 fn survey_of<D: Disk>(spool: &Spool<D>) -> Survey
-    ensures blocks { result.blocks ≡ size_of spool.now }
-    ensures version { (v : View) → Keeps spool.now v → result.version ≡ version_number v.version }
+    ensures blocks { result.blocks ≡ block_count_of spool.now }
+    ensures version { (v : View) → SpoolHasView spool.now v → result.version ≡ version_number v.version }
 {
     let blocks = u64::from(spool.blocks());
     let used = used_of(spool);

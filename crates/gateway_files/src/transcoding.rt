@@ -4,16 +4,16 @@ ghost use Rattle.std.specs.Prelude.{take};
 ghost use Rattle.std.specs.Io.KnownBytes.{Consumes, IsAtEnd};
 ghost use Rattle.enc_labels.specs.Labels.{encoding_of};
 ghost use Rattle.enc_model.specs.Indexes.{tables};
-ghost use Rattle.enc_stream.specs.Standing.{IsOutput};
+ghost use Rattle.enc_stream.specs.TranscoderState.{IsOutput};
 ghost use Rattle.tus_request.specs.Metadata.{choice_with, mode_of};
 ghost use Rattle.gateway_files.specs.Failures.{fault_in};
-ghost use Rattle.gateway_files.specs.Transcoding.{CopiesOn, EndsOn, IsStored, IsTextFault, choice_in};
+ghost use Rattle.gateway_files.specs.Transcoding.{CopiesOn, EndsOn, IsConverted, IsTextFault, choice_in};
 
 use crate::failures::{Advice, Failure, TextAdvice};
 use crate::faults::Fault;
 use crate::index_files::{IndexFiles, read_indexes};
 use crate::losses::Tally;
-use crate::said::say_losses;
+use crate::reports::report_losses;
 use crate::streams::Noted;
 use enc_index::IndexSet;
 use enc_labels::{encoding_of, output_of};
@@ -84,8 +84,8 @@ pub fn text_file<'a>(
     match written {
         Ok(()) => {
             // If standard error can't be written, the count isn't reported.
-            let told = say_losses(&mut rt.stderr(), tally.losses());
-            drop(told);
+            let reported = report_losses(&mut rt.stderr(), tally.losses());
+            drop(reported);
             Ok(())
         }
         Err(Fault::Unencodable(character)) => {
@@ -123,7 +123,7 @@ pub fn text_on<R: Read, W: Write>(
     writer: &mut W,
 ) -> Result<(), Fault>
     requires { IsOutput conversion.to }
-    ensures stored { OnOk result (IsStored (tables set.now) conversion (R.remaining reader.old) (W.contents writer.old)
+    ensures stored { OnOk result (IsConverted (tables set.now) conversion (R.remaining reader.old) (W.contents writer.old)
         (W.contents writer.new)) }
     ensures whole { OnOk result (IsAtEnd (R.remaining reader.new)) }
     ensures refused { IfErr result IsTextFault }

@@ -59,8 +59,8 @@ impl Head {
         }
         self.begun = true;
         // Out of memory, the line is lost.
-        let kept = self.first.extend_from_slice(line);
-        drop(kept);
+        let stored = self.first.extend_from_slice(line);
+        drop(stored);
     }
 
     /// The value of `Upload-Metadata`, and nothing without it.
@@ -83,8 +83,8 @@ impl Head {
             self.refusal = number_in(value).or(self.refusal);
         } else if name.eq_ignore_ascii_case("Upload-Metadata") {
             // Out of memory, it is lost.
-            let kept = self.metadata.extend_from_slice(value.as_bytes());
-            drop(kept);
+            let stored = self.metadata.extend_from_slice(value.as_bytes());
+            drop(stored);
         }
     }
 }

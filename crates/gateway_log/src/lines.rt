@@ -3,34 +3,34 @@
 use std::alloc::Global;
 
 /// How many bytes of a line are stored.
-const MOST_KEPT: usize = 256;
+const MOST_HELD: usize = 256;
 
 /// A line that passes in pieces: its first 256 bytes, or fewer when out of memory.
 #[derive(Drop)]
 pub(crate) struct Line {
-    kept: Vec<u8>,
+    line: Vec<u8>,
 }
 
 impl Line {
     /// An empty line.
     pub(crate) fn new(alloc: Global) -> Self {
         Line {
-            kept: Vec::new(alloc),
+            line: Vec::new(alloc),
         }
     }
 
     /// Takes the next piece of the line.
     pub(crate) fn add(&mut self, piece: &[u8]) {
-        let room = MOST_KEPT.saturating_sub(self.kept.len());
+        let room = MOST_HELD.saturating_sub(self.line.len());
         let prefix = &piece[..piece.len().min(room)];
         // Out of memory, the piece is lost.
-        let kept = self.kept.extend_from_slice(prefix);
-        drop(kept);
+        let line = self.line.extend_from_slice(prefix);
+        drop(line);
     }
 
     /// The stored bytes, without a CR at the end.
     pub(crate) fn text(&self) -> &[u8] {
-        match self.kept.as_slice() {
+        match self.line.as_slice() {
             [text @ .., b'\r'] => text,
             text => text,
         }
@@ -38,7 +38,7 @@ impl Line {
 
     /// Begins another line.
     pub(crate) fn clear(&mut self) {
-        self.kept.clear();
+        self.line.clear();
     }
 }
 

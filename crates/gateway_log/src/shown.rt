@@ -4,7 +4,7 @@ use crate::counts::Counts;
 use crate::heads::Head;
 use crate::refusals::name_of;
 use crate::stock::{Stock, write_stock};
-use crate::talks::{Asked, Exchange, Told};
+use crate::talks::{Asked, Exchange, ReplySent};
 use jiff::Timestamp;
 use std::io::{self, Write};
 use std::net::SocketAddr;
@@ -33,16 +33,16 @@ pub(crate) fn write_exchange(
     exchange: &Exchange,
     millis: u128,
 ) -> io::Result<()> {
-    let Exchange { asked, told } = exchange;
+    let Exchange { asked, reply } = exchange;
     write_time(out, time)?;
     write!(out, " {} {}", client.number, client.address)?;
     write_request(out, &asked.head)?;
-    write_reply(out, told)?;
-    if told.refusal == Some(BAD_LABEL) {
+    write_reply(out, reply)?;
+    if reply.refusal == Some(BAD_LABEL) {
         write!(out, " metadata=")?;
         write_shown(out, asked.head.metadata())?;
     }
-    writeln!(out, " in={} out={} ms={millis}", asked.bytes, told.bytes)
+    writeln!(out, " in={} out={} ms={millis}", asked.bytes, reply.bytes)
 }
 
 /// Writes the line of a minute's counts, and how many bodies are under way and what is left in the spool at its end.
@@ -88,16 +88,16 @@ fn write_request(out: &mut Vec<u8>, head: &Head) -> io::Result<()> {
 }
 
 // Writes the reply.
-fn write_reply(out: &mut Vec<u8>, told: &Told) -> io::Result<()> {
-    match told.status {
+fn write_reply(out: &mut Vec<u8>, reply: &ReplySent) -> io::Result<()> {
+    match reply.status {
         Some(status) => write!(out, " status={status}")?,
         None => write!(out, " status=none")?,
     }
-    if told.status.is_some() && !told.whole {
+    if reply.status.is_some() && !reply.whole {
         write!(out, " cut")?;
     }
-    write_number(out, "refusal", told.refusal)?;
-    match told.refusal.and_then(|number| name_of(number)) {
+    write_number(out, "refusal", reply.refusal)?;
+    match reply.refusal.and_then(|number| name_of(number)) {
         Some(name) => write!(out, ":{name}"),
         None => Ok(()),
     }

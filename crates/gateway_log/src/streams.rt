@@ -36,9 +36,9 @@ impl<T: Clock, W: Write + Drop> Watch<'_, T, W> {
             if rest.is_empty() {
                 return;
             }
-            let (after, exchange) = self.talk.tell(rest);
+            let (after, exchange) = self.talk.sent(rest);
             if let Some(exchange) = exchange {
-                self.log.tell(self.client, self.opened, &exchange);
+                self.log.sent(self.client, self.opened, &exchange);
             }
             rest = after;
         }
@@ -57,7 +57,7 @@ impl<T: Clock, W: Write + Drop> Drop for Watch<'_, T, W> {
             log.body_ends();
         }
         if let Some(exchange) = talk.end() {
-            log.tell(client, opened, &exchange);
+            log.sent(client, opened, &exchange);
         }
     }
 }

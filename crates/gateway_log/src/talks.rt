@@ -18,7 +18,7 @@ pub(crate) struct Asked {
 
 /// A reply, as far as it was sent.
 #[derive(Clone, Copy, Drop)]
-pub(crate) struct Told {
+pub(crate) struct ReplySent {
     /// `None` if its head wasn't sent.
     pub(crate) status: Option<u16>,
     pub(crate) refusal: Option<u64>,
@@ -32,7 +32,7 @@ pub(crate) struct Told {
 #[derive(Drop)]
 pub(crate) struct Exchange {
     pub(crate) asked: Asked,
-    pub(crate) told: Told,
+    pub(crate) reply: ReplySent,
 }
 
 /// The requests and replies of a connection.
@@ -40,7 +40,7 @@ pub(crate) struct Exchange {
 pub(crate) struct Talk {
     alloc: Global,
     asks: Messages,
-    tells: Messages,
+    answers: Messages,
     /// Of the current head: how many bytes came, and since when.
     bytes: u64,
     since: Option<Duration>,
@@ -49,13 +49,13 @@ pub(crate) struct Talk {
     /// Whether a request was lost when out of memory. No later one is stored then.
     lost: bool,
     /// The current reply.
-    told: Told,
+    reply: ReplySent,
     /// How many replies were sent.
     replies: u64,
 }
 
 /// No byte of a reply was sent.
-const NOTHING: Told = Told {
+const NOTHING: ReplySent = ReplySent {
     status: None,
     refusal: None,
     bytes: 0,
@@ -68,12 +68,12 @@ impl Talk {
         Talk {
             alloc,
             asks: Messages::new(alloc),
-            tells: Messages::new(alloc),
+            answers: Messages::new(alloc),
             bytes: 0,
             since: None,
             waiting: VecDeque::new(alloc),
             lost: false,
-            told: NOTHING,
+            reply: NOTHING,
             replies: 0,
         }
     }
@@ -144,16 +144,16 @@ impl Talk {
 
     /// Takes sent bytes up to the end of a line or of a body. Returns the others, and the exchange if they complete
     /// one.
-    pub(crate) fn tell<'b>(&mut self, bytes: &'b [u8]) -> (&'b [u8], Option<Exchange>) {
-        let (rest, head) = self.tells.pass(bytes);
-        self.told.bytes = plus(self.told.bytes, bytes.len().saturating_sub(rest.len()));
+    pub(crate) fn sent<'b>(&mut self, bytes: &'b [u8]) -> (&'b [u8], Option<Exchange>) {
+        let (rest, head) = self.answers.pass(bytes);
+        self.reply.bytes = plus(self.reply.bytes, bytes.len().saturating_sub(rest.len()));
         if let Some(head) = head {
             self.add_reply(&head);
         }
-        if self.told.status.is_none() || self.tells.is_in_body() {
+        if self.reply.status.is_none() || self.answers.is_in_body() {
             return (rest, None);
         }
-        self.told.whole = true;
+        self.reply.whole = true;
         self.replies = self.replies.saturating_add(1);
         (rest, Some(self.exchange()))
     }
@@ -162,20 +162,20 @@ impl Talk {
     fn add_reply(&mut self, head: &Head) {
         let status = head.status();
         if status.is_some_and(|status| status >= 200) {
-            self.told.status = status;
-            self.told.refusal = head.refusal;
+            self.reply.status = status;
+            self.reply.refusal = head.refusal;
         }
     }
 
     // The oldest request without a reply, and what was sent of its reply.
     fn exchange(&mut self) -> Exchange {
-        let told = self.told;
-        self.told = NOTHING;
+        let reply = self.reply;
+        self.reply = NOTHING;
         let asked = match self.waiting.pop_front() {
             Some(asked) => asked,
             None => self.unfinished(),
         };
-        Exchange { asked, told }
+        Exchange { asked, reply }
     }
 
     // The request whose head is unfinished. Nothing is known of it if a request was lost before.
@@ -191,7 +191,7 @@ impl Talk {
     /// Ends the connection, and returns the exchange that it leaves without a complete reply. `None` if it leaves none
     /// and had a reply before.
     pub(crate) fn end(&mut self) -> Option<Exchange> {
-        let owed = self.told.bytes > 0 || self.bytes > 0 || !self.waiting.is_empty();
+        let owed = self.reply.bytes > 0 || self.bytes > 0 || !self.waiting.is_empty();
         if owed || self.replies == 0 {
             Some(self.exchange())
         } else {

@@ -65,7 +65,7 @@ impl<'a, T: Clock, W: Write + Drop> Log<'a, T, W> {
 
     /// Writes what was gathered, and the counts since the last line of counts.
     pub fn end(&self) {
-        self.tell_counts();
+        self.log_counts();
         self.write();
     }
 
@@ -130,14 +130,14 @@ impl<'a, T: Clock, W: Write + Drop> Log<'a, T, W> {
         let now = now_of(self.clock);
         if now.saturating_sub(self.counted.get()).as_secs() >= MINUTE {
             self.counted.set(now);
-            self.tell_counts();
+            self.log_counts();
         }
         self.written.set(now);
         self.write();
     }
 
     /// Logs an exchange that is over. `opened` is when its connection was accepted.
-    pub(crate) fn tell(&self, client: Client, opened: Duration, exchange: &Exchange) {
+    pub(crate) fn log_exchange(&self, client: Client, opened: Duration, exchange: &Exchange) {
         self.count_reply(exchange);
         let now = now_of(self.clock);
         let since = exchange.asked.since.unwrap_or(opened);
@@ -158,8 +158,8 @@ impl<'a, T: Clock, W: Write + Drop> Log<'a, T, W> {
 
     // Counts a complete reply by its class.
     fn count_reply(&self, exchange: &Exchange) {
-        if let Some(status) = exchange.told.status
-            && exchange.told.whole
+        if let Some(status) = exchange.reply.status
+            && exchange.reply.whole
         {
             let mut counts = self.counts.get();
             counts.add_reply(status);
@@ -168,7 +168,7 @@ impl<'a, T: Clock, W: Write + Drop> Log<'a, T, W> {
     }
 
     // Gathers the counts, if there was traffic.
-    fn tell_counts(&self) {
+    fn log_counts(&self) {
         let counts = self.counts.replace(Counts::NONE);
         if counts.is_none() {
             return;

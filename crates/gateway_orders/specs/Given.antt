@@ -4,24 +4,24 @@ use Rattle.std.specs.Str.Parse.{IsNumeral, digits_value, without_leading_plus}
 use Rattle.clap.specs.Walk.{Row, Text, first_of, many_of, one_of}
 
 -- the text of an argument
-abbrev pub HasText : List Row → Text → Text → Type 0
-HasText given name text = first_of name given ≡ Some text
+abbrev pub HasArgument : List Row → Text → Text → Type 0
+HasArgument given name text = first_of name given ≡ Some text
 
 -- a text writes this number, of at most so many bits
-abbrev pub Writes : ℕ → Text → ℕ → Type 0
-Writes bits text n = IsNumeral 10 (without_leading_plus text) × (digits_value 10 (without_leading_plus text) ≡ n)
+abbrev pub IsNumeralOf : ℕ → Text → ℕ → Type 0
+IsNumeralOf bits text n = IsNumeral 10 (without_leading_plus text) × (digits_value 10 (without_leading_plus text) ≡ n)
     × (n < 2 ^ bits)
 
 -- the number that the text of an argument writes
 abbrev pub HasNumber : ℕ → List Row → Text → ℕ → Type 0
-HasNumber bits given name n = IsSomeAnd (one_of name given) (λ text. Writes bits text n)
+HasNumber bits given name n = IsSomeAnd (one_of name given) (λ text. IsNumeralOf bits text n)
 
 -- the texts write the numbers, one by one
 abbrev pub WriteAll : ℕ → List Text → List ℕ → Type 0
 WriteAll bits [] [] = ⊤
 WriteAll bits [] (n ∷ numbers) = ⊥
 WriteAll bits (text ∷ texts) [] = ⊥
-WriteAll bits (text ∷ texts) (n ∷ numbers) = Writes bits text n × WriteAll bits texts numbers
+WriteAll bits (text ∷ texts) (n ∷ numbers) = IsNumeralOf bits text n × WriteAll bits texts numbers
 
 -- the numbers that the texts of an argument write, in their order
 abbrev pub HasNumbers : ℕ → List Row → Text → List ℕ → Type 0

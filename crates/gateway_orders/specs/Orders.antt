@@ -3,7 +3,7 @@ use Rattle.std.specs.Prelude.{◌≡◌, true, false, List, IsSomeAnd, codes}
 use Rattle.std.specs.Net.Grammar.{IsSocketText}
 use Rattle.clap.specs.Simple.{subcommand_of}
 use Rattle.clap.specs.Walk.{Row, Text, first_of}
-use Rattle.gateway_orders.specs.Given.{HasFlag, HasNumber, HasNumbers, HasText}
+use Rattle.gateway_orders.specs.Given.{HasFlag, HasNumber, HasNumbers, HasArgument}
 use Rattle.gateway_orders.specs.Program.{program}
 use Rattle.gateway_orders.specs.declared.orders.Order.{Order}
 use Rattle.gateway_orders.specs.declared.orders.Order.TheVariants.{Format, Script, Serve, Up, List as Listing, Json}
@@ -12,30 +12,30 @@ use Rattle.gateway_orders.specs.declared.orders.Order.TheVariants.{Text as Store
 
 -- the order is the one that belongs to the command of this name with these arguments
 abbrev pub IsOrder : Text → List Row → Order → Type 0
-IsOrder name given (Format spool blocks indexes) = (name ≡ codes "format") × HasText given (codes "SPOOL") spool.now
-    × HasNumber 32 given (codes "blocks") blocks × HasText given (codes "indexes") indexes.now
-IsOrder name given (Script spool) = (name ≡ codes "script") × HasText given (codes "SPOOL") spool.now
-IsOrder name given (Serve service) = (name ≡ codes "serve") × HasText given (codes "SPOOL") service.spool.now
+IsOrder name given (Format spool blocks indexes) = (name ≡ codes "format") × HasArgument given (codes "SPOOL") spool.now
+    × HasNumber 32 given (codes "blocks") blocks × HasArgument given (codes "indexes") indexes.now
+IsOrder name given (Script spool) = (name ≡ codes "script") × HasArgument given (codes "SPOOL") spool.now
+IsOrder name given (Serve service) = (name ≡ codes "serve") × HasArgument given (codes "SPOOL") service.spool.now
     × HasNumber 16 given (codes "port") service.port
     × HasNumber 64 given (codes "connections") service.connections
     × HasNumber 64 given (codes "turns") service.turns
-IsOrder name given (Up spool listen quiet log) = (name ≡ codes "up") × HasText given (codes "SPOOL") spool.now
+IsOrder name given (Up spool listen quiet log) = (name ≡ codes "up") × HasArgument given (codes "SPOOL") spool.now
     × IsSomeAnd (first_of (codes "listen") given) (λ text. IsSocketText text listen)
     × HasFlag given (codes "quiet") quiet × HasFlag given (codes "log") log
-IsOrder name given (Listing spool long) = (name ≡ codes "list") × HasText given (codes "SPOOL") spool.now
+IsOrder name given (Listing spool long) = (name ≡ codes "list") × HasArgument given (codes "SPOOL") spool.now
     × HasFlag given (codes "json") false × HasFlag given (codes "long") long
-IsOrder name given (Json spool) = (name ≡ codes "list") × HasText given (codes "SPOOL") spool.now
+IsOrder name given (Json spool) = (name ≡ codes "list") × HasArgument given (codes "SPOOL") spool.now
     × HasFlag given (codes "json") true
-IsOrder name given (Delete spool numbers) = (name ≡ codes "delete") × HasText given (codes "SPOOL") spool.now
+IsOrder name given (Delete spool numbers) = (name ≡ codes "delete") × HasArgument given (codes "SPOOL") spool.now
     × HasFlag given (codes "incomplete") false × HasNumbers 64 given (codes "NUMBER") numbers.items
-IsOrder name given (DeleteIncomplete spool sure) = (name ≡ codes "delete") × HasText given (codes "SPOOL") spool.now
+IsOrder name given (DeleteIncomplete spool sure) = (name ≡ codes "delete") × HasArgument given (codes "SPOOL") spool.now
     × HasFlag given (codes "incomplete") true × HasFlag given (codes "yes") sure
-IsOrder name given (Export spool folder all) = (name ≡ codes "export") × HasText given (codes "SPOOL") spool.now
-    × HasText given (codes "DIR") folder.now × HasFlag given (codes "all") all
-IsOrder name given (Stored from to mode indexes) = (name ≡ codes "text") × HasText given (codes "from") from.now
-    × HasText given (codes "to") to.now × HasText given (codes "mode") mode.now
-    × HasText given (codes "indexes") indexes.now
-IsOrder name given (Upgrade spool) = (name ≡ codes "upgrade") × HasText given (codes "SPOOL") spool.now
+IsOrder name given (Export spool folder all) = (name ≡ codes "export") × HasArgument given (codes "SPOOL") spool.now
+    × HasArgument given (codes "DIR") folder.now × HasFlag given (codes "all") all
+IsOrder name given (Stored from to mode indexes) = (name ≡ codes "text") × HasArgument given (codes "from") from.now
+    × HasArgument given (codes "to") to.now × HasArgument given (codes "mode") mode.now
+    × HasArgument given (codes "indexes") indexes.now
+IsOrder name given (Upgrade spool) = (name ≡ codes "upgrade") × HasArgument given (codes "SPOOL") spool.now
 
 -- THE ORDER OF A COMMAND LINE: that of the command which clap's walk over the words enters, with what it gives for each
 -- argument

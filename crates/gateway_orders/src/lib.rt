@@ -6,4 +6,4 @@ mod orders;
 mod usage;
 
 pub use orders::{Order, Service, read_order};
-pub use usage::{USAGE, say_usage};
+pub use usage::{USAGE, report_usage};

@@ -13,7 +13,7 @@ pub const USAGE: u8 = 1;
 
 /// Writes help to `out`, or the fault of the command line to `err`, with the names of all commands after a word that is
 /// none. Returns the exit status: 0 after help, otherwise `USAGE`.
-pub fn say_usage<O: Write, E: Write>(error: &Error, out: &mut O, err: &mut E) -> io::Result<u8>
+pub fn report_usage<O: Write, E: Write>(error: &Error, out: &mut O, err: &mut E) -> io::Result<u8>
     ensures help { (kind_of error.now ≡ ErrorKind.DisplayHelp) ⊎ (kind_of error.now ≡ ErrorKind.DisplayVersion)
         → IfOk result (λ status. status ≡ 0) }
     ensures wrong { (kind_of error.now ≢ ErrorKind.DisplayHelp) → (kind_of error.now ≢ ErrorKind.DisplayVersion)

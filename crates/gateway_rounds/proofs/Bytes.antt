@@ -50,8 +50,8 @@ module _ (st : State) (has : HasAllBytes st.world.store) where
     left_by (Some (Script scripts.Io)) = all_events
     left_by (Some (Open fault)) = have
 
-upgrade_left : (told : Option UpgradeError) (m : Store) (before : List Store) → HasAllBytes m → HaveAllBytes before
-    → HaveAllBytes (left_by_upgrade told m before)
+upgrade_left : (reported : Option UpgradeError) (m : Store) (before : List Store) → HasAllBytes m → HaveAllBytes before
+    → HaveAllBytes (left_by_upgrade reported m before)
 upgrade_left None m before has have = one_has m has
 upgrade_left (Some (upgrades.Open (opens.Stop DiskFault))) m before has have = have
 upgrade_left (Some (upgrades.Open (opens.Stop NoMemory))) m before has have = one_has m has
@@ -60,22 +60,22 @@ upgrade_left (Some (upgrades.Open opens.Version)) m before has have = one_has m 
 upgrade_left (Some (upgrades.Open opens.Damaged)) m before has have = one_has m has
 upgrade_left (Some upgrades.AlreadyNew) m before has have = one_has m has
 
-work_left : {D : Type 0} (disk : Ghosts D) (n : ℕ) (given back : D) (before left : List Store) (work told : Work)
-    → IsWork disk n given back before left work told → HaveAllBytes before → HaveAllBytes left
-work_left disk n given back before left (Run run) (Run told) is have =
+work_left : {D : Type 0} (disk : Ghosts D) (n : ℕ) (given back : D) (before left : List Store) (work reported : Work)
+    → IsWork disk n given back before left work reported → HaveAllBytes before → HaveAllBytes left
+work_left disk n given back before left (Run run) (Run reported) is have =
     let has = have is.store is.opened.among in
     subst HaveAllBytes (sym is.passes.leaves)
-    (left_by (beginning is.store (Some n)) has is.passes.past before have told.fault)
-work_left disk n given back before left (Upgrade error) (Upgrade told) is have =
-    subst HaveAllBytes (sym is.same) (upgrade_left told is.store before (have is.store is.opened.among) have)
-work_left disk n given back before left (Run run) (Upgrade told) is have = absurd is
-work_left disk n given back before left (Upgrade error) (Run told) is have = absurd is
+    (left_by (beginning is.store (Some n)) has is.passes.past before have reported.fault)
+work_left disk n given back before left (Upgrade error) (Upgrade reported) is have =
+    subst HaveAllBytes (sym is.same) (upgrade_left reported is.store before (have is.store is.opened.among) have)
+work_left disk n given back before left (Run run) (Upgrade reported) is have = absurd is
+work_left disk n given back before left (Upgrade error) (Run reported) is have = absurd is
 
 pub round_left : {D C : Type 0} (disk : Ghosts D) (chosen : C → D → D → Type 0) (n : ℕ) (given back after : D)
-    (before left next : List Store) (work told : Work) (end : End C) → IsWork disk n given back before left work told
+    (before left next : List Store) (work reported : Work) (end : End C) → IsWork disk n given back before left work reported
     → IsEnd disk chosen end back after left next → HaveAllBytes before → HaveAllBytes next
-round_left disk chosen n given back after before left next work told (Crash how) is crash have =
+round_left disk chosen n given back after before left next work reported (Crash how) is crash have =
     subst HaveAllBytes (sym crash.alone)
-    (one_has crash.store (work_left disk n given back before left work told is have crash.store crash.among))
-round_left disk chosen n given back after before left next work told Nothing is same have =
-    subst HaveAllBytes (sym same.1) (work_left disk n given back before left work told is have)
+    (one_has crash.store (work_left disk n given back before left work reported is have crash.store crash.among))
+round_left disk chosen n given back after before left next work reported Nothing is same have =
+    subst HaveAllBytes (sym same.1) (work_left disk n given back before left work reported is have)

@@ -8,9 +8,9 @@ use Rattle.gateway_rounds.specs.declared.round.Round.{Round}
 use Rattle.gateway_rounds.specs.Rounds.{IsRound, Lives}
 
 pub lives_on : {D C : Type 0} (disk : Ghosts D) (chosen : C → D → D → Type 0) (n : ℕ) (d : D) (m : List Store)
-    (rounds told : List (Round C)) (mid after : D) (now next : List Store) (r t : Round C)
-    → Lives disk chosen n d m rounds told mid now → IsRound disk chosen n mid after now next r t
-    → Lives disk chosen n d m (rounds ++ r ∷ []) (told ++ t ∷ []) after next
+    (rounds reported : List (Round C)) (mid after : D) (now next : List Store) (r t : Round C)
+    → Lives disk chosen n d m rounds reported mid now → IsRound disk chosen n mid after now next r t
+    → Lives disk chosen n d m (rounds ++ r ∷ []) (reported ++ t ∷ []) after next
 lives_on {D} disk chosen n d m [] [] mid after now next r t (same, is_same) round = (
   after,
   next,
@@ -18,10 +18,10 @@ lives_on {D} disk chosen n d m [] [] mid after now next r t (same, is_same) roun
       (subst (λ (x : D). IsRound disk chosen n x after now next r t) same round),
   (refl, refl),
 )
-lives_on disk chosen n d m [] (u ∷ told) mid after now next r t lives round = absurd lives
+lives_on disk chosen n d m [] (u ∷ reported) mid after now next r t lives round = absurd lives
 lives_on disk chosen n d m (q ∷ rounds) [] mid after now next r t lives round = absurd lives
-lives_on disk chosen n d m (q ∷ rounds) (u ∷ told) mid after now next r t (later, store, first, lives) round =
-    (later, store, first, lives_on disk chosen n later store rounds told mid after now next r t lives round)
+lives_on disk chosen n d m (q ∷ rounds) (u ∷ reported) mid after now next r t (later, store, first, lives) round =
+    (later, store, first, lives_on disk chosen n later store rounds reported mid after now next r t lives round)
 
 -- the next element of two lists that agree from there on
 pub lives_next : {D C : Type 0} (disk : Ghosts D) (chosen : C → D → D → Type 0) (n : ℕ) (d : D) (m : List Store)
@@ -33,10 +33,10 @@ pub lives_next : {D C : Type 0} (disk : Ghosts D) (chosen : C → D → D → Ty
 lives_next {D} {C} disk chosen n d m old now i mid after store next r t below long here same lives round =
     let first : take (i + 1) old ≡ take i old ++ r ∷ [] =
     take_more old i r (omega (arith, below, long)) ∙ ap (λ (x : Round C). take i old ++ x ∷ []) (sym (here ∙ same)) in
-    let told : take (i + 1) (slice_set now i t) ≡ take i now ++ t ∷ [] = take_more_set now i t below in
+    let reported : take (i + 1) (slice_set now i t) ≡ take i now ++ t ∷ [] = take_more_set now i t below in
     subst (λ (rounds : List (Round C)). Lives disk chosen n d m rounds (take (i + 1) (slice_set now i t)) after next)
     (sym first)
-    (subst (λ (all : List (Round C)). Lives disk chosen n d m (take i old ++ r ∷ []) all after next) (sym told)
+    (subst (λ (all : List (Round C)). Lives disk chosen n d m (take i old ++ r ∷ []) all after next) (sym reported)
     (lives_on disk chosen n d m (take i old) (take i now) mid after store next r t lives
     (subst (λ (x : Round C). IsRound disk chosen n mid after store next x t) (sym here) round)))
 

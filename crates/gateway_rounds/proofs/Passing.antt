@@ -40,8 +40,8 @@ use Rattle.gateway_engine.specs.Ran.{CountsEither, HasFailed, HasRefused}
 use Rattle.gateway_engine.specs.RanOn.{AllShowOne, EndedOn, HasRunOn}
 use Rattle.gateway_rounds.specs.declared.faults.RunFault.{RunFault}
 use Rattle.gateway_rounds.specs.declared.faults.RunFault.TheVariants.{Open, Script}
-use Rattle.gateway_rounds.specs.Rounds.{OpensWith, Crashes, IsFault, left_by_run, left_by_upgrade, IsWhole, EndsAs}
-use Rattle.gateway_rounds.specs.Rounds.{Passes, UpgradeEnds, UpgradeLeaves}
+use Rattle.gateway_rounds.specs.Rounds.{OpensWith, Crashes, IsRunFault, left_by_run, left_by_upgrade, IsWholeRun, RunEndsAs}
+use Rattle.gateway_rounds.specs.Rounds.{PassesRun, UpgradeEnds, UpgradeLeaves}
 
 -- WHAT WAS WRITTEN
 
@@ -106,8 +106,8 @@ module _ {D : Type 0} (disk : Ghosts D) (given back : D) (n : ℕ) (before : Lis
   passed : (marks : List Mark) (past : List Marked) (bytes : List ℕ) (fault : Option RunFault) (out : List ℕ)
       (left : List Store)
       → IsFirst past (the_script st marks bytes).run.past → (rest : List ℕ) × (output_of st past ≡ out ++ rest)
-      → left ≡ left_by_run fault st past before → EndsAs fault st (the_script st marks bytes) past out
-      → Passes n m bytes fault out before left
+      → left ≡ left_by_run fault st past before → RunEndsAs fault st (the_script st marks bytes) past out
+      → PassesRun n m bytes fault out before left
   passed marks past bytes fault out left first replies leaves ends = record {
     marks = marks;
     past = past;
@@ -137,10 +137,10 @@ module _ {D : Type 0} (disk : Ghosts D) (given back : D) (n : ℕ) (before : Lis
     abbrev Lived : Option RunFault → Type 0
     Lived fault =
         (left : List Store) × AllShowOne disk back n left × (out : List ℕ) × (held ≡ prefix ++ out)
-        × Passes n m bytes fault out before left
+        × PassesRun n m bytes fault out before left
 
     whole : {exit : Exit} (r : script.Result) → EndedOn disk begun back n st r (Some held) (Some prefix) exit
-        → IsWhole st r r.run.past r.run.out
+        → IsWholeRun st r r.run.past r.run.out
     whole r is = record { events = refl; output = is.output }
 
     written_whole : {exit : Exit} (r : script.Result) → EndedOn disk begun back n st r (Some held) (Some prefix) exit
@@ -208,12 +208,12 @@ module _ {D : Type 0} (disk : Ghosts D) (given back : D) (n : ℕ) (before : Lis
           (part_prefix st is.past is.out is.most) refl is.most,
     )
 
-    pub told : (fault : ScriptFault) → HasRunOn disk begun (Err (back, fault)) (Some held) (Some prefix) n st bytes
+    pub reported : (fault : ScriptFault) → HasRunOn disk begun (Err (back, fault)) (Some held) (Some prefix) n st bytes
         → Lived (Some (Script fault))
-    told (scripts.Stop NoMemory) has = out_of_memory has
-    told (scripts.Stop DiskFault) has = failed has
-    told (scripts.Script line) has = at_line line has
-    told scripts.Io has = broken_off has
+    reported (scripts.Stop NoMemory) has = out_of_memory has
+    reported (scripts.Stop DiskFault) has = failed has
+    reported (scripts.Script line) has = at_line line has
+    reported scripts.Io has = broken_off has
 
   -- the disk wasn't opened, so nothing was written
   module _ (prefix bytes : List ℕ) where
@@ -221,7 +221,7 @@ module _ {D : Type 0} (disk : Ghosts D) (given back : D) (n : ℕ) (before : Lis
     none_first past = (past, sym (append-nil past))
 
     unbegun : (fault : RunFault) → before ≡ left_by_run (Some fault) st [] before
-        → EndsAs (Some fault) st (the_script st [] bytes) [] [] → AllShowOne disk back n before
+        → RunEndsAs (Some fault) st (the_script st [] bytes) [] [] → AllShowOne disk back n before
         → Lived given prefix prefix bytes (Some fault)
     unbegun fault leaves ends still = (
       before,
@@ -247,7 +247,7 @@ no_fault never counts = record {
 }
 
 pub counts_unopened : (fault : OpenFault) (a b : ℕ) → Counts (fault ≡ opens.Stop DiskFault) a b
-    → Counts (IsFault (Some (Open fault))) a b
+    → Counts (IsRunFault (Some (Open fault))) a b
 counts_unopened (opens.Stop DiskFault) a b counts = record {
   later = counts.later;
   counted = λ f. counts.counted refl;
@@ -266,21 +266,21 @@ unfailed {a = a} {b = b} counts =
 
 -- and the faults of the run are told
 pub counts_ran : {D : Type 0} {a b c : ℕ} (back : D) → Counts ⊥ a b → Counts (HasFailed {U = D} (Ok back)) b c
-    → Counts (IsFault None) a c
+    → Counts (IsRunFault None) a c
 counts_ran {c = c} back first then = subst (λ n. Counts ⊥ n c) (unfailed first) then
 
-told_counts : {D : Type 0} (back : D) (fault : ScriptFault) (a b : ℕ)
+reported_counts : {D : Type 0} (back : D) (fault : ScriptFault) (a b : ℕ)
     → Counts (HasFailed {U = D} (Err (back, fault))) a b
-    → Counts (IsFault (Some (Script fault))) a b
-told_counts back (scripts.Stop NoMemory) a b counts = counts
-told_counts back (scripts.Stop DiskFault) a b counts = counts
-told_counts back (scripts.Script line) a b counts = counts
-told_counts back scripts.Io a b counts = counts
+    → Counts (IsRunFault (Some (Script fault))) a b
+reported_counts back (scripts.Stop NoMemory) a b counts = counts
+reported_counts back (scripts.Stop DiskFault) a b counts = counts
+reported_counts back (scripts.Script line) a b counts = counts
+reported_counts back scripts.Io a b counts = counts
 
-pub counts_told_of : {D : Type 0} {a b c : ℕ} (back : D) (fault : ScriptFault) → Counts ⊥ a b
-    → Counts (HasFailed {U = D} (Err (back, fault))) b c → Counts (IsFault (Some (Script fault))) a c
-counts_told_of {a = a} {b = b} {c = c} back fault first then =
-    subst (λ n. Counts (IsFault (Some (Script fault))) n c) (unfailed first) (told_counts back fault b c then)
+pub counts_reported_of : {D : Type 0} {a b c : ℕ} (back : D) (fault : ScriptFault) → Counts ⊥ a b
+    → Counts (HasFailed {U = D} (Err (back, fault))) b c → Counts (IsRunFault (Some (Script fault))) a c
+counts_reported_of {a = a} {b = b} {c = c} back fault first then =
+    subst (λ n. Counts (IsRunFault (Some (Script fault))) n c) (unfailed first) (reported_counts back fault b c then)
 
 -- a reader that refuses nothing
 none_refused : (0 < 0) ⊎ (2 ^ 64 ≤ 0 + 1) → ⊥
@@ -298,12 +298,12 @@ pub refusals_done : {v w : ℕ} → CountsEither ⊥ 0 0 v w
     → Counts (◌≡◌ {A = Option RunFault} None (Some (Script scripts.Io))) v w
 refusals_done c = writer_alone (λ e. absurd (cc)) (λ never. absurd never) c
 
-pub refusals_told : {D : Type 0} (back : D) (fault : ScriptFault) (v w : ℕ)
+pub refusals_reported : {D : Type 0} (back : D) (fault : ScriptFault) (v w : ℕ)
     → CountsEither (HasRefused {U = D} (Err (back, fault))) 0 0 v w
     → Counts (◌≡◌ {A = Option RunFault} (Some (Script fault)) (Some (Script scripts.Io))) v w
-refusals_told back (scripts.Stop stop) v w c = writer_alone (λ e. absurd (cc)) (λ never. absurd never) c
-refusals_told back (scripts.Script line) v w c = writer_alone (λ e. absurd (cc)) (λ never. absurd never) c
-refusals_told back scripts.Io v w c = writer_alone (λ e. tt) (λ is. refl) c
+refusals_reported back (scripts.Stop stop) v w c = writer_alone (λ e. absurd (cc)) (λ never. absurd never) c
+refusals_reported back (scripts.Script line) v w c = writer_alone (λ e. absurd (cc)) (λ never. absurd never) c
+refusals_reported back scripts.Io v w c = writer_alone (λ e. tt) (λ is. refl) c
 
 -- nothing was written
 pub refusals_none : (fault : OpenFault) (v : ℕ)
@@ -321,11 +321,11 @@ pub crashed : {D C : Type 0} (disk : Ghosts D) (chosen : C → D → D → Type 
     → (disk.honest back → IsImage (disk.current back) (disk.unsynced back) (disk.current after))
     → (disk.honest back → (p : ℕ) → disk.unsynced after p → ⊥) → disk.failures after ≡ disk.failures back
     → (next : List Store) × AllShowOne disk after n next × Crashes disk chosen how back after left next
-crashed disk chosen how back after n left all is size keeps image is_synced failures =
+crashed disk chosen how back after n left all is size honest_after image is_synced failures =
     let one = all.each (disk.current after) (image all.honest) in (
       one.store ∷ [],
       all_one disk after n one.store (synced_shows disk after n one.store (record {
-        honest = keeps all.honest;
+        honest = honest_after all.honest;
         room = subst (λ (k : ℕ). PAGE * all_pages n ≤ k) (sym size) all.room;
         shows = one.shows;
       }) (is_synced all.honest)),
@@ -406,30 +406,30 @@ counts_done {t} x a b counts = record {
   nothing_else = λ less. absurd (ok_err t x (counts.nothing_else less));
 }
 
-pub counts_told : (e x : UpgradeError) (a b : ℕ)
+pub counts_reported : (e x : UpgradeError) (a b : ℕ)
     → Counts (◌≡◌ {A = Result (Unit {0}) UpgradeError} (Err e) (Err x)) a b
     → Counts (◌≡◌ {A = Option UpgradeError} (Some e) (Some x)) a b
-counts_told e x a b counts = record {
+counts_reported e x a b counts = record {
   later = counts.later;
-  counted = λ told. counts.counted (some_err e x told);
+  counted = λ reported. counts.counted (some_err e x reported);
   nothing_else = λ less. err_some e x (counts.nothing_else less);
 }
 
 -- what it leaves, by whether the disk failed
-pub left_told : {D : Type 0} (disk : Ghosts D) (back : D) (n : ℕ) (m : Store) (before : List Store) (e : UpgradeError)
+pub left_reported : {D : Type 0} (disk : Ghosts D) (back : D) (n : ℕ) (m : Store) (before : List Store) (e : UpgradeError)
     → ((e ≡ upgrades.Open (opens.Stop DiskFault) → ⊥) → AllShow disk back n m) → AllShowOne disk back n before
     → (left : List Store) × AllShowOne disk back n left × (left ≡ left_by_upgrade (Some e) m before)
-left_told disk back n m before upgrades.AlreadyNew shows still =
+left_reported disk back n m before upgrades.AlreadyNew shows still =
     (m ∷ [], all_one disk back n m (shows (λ device. cc)), refl)
-left_told disk back n m before (upgrades.Open (opens.Stop NoMemory)) shows still =
+left_reported disk back n m before (upgrades.Open (opens.Stop NoMemory)) shows still =
     (m ∷ [], all_one disk back n m (shows (λ device. cc)), refl)
-left_told disk back n m before (upgrades.Open opens.NotASpool) shows still =
+left_reported disk back n m before (upgrades.Open opens.NotASpool) shows still =
     (m ∷ [], all_one disk back n m (shows (λ device. cc)), refl)
-left_told disk back n m before (upgrades.Open opens.Damaged) shows still =
+left_reported disk back n m before (upgrades.Open opens.Damaged) shows still =
     (m ∷ [], all_one disk back n m (shows (λ device. cc)), refl)
-left_told disk back n m before (upgrades.Open opens.Version) shows still =
+left_reported disk back n m before (upgrades.Open opens.Version) shows still =
     (m ∷ [], all_one disk back n m (shows (λ device. cc)), refl)
-left_told disk back n m before (upgrades.Open (opens.Stop DiskFault)) shows still = (before, still, refl)
+left_reported disk back n m before (upgrades.Open (opens.Stop DiskFault)) shows still = (before, still, refl)
 
 -- THE MAKING: what is refused for its size begins as no spool
 pub refuses_spool : (fault : FormatError)

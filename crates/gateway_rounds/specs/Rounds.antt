@@ -45,31 +45,31 @@ left_by_run (Some (Open fault)) st past before = before
 left_by_run fault st past before = (history st past).world.store ∷ []
 
 -- they are all that the script asks for, and all that they gave was written
-pub record IsWhole (st : State) (r : script.Result) (past : List Marked) (out : List ℕ) : Type 0 where
+pub record IsWholeRun (st : State) (r : script.Result) (past : List Marked) (out : List ℕ) : Type 0 where
   pub events : past ≡ r.run.past
   pub output : out ≡ output_of st past
 
 -- How the run ended. An opening is refused by memory or the disk alone
-abbrev pub EndsAs : Option RunFault → State → script.Result → List Marked → List ℕ → Type 0
-EndsAs None st r past out = (r.exit ≡ Ran) × IsWhole st r past out
-EndsAs (Some (Script (scripts.Script line))) st r past out = (r.exit ≡ AtLine line) × IsWhole st r past out
-EndsAs (Some (Script (scripts.Stop DiskFault))) st r past out = (r.exit ≡ Faulted) × IsWhole st r past out
-EndsAs (Some (Script (scripts.Stop NoMemory))) st r past out = WroteMost (calls.Stop NoMemory) st past out
-EndsAs (Some (Script scripts.Io)) st r past out = WroteMost calls.Io st past out
-EndsAs (Some (Open (opens.Stop stop))) st r past out = past ≡ []
-EndsAs (Some (Open _)) st r past out = ⊥
+abbrev pub RunEndsAs : Option RunFault → State → script.Result → List Marked → List ℕ → Type 0
+RunEndsAs None st r past out = (r.exit ≡ Ran) × IsWholeRun st r past out
+RunEndsAs (Some (Script (scripts.Script line))) st r past out = (r.exit ≡ AtLine line) × IsWholeRun st r past out
+RunEndsAs (Some (Script (scripts.Stop DiskFault))) st r past out = (r.exit ≡ Faulted) × IsWholeRun st r past out
+RunEndsAs (Some (Script (scripts.Stop NoMemory))) st r past out = WroteMost (calls.Stop NoMemory) st past out
+RunEndsAs (Some (Script scripts.Io)) st r past out = WroteMost calls.Io st past out
+RunEndsAs (Some (Open (opens.Stop stop))) st r past out = past ≡ []
+RunEndsAs (Some (Open _)) st r past out = ⊥
 
 -- the disk failed
-abbrev pub IsFault : Option RunFault → Type 0
-IsFault (Some (Script (scripts.Stop DiskFault))) = Unit {0}
-IsFault (Some (Open (opens.Stop DiskFault))) = Unit {0}
-IsFault _ = ⊥
+abbrev pub IsRunFault : Option RunFault → Type 0
+IsRunFault (Some (Script (scripts.Stop DiskFault))) = Unit {0}
+IsRunFault (Some (Open (opens.Stop DiskFault))) = Unit {0}
+IsRunFault _ = ⊥
 
 -- A RUN
 
 -- Over these uploads some first events of the script happened, by some marks. What was written is the prefix of what
 -- these gave, and they leave these stores
-pub record Passes (n : ℕ) (m : Store) (bytes : List ℕ) (fault : Option RunFault) (out : List ℕ)
+pub record PassesRun (n : ℕ) (m : Store) (bytes : List ℕ) (fault : Option RunFault) (out : List ℕ)
     (before left : List Store) : Type 0 where
   pub marks : List Mark
   pub past : List Marked
@@ -77,7 +77,7 @@ pub record Passes (n : ℕ) (m : Store) (bytes : List ℕ) (fault : Option RunFa
   pub unwritten : List ℕ
   pub replies : output_of (beginning m (Some n)) past ≡ out ++ unwritten
   pub leaves : left ≡ left_by_run fault (beginning m (Some n)) past before
-  pub ends : EndsAs fault (beginning m (Some n)) (the_script (beginning m (Some n)) marks bytes) past out
+  pub ends : RunEndsAs fault (beginning m (Some n)) (the_script (beginning m (Some n)) marks bytes) past out
 
 -- what is read of a script: its limit and one byte more, so that a longer one is refused at its line
 abbrev pub read_of : List ℕ → List ℕ
@@ -86,15 +86,15 @@ read_of bytes = take 1073741825 bytes
 -- A run as it was told, from a disk to the disk that came back. It ends with `Script Io` exactly where what it wrote
 -- was refused to grow
 pub record IsRun {D : Type 0} (disk : Ghosts D) (n : ℕ) (given back : D) (before left : List Store)
-    (run told : RunOf) : Type 0 where
-  pub script : told.script ≡ run.script
+    (run reported : RunOf) : Type 0 where
+  pub script : reported.script ≡ run.script
   pub store : Store
   pub opened : OpensWith disk given n before store
   pub out : List ℕ
-  pub written : told.written.bytes.items ≡ run.written.bytes.items ++ out
-  pub passes : Passes n store (read_of run.script.items) told.fault out before left
-  pub counts : Counts (IsFault told.fault) (disk.failures given) (disk.failures back)
-  pub refusals : Counts (told.fault ≡ Some (Script scripts.Io)) run.written.refusals told.written.refusals
+  pub written : reported.written.bytes.items ≡ run.written.bytes.items ++ out
+  pub passes : PassesRun n store (read_of run.script.items) reported.fault out before left
+  pub counts : Counts (IsRunFault reported.fault) (disk.failures given) (disk.failures back)
+  pub refusals : Counts (reported.fault ≡ Some (Script scripts.Io)) run.written.refusals reported.written.refusals
 
 -- AN UPGRADE
 
@@ -114,17 +114,17 @@ UpgradeLeaves (Some (upgrades.Open _)) image = Unit {0}
 -- it changes no upload. Where the disk failed, the images show one of the stores of before
 abbrev pub left_by_upgrade : Option UpgradeError → Store → List Store → List Store
 left_by_upgrade (Some (upgrades.Open (opens.Stop DiskFault))) m before = before
-left_by_upgrade told m before = m ∷ []
+left_by_upgrade reported m before = m ∷ []
 
 -- an upgrade as it was told, from a disk to the disk that came back
 pub record IsUpgrade {D : Type 0} (disk : Ghosts D) (n : ℕ) (given back : D) (before left : List Store)
-    (told : Option UpgradeError) : Type 0 where
-  pub ends : UpgradeEnds told
+    (reported : Option UpgradeError) : Type 0 where
+  pub ends : UpgradeEnds reported
   pub store : Store
   pub opened : OpensWith disk given n before store
-  pub same : left ≡ left_by_upgrade told store before
-  pub leaves : (image : ℕ → ℕ) → IsImage (disk.current back) (disk.unsynced back) image → UpgradeLeaves told image
-  pub counts : Counts (told ≡ Some (upgrades.Open (opens.Stop DiskFault))) (disk.failures given) (disk.failures back)
+  pub same : left ≡ left_by_upgrade reported store before
+  pub leaves : (image : ℕ → ℕ) → IsImage (disk.current back) (disk.unsynced back) image → UpgradeLeaves reported image
+  pub counts : Counts (reported ≡ Some (upgrades.Open (opens.Stop DiskFault))) (disk.failures given) (disk.failures back)
 
 -- THE END OF A ROUND
 
@@ -149,14 +149,14 @@ IsEnd disk chosen Nothing back after left next = (after ≡ back) × (next ≡ l
 
 -- what is done as it was told
 abbrev pub IsWork : {D : Type 0} → Ghosts D → ℕ → D → D → List Store → List Store → Work → Work → Type 0
-IsWork disk n given back before left (Run run) (Run told) = IsRun disk n given back before left run told
-IsWork disk n given back before left (Upgrade error) (Upgrade told) = IsUpgrade disk n given back before left told
-IsWork disk n given back before left (Run run) (Upgrade told) = ⊥
-IsWork disk n given back before left (Upgrade error) (Run told) = ⊥
+IsWork disk n given back before left (Run run) (Run reported) = IsRun disk n given back before left run reported
+IsWork disk n given back before left (Upgrade error) (Upgrade reported) = IsUpgrade disk n given back before left reported
+IsWork disk n given back before left (Run run) (Upgrade reported) = ⊥
+IsWork disk n given back before left (Upgrade error) (Run reported) = ⊥
 
 -- the uploads of a store are there in an image, with their texts
-abbrev pub HasTexts : (ℕ → ℕ) → Store → Type 0
-HasTexts image m = (k : ℕ) (u : Upload) → upload_of m k ≡ Some u → HasText image m.indexes k u
+abbrev pub HasTextsOf : (ℕ → ℕ) → Store → Type 0
+HasTextsOf image m = (k : ℕ) (u : Upload) → upload_of m k ≡ Some u → HasText image m.indexes k u
 
 -- of each upload of these stores all bytes are there, so that its text is that of all bytes that were accepted
 abbrev pub HaveAllBytes : List Store → Type 0
@@ -165,17 +165,17 @@ HaveAllBytes stores = (m : Store) → Among m stores → HasAllBytes m
 -- A round as it was told, from a disk of which each image shows one of some stores to one of which each image shows one
 -- of the next, by way of the disk that came back
 pub record IsRound {D C : Type 0} (disk : Ghosts D) (chosen : C → D → D → Type 0) (n : ℕ) (given after : D)
-    (before next : List Store) (round told : Round C) : Type 0 where
+    (before next : List Store) (round reported : Round C) : Type 0 where
   pub back : D
   pub left : List Store
-  pub work : IsWork disk n given back before left round.work told.work
+  pub work : IsWork disk n given back before left round.work reported.work
   pub shown : AllShowOne disk back n left
-  pub same_end : told.end ≡ round.end
+  pub same_end : reported.end ≡ round.end
   pub end : IsEnd disk chosen round.end back after left next
   pub shows : AllShowOne disk after n next
   pub texts : (image : ℕ → ℕ) (m : Store) → ImageShows n image m
       → IsImage (disk.current after) (disk.unsynced after) image
-      → HasTexts image m
+      → HasTextsOf image m
   pub bytes : HaveAllBytes before → HaveAllBytes next
 
 -- ALL ROUNDS
@@ -184,19 +184,19 @@ pub record IsRound {D C : Type 0} (disk : Ghosts D) (chosen : C → D → D → 
 abbrev pub Lives : {D C : Type 0} → Ghosts D → (C → D → D → Type 0) → ℕ → D → List Store → List (Round C)
     → List (Round C) → D → List Store → Type 0
 Lives disk chosen n d stores [] [] last end = (last ≡ d) × (end ≡ stores)
-Lives disk chosen n d stores [] (t ∷ told) last end = ⊥
+Lives disk chosen n d stores [] (t ∷ reported) last end = ⊥
 Lives disk chosen n d stores (r ∷ rounds) [] last end = ⊥
-Lives {D = D} disk chosen n d stores (r ∷ rounds) (t ∷ told) last end =
+Lives {D = D} disk chosen n d stores (r ∷ rounds) (t ∷ reported) last end =
     (after : D) × (next : List Store) × IsRound disk chosen n d after stores next r t
-    × Lives disk chosen n after next rounds told last end
+    × Lives disk chosen n after next rounds reported last end
 
 -- the disk was made a spool of version 2 with these uploads, without a failure, and then lived through the rounds
 pub record HasLived {D C : Type 0} (disk : Ghosts D) (chosen : C → D → D → Type 0) (given : D) (n : ℕ) (m : Store)
-    (rounds told : List (Round C)) (last : D) : Type 0 where
+    (rounds reported : List (Round C)) (last : D) : Type 0 where
   pub made : D
   pub size : disk.size made ≡ disk.size given
   pub failures : disk.failures made ≡ disk.failures given
   pub shows : AllShow disk made n m
   pub newest : (image : ℕ → ℕ) → IsImage (disk.current made) (disk.unsynced made) image → IsNewest image
   pub end : List Store
-  pub lives : Lives disk chosen n made (m ∷ []) rounds told last end
+  pub lives : Lives disk chosen n made (m ∷ []) rounds reported last end

@@ -1,6 +1,6 @@
 //! A disk's life, from its formatting on.
 ghost use Rattle.std.specs.Prelude.{◌≡◌, ◌↔◌, ℕ, List, IsOk, IfOk, IfErr};
-ghost use Rattle.spool_disk.specs.Disk.{Counts, IsImage, Keeps};
+ghost use Rattle.spool_disk.specs.Disk.{Counts, IsImage, Preserves};
 ghost use Rattle.spool_disk.specs.Views.{Lasts};
 ghost use Rattle.spool_image.specs.Format.{FitsSpool, HasMagic, LeftByFormat};
 ghost use Rattle.upload_rules.specs.Store.{Store, no_uploads};
@@ -50,7 +50,7 @@ pub fn endure<D: CrashDisk>(
     ensures size { IfErr result (λ e. D.size e.0 ≡ D.size disk) }
     ensures honest { IfErr result (λ e. D.honest disk ↔ D.honest e.0) }
     ensures same { D.honest disk → IfErr result (λ e. IsUnwritten e.1
-        → Keeps (D.current disk) (D.current e.0) (D.unsynced disk) (D.unsynced e.0)) }
+        → Preserves (D.current disk) (D.current e.0) (D.unsynced disk) (D.unsynced e.0)) }
     ensures lasts { D.honest disk → IfErr result (λ e. IsUnwritten e.1
         → Lasts D.Disk disk e.0 (IsImage (D.current disk) (D.unsynced disk))) }
     ensures crash { D.honest disk → IfErr result (λ e.

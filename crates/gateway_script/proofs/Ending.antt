@@ -14,15 +14,15 @@ use Rattle.tus_session.specs.Connections.{Does, mark_of}
 use Rattle.tus_session.specs.Images.{shown_by}
 use Rattle.gateway_script.specs.Script as script
 use Rattle.gateway_script.specs.Script.{Run, call, Order, obeyed, order_in, is_long, is_bad, cut_next, cut_from}
-use Rattle.gateway_script.specs.Script.{run_lines, script_lines, onto_line, ended_as, finished, Ran, Faulted, AtLine}
+use Rattle.gateway_script.specs.Script.{run_lines, script_lines, onto_line, ended_as, finished_run, Ran, Faulted, AtLine}
 use Rattle.gateway_script.specs.declared.faults.CallFault.{CallFault}
 use Rattle.gateway_script.specs.declared.faults.CallFault.TheVariants as faults
 use Rattle.gateway_script.specs.declared.faults.ScriptFault.{ScriptFault}
 use Rattle.gateway_script.specs.declared.faults.ScriptFault.TheVariants as runs
-use Rattle.common.specs.Splits.{after}
+use Rattle.common.specs.Splits.{rest_after}
 use Rattle.gateway_script.specs.Faults.{script_fault}
-use Rattle.gateway_script.specs.Runs.{View, with_marks, IsAt, Reaches, Leads, run_past, script_past, Stops, Went}
-use Rattle.gateway_script.specs.Runs.{Refuses, CutOne, Ends, LineRan}
+use Rattle.gateway_script.specs.Runs.{RunView, with_marks, IsRunAt, Reaches, Leads, run_past, script_past, StopsAt, Went}
+use Rattle.gateway_script.specs.Runs.{Refuses, CutOne, LinesEnd, LineRan}
 use Rattle.gateway_script.proofs.Turns.{Falling, done_went, refused_went}
 use Rattle.gateway_script.proofs.Reaching.{reach_both, reach_none, stops_after}
 use Rattle.gateway_script.proofs.Passing.{passes_by, passes_on, passes_as, cut_adds, lines_add, first_same}
@@ -56,9 +56,9 @@ unfolding cut_from
 cut_down zero n r down = refl
 cut_down (suc k) n r down = grind (arith, cut_down k (n + 1) r down)
 
-cut_stops : {C : Type 0} (v : View C) (fault : CallFault) (k n : ℕ) (r : Run) → is_closed (r.state.conns n) ≡ false
+cut_stops : {C : Type 0} (v : RunView C) (fault : CallFault) (k n : ℕ) (r : Run) → is_closed (r.state.conns n) ≡ false
     → r.down ≡ false
-    → Stops v fault run_past (λ x. (call x n (Ended n)).run) r → Stops v fault run_past (cut_from (suc k) n) r
+    → StopsAt v fault run_past (λ x. (call x n (Ended n)).run) r → StopsAt v fault run_past (cut_from (suc k) n) r
 cut_stops v fault k n r is_open up p =
     let ended : Run → Run = λ x. (call x n (Ended n)).run in (
       p.0,
@@ -68,7 +68,7 @@ cut_stops v fault k n r is_open up p =
       p.2,
     )
 
-went_cut : {C : Type 0} (v : View C) (result : Result (Unit {0}) CallFault) (k n : ℕ) (r : Run)
+went_cut : {C : Type 0} (v : RunView C) (result : Result (Unit {0}) CallFault) (k n : ℕ) (r : Run)
     → is_closed (r.state.conns n) ≡ false → r.down ≡ false
     → Went v result (λ x. (call x n (Ended n)).run) r → CutOne v result k n r
 went_cut v (Ok x) k n r is_open up p = (p.0, cut_goes k n r p.0 is_open up p.1, p.2)
@@ -78,24 +78,24 @@ went_cut v (Err (faults.Stop stops.DiskFault)) k n r is_open up p =
 went_cut v (Err (faults.Stop stops.NoMemory)) k n r is_open up p = cut_stops v _ k n r is_open up p
 went_cut v (Err faults.Io) k n r is_open up p = cut_stops v faults.Io k n r is_open up p
 
-pub cut_done : {C : Type 0} (v : View C) (now : C) (k n : ℕ) (r : Run) → IsAt v r
+pub cut_done : {C : Type 0} (v : RunView C) (now : C) (k n : ℕ) (r : Run) → IsRunAt v r
     → Leaves v now r.state.world.store (shown_by r.state (Ended n) Served)
-    → Does (v.u.stands now v.sure) (Ok (tt {0})) r.state (Ended n)
+    → Does (v.u.represents now v.sure) (Ok (tt {0})) r.state (Ended n)
     → CutOne (current_after v now v.held) (Ok (tt {0})) k n r
 cut_done v now k n r at leaves does =
     went_cut (current_after v now v.held) (Ok (tt {0})) k n r (ended_open r.state n Served Done does.answer (λ e. cc))
     at.up (done_went v now r (Ended n) at leaves does)
 
-pub cut_skipped : {C : Type 0} (v : View C) (now : C) (k n : ℕ) (r : Run) → IsAt v r
+pub cut_skipped : {C : Type 0} (v : RunView C) (now : C) (k n : ℕ) (r : Run) → IsRunAt v r
     → Leaves v now r.state.world.store (shown_by r.state (Ended n) Served)
-    → Does (v.u.stands now v.sure) (Err errors.Closed) r.state (Ended n)
+    → Does (v.u.represents now v.sure) (Err errors.Closed) r.state (Ended n)
     → CutOne (current_after v now v.held) (Ok (tt {0})) k n r
 cut_skipped v now k n r at leaves does =
     let c = ended_closed r.state n does.answer in (
       r,
       ([], λ rest. next_by k n (with_marks r rest) true false c.0 at.up),
       record {
-        keeps = subst (v.u.stands now v.sure) c.1 does.keeps;
+        represents = subst (v.u.represents now v.sure) c.1 does.now_represents;
         wrote = at.wrote;
         up = at.up;
         history = history_same v now v.held r at.history
@@ -103,11 +103,11 @@ cut_skipped v now k n r at leaves does =
       },
     )
 
-pub cut_refused : {C : Type 0} (v : View C) (now : C) (held : Option (List ℕ)) (k n : ℕ) (r : Run) (f : SessionError)
+pub cut_refused : {C : Type 0} (v : RunView C) (now : C) (held : Option (List ℕ)) (k n : ℕ) (r : Run) (f : SessionError)
     (result : Result (Unit {0}) CallFault)
-    → IsAt v r → AreOnDisk v r
+    → IsRunAt v r → AreOnDisk v r
     → Leaves v now r.state.world.store (shown_by r.state (Ended n) (mark_of {T = Unit {0}} (Err f)))
-    → Does (v.u.stands now v.sure) (Err f) r.state (Ended n) → Falling v now f
+    → Does (v.u.represents now v.sure) (Err f) r.state (Ended n) → Falling v now f
     → (f ≡ errors.Closed → ⊥) → Refuses v.held held result n f → CutOne (current_after v now held) result k n r
 cut_refused v now held k n r f result at durable leaves does fell other refuses =
     went_cut (current_after v now held) result k n r (ended_open r.state n (mark_of {T = Unit {0}} (Err f)) (Refused f)
@@ -123,9 +123,9 @@ unfolding run_lines
 line_goes number start line lines r up good = rw up (rw (good, run_lines) refl)
 
 -- a line that is none ends the run
-pub line_bad : {C : Type 0} (v : View C) (number start : ℕ) (line : List ℕ) (lines : List (List ℕ)) (r : Run) → IsAt v r
+pub line_bad : {C : Type 0} (v : RunView C) (number start : ℕ) (line : List ℕ) (lines : List (List ℕ)) (r : Run) → IsRunAt v r
     → (is_long start line || is_bad (order_in line)) ≡ true
-    → Ends v (Err (runs.Script number)) (run_lines number start (line ∷ lines)) r
+    → LinesEnd v (Err (runs.Script number)) (run_lines number start (line ∷ lines)) r
 unfolding run_lines
 line_bad v number start line lines r at bad = (r, ([], λ rest. rw at.up (rw (bad, run_lines) refl)), at)
 
@@ -142,7 +142,7 @@ result_of (Ok x) = Ok x
 result_of (Err fault) = Err (script_fault fault)
 
 -- a line that is obeyed
-module _ {C : Type 0} (v : View C) (number start : ℕ) (line : List ℕ) (lines : List (List ℕ)) (r : Run)
+module _ {C : Type 0} (v : RunView C) (number start : ℕ) (line : List ℕ) (lines : List (List ℕ)) (r : Run)
     (up : r.down ≡ false) (good : (is_long start line || is_bad (order_in line)) ≡ false) where
   abbrev others : Run → script.Result
   others = run_lines (number + 1) (start + length line) lines
@@ -152,8 +152,8 @@ module _ {C : Type 0} (v : View C) (number start : ℕ) (line : List ℕ) (lines
   line_leads s p =
       (p.0, λ rest. line_goes number start line lines (with_marks r (p.0 ++ rest)) up good ∙ ap others (p.1 rest))
 
-  line_breaks : (fault : CallFault) → Stops v fault run_past (obeyed (order_in line)) r
-      → Stops v fault script_past (run_lines number start (line ∷ lines)) r
+  line_breaks : (fault : CallFault) → StopsAt v fault run_past (obeyed (order_in line)) r
+      → StopsAt v fault script_past (run_lines number start (line ∷ lines)) r
   line_breaks fault p = (
     p.0,
     passes_as script_past (run_lines number start (line ∷ lines)) (λ x. others (obeyed (order_in line) x)) r p.0
@@ -173,15 +173,15 @@ module _ {C : Type 0} (v : View C) (number start : ℕ) (line : List ℕ) (lines
   line_ran (Err faults.Io) p = line_breaks faults.Io p
 
 -- it was out of memory before the line did anything
-pub line_wants : {C : Type 0} (v : View C) (number start : ℕ) (line : List ℕ) (lines : List (List ℕ)) (r : Run)
-    → IsAt v r
+pub line_wants : {C : Type 0} (v : RunView C) (number start : ℕ) (line : List ℕ) (lines : List (List ℕ)) (r : Run)
+    → IsRunAt v r
     → LineRan v (Err (runs.Stop stops.NoMemory)) number start line lines r
 line_wants v number start line lines r at = (
   r,
   passes_by script_past (run_lines number start (line ∷ lines)) (run_lines number start (line ∷ lines)) r r
       (reach_none (run_lines number start (line ∷ lines)) r) (lines_add number start (line ∷ lines)),
   record {
-    keeps = at.keeps;
+    represents = at.represents;
     out = at.wrote.out;
     wrote = at.wrote.wrote;
     replies = inl at.wrote.output;
@@ -191,31 +191,31 @@ line_wants v number start line lines r at = (
 
 -- THE LINES OF A SCRIPT, ONE AFTER ANOTHER
 split_case : (b : ℕ) (bytes : List ℕ) (t : Bool)
-    → onto_line b (script_lines bytes) ≡ (b ∷ take_through 10 bytes) ∷ script_lines (after 10 bytes)
+    → onto_line b (script_lines bytes) ≡ (b ∷ take_through 10 bytes) ∷ script_lines (rest_after 10 bytes)
     → (if t then (b ∷ []) ∷ script_lines bytes else onto_line b (script_lines bytes)) ≡
-    (if t then b ∷ [] else b ∷ take_through 10 bytes) ∷ script_lines (if t then bytes else after 10 bytes)
+    (if t then b ∷ [] else b ∷ take_through 10 bytes) ∷ script_lines (if t then bytes else rest_after 10 bytes)
 split_case b bytes true more = refl
 split_case b bytes false more = more
 
 onto_split : (b : ℕ) (bytes : List ℕ)
-    → onto_line b (script_lines bytes) ≡ (b ∷ take_through 10 bytes) ∷ script_lines (after 10 bytes)
+    → onto_line b (script_lines bytes) ≡ (b ∷ take_through 10 bytes) ∷ script_lines (rest_after 10 bytes)
 onto_split b [] = refl
 onto_split b (c ∷ bytes) = ap (onto_line b) (split_case c bytes (c == 10) (onto_split c bytes))
 
 -- the first line, and the others
 lines_split : (bytes : List ℕ) → (bytes ≡ [] → ⊥)
-    → script_lines bytes ≡ take_through 10 bytes ∷ script_lines (after 10 bytes)
+    → script_lines bytes ≡ take_through 10 bytes ∷ script_lines (rest_after 10 bytes)
 lines_split [] some = absurd (some refl)
 lines_split (b ∷ bytes) some = split_case b bytes (b == 10) (onto_split b bytes)
 
 -- a line and what is after it are all that there was
-line_both : (bytes : List ℕ) → take_through 10 bytes ++ after 10 bytes ≡ bytes
+line_both : (bytes : List ℕ) → take_through 10 bytes ++ rest_after 10 bytes ≡ bytes
 line_both [] = refl
 line_both (b ∷ bytes) = grind (arith, line_both bytes)
 
-line_after : (bytes : List ℕ) → drop (length (take_through 10 bytes)) bytes ≡ after 10 bytes
+line_after : (bytes : List ℕ) → drop (length (take_through 10 bytes)) bytes ≡ rest_after 10 bytes
 line_after bytes = ap (drop (length (take_through 10 bytes))) (sym (line_both bytes))
-    ∙ drop-append_seam (take_through 10 bytes) (after 10 bytes)
+    ∙ drop-append_seam (take_through 10 bytes) (rest_after 10 bytes)
 
 -- a line has a byte
 pub line_some : (bytes : List ℕ) → (bytes ≡ [] → ⊥) → 0 < length (take_through 10 bytes)
@@ -226,15 +226,15 @@ pub cut_none : (n : ℕ) (r : Run) → Leads (cut_from 0 n) r r
 unfolding cut_from
 cut_none n r = ([], λ rest. refl)
 
-end_breaks : {C : Type 0} (v : View C) (fault : CallFault) (number start : ℕ) (r : Run)
-    → Stops v fault run_past (cut_from MOST_OPEN 0) r → Stops v fault script_past (run_lines number start []) r
+end_breaks : {C : Type 0} (v : RunView C) (fault : CallFault) (number start : ℕ) (r : Run)
+    → StopsAt v fault run_past (cut_from MOST_OPEN 0) r → StopsAt v fault script_past (run_lines number start []) r
 unfolding run_lines
 end_breaks v fault number start r p =
-    (p.0, passes_on run_past script_past finished (cut_from MOST_OPEN 0) r p.0 (λ x. first_same x.past) p.1, p.2)
+    (p.0, passes_on run_past script_past finished_run (cut_from MOST_OPEN 0) r p.0 (λ x. first_same x.past) p.1, p.2)
 
 -- the fault of the connections' cutting is the run's
-pub lines_end : {C : Type 0} (v : View C) (number start : ℕ) (r : Run) (result : Result (Unit {0}) CallFault)
-    → Went v result (cut_from MOST_OPEN 0) r → Ends v (result_of result) (run_lines number start []) r
+pub lines_end : {C : Type 0} (v : RunView C) (number start : ℕ) (r : Run) (result : Result (Unit {0}) CallFault)
+    → Went v result (cut_from MOST_OPEN 0) r → LinesEnd v (result_of result) (run_lines number start []) r
 unfolding run_lines
 lines_end v number start r (Ok x) p = (p.0, (p.1.0, λ rest. rw (p.1.1 rest, p.2.up) refl), p.2)
 lines_end v number start r (Err (faults.Stop stops.DiskFault)) p =
@@ -243,9 +243,9 @@ lines_end v number start r (Err (faults.Stop stops.NoMemory)) p = end_breaks v _
 lines_end v number start r (Err faults.Io) p = end_breaks v faults.Io number start r p
 
 -- after some lines
-pub ends_after : {C : Type 0} (v : View C) (result : Result (Unit {0}) ScriptFault) (f g : Run
+pub ends_after : {C : Type 0} (v : RunView C) (result : Result (Unit {0}) ScriptFault) (f g : Run
     → script.Result) (r s : Run)
-    → Reaches f r g s → Ends v result g s → Ends v result f r
+    → Reaches f r g s → LinesEnd v result g s → LinesEnd v result f r
 ends_after v (Ok x) f g r s p q = (q.0, reach_both f g (λ x. ended_as x Ran) r s q.0 p q.1, q.2)
 ends_after v (Err (runs.Stop stops.DiskFault)) f g r s p q =
     (q.0, reach_both f g (λ x. ended_as x Faulted) r s q.0 p q.1, q.2)
@@ -253,26 +253,26 @@ ends_after v (Err (runs.Script n)) f g r s p q = (q.0, reach_both f g (λ x. end
 ends_after v (Err (runs.Stop stops.NoMemory)) f g r s p q = stops_after v _ script_past f g r s p q
 ends_after v (Err runs.Io) f g r s p q = stops_after v faults.Io script_past f g r s p q
 
-pub cut_fails : {C : Type 0} (v : View C) (fault : CallFault) (k n : ℕ) (r : Run) → CutOne v (Err fault) k n r
+pub cut_fails : {C : Type 0} (v : RunView C) (fault : CallFault) (k n : ℕ) (r : Run) → CutOne v (Err fault) k n r
     → Went v (Err fault) (cut_from (suc k) n) r
 cut_fails v (faults.Stop stops.DiskFault) k n r p = p
 cut_fails v (faults.Stop stops.NoMemory) k n r p = p
 cut_fails v faults.Io k n r p = p
 
 -- the fault of a line is that of its run
-pub line_fails : {C : Type 0} (v : View C) (fault : ScriptFault) (number start : ℕ) (bytes : List ℕ) (r : Run)
+pub line_fails : {C : Type 0} (v : RunView C) (fault : ScriptFault) (number start : ℕ) (bytes : List ℕ) (r : Run)
     → (bytes ≡ [] → ⊥)
-    → LineRan v (Err fault) number start (take_through 10 bytes) (script_lines (after 10 bytes)) r
-    → Ends v (Err fault) (run_lines number start (script_lines bytes)) r
+    → LineRan v (Err fault) number start (take_through 10 bytes) (script_lines (rest_after 10 bytes)) r
+    → LinesEnd v (Err fault) (run_lines number start (script_lines bytes)) r
 line_fails v fault number start bytes r some p =
-    subst (λ l. Ends v (Err fault) (run_lines number start l) r) (sym (lines_split bytes some)) p
+    subst (λ l. LinesEnd v (Err fault) (run_lines number start l) r) (sym (lines_split bytes some)) p
 
 -- on to the lines after one that ran
-pub lines_on : {C : Type 0} (v : View C) (number start : ℕ) (rest line : List ℕ) (f : Run → script.Result) (r s : Run)
+pub lines_on : {C : Type 0} (v : RunView C) (number start : ℕ) (rest line : List ℕ) (f : Run → script.Result) (r s : Run)
     → (rest ≡ [] → ⊥) → line ≡ take_through 10 rest → Reaches f r (run_lines number start (script_lines rest)) s
-    → LineRan v (Ok (tt {0})) number start line (script_lines (after 10 rest)) s
+    → LineRan v (Ok (tt {0})) number start line (script_lines (rest_after 10 rest)) s
     → (t : Run) × Reaches f r (run_lines (number + 1) (start + length line) (script_lines (drop (length line) rest))) t
-    × IsAt v t
+    × IsRunAt v t
 lines_on v number start rest line f r s some is p q = (
   q.0,
   reach_both f (run_lines number start (script_lines rest))

@@ -6,10 +6,10 @@ use Rattle.tus_session.specs.declared.session.TheConstants.{MOST_OPEN}
 use Rattle.tus_session.specs.History.{is_closed}
 use Rattle.gateway_script.specs.Script as script
 use Rattle.gateway_script.specs.Script.{Run, Flow, flow, call, next_mark, mores, mores_after, most_calls, onward}
-use Rattle.gateway_script.specs.Script.{given_after, give_within, Order, Skip, Open, Give, Hang, Bad, obeyed, order_in}
+use Rattle.gateway_script.specs.Script.{after_given, give_within, Order, Skip, Open, Give, Hang, Bad, obeyed, order_in}
 use Rattle.gateway_script.specs.Script.{is_long, is_bad, cut_next, cut_from, run_lines, ended_as, Faulted, AtLine}
 use Rattle.gateway_script.specs.Outputs.{IsFirst}
-use Rattle.gateway_script.specs.Runs.{with_marks, Reaches, Passes}
+use Rattle.gateway_script.specs.Runs.{with_marks, Reaches, PassesTo}
 
 pub first_same : (a : List Marked) → IsFirst a a
 first_same a = ([], refl)
@@ -50,7 +50,7 @@ onward_adds go adds r false = first_same r.past
 
 pub given_adds : (go : List ℕ → Run → Run) → ((bytes : List ℕ) → Adds (go bytes))
     → (n : ℕ) (bytes : List ℕ) (r : Run) (o : Outcome)
-    → IsFirst r.past (given_after go n bytes (record { run = r; outcome = o })).past
+    → IsFirst r.past (after_given go n bytes (record { run = r; outcome = o })).past
 given_adds go adds n bytes r (Gave given taken closes more) =
     let f : Flow = mores_after (mores most_calls n) (record { run = r; outcome = Gave given taken closes more }) in
     first_both r.past f.run.past (onward (go (drop taken bytes)) f).past
@@ -65,7 +65,7 @@ give_adds zero n bytes r = first_same r.past
 give_adds (suc k) n [] r = first_same r.past
 give_adds (suc k) n (b ∷ bytes) r =
     let c = call r n (Came n (b ∷ bytes)) in
-    first_both r.past c.run.past (given_after (give_within k n) n (b ∷ bytes) c).past
+    first_both r.past c.run.past (after_given (give_within k n) n (b ∷ bytes) c).past
     (call_adds r n (Came n (b ∷ bytes)))
     (given_adds (give_within k n) (give_adds k n) n (b ∷ bytes) c.run c.outcome)
 
@@ -108,12 +108,12 @@ lines_add number start (line ∷ lines) r =
 
 -- RUNS THAT ARE BROKEN OFF
 pub passes_by : {X : Type 0} (past_of : X → List Marked) (f g : Run → X) (r s : Run) → Reaches f r g s
-    → ((x : Run) → IsFirst x.past (past_of (g x))) → Passes past_of f r s
+    → ((x : Run) → IsFirst x.past (past_of (g x))) → PassesTo past_of f r s
 passes_by past_of f g r s p adds =
     (p.0, λ rest. subst (λ x. IsFirst s.past (past_of x)) (sym (p.1 rest)) (adds (with_marks s rest)))
 
 pub passes_after : {X : Type 0} (past_of : X → List Marked) (f g : Run → X) (r s t : Run) → Reaches f r g s
-    → Passes past_of g s t → Passes past_of f r t
+    → PassesTo past_of g s t → PassesTo past_of f r t
 passes_after past_of f g r s t p q = (
   p.0 ++ q.0,
   λ rest. subst (λ x. IsFirst t.past (past_of x))
@@ -122,14 +122,14 @@ passes_after past_of f g r s t p q = (
 
 pub passes_on : {X Y : Type 0} (past_of : X → List Marked) (past_of' : Y → List Marked) (k : X → Y) (f : Run → X)
     (r s : Run) → ((x : X) → IsFirst (past_of x) (past_of' (k x)))
-    → Passes past_of f r s → Passes past_of' (λ x. k (f x)) r s
+    → PassesTo past_of f r s → PassesTo past_of' (λ x. k (f x)) r s
 passes_on past_of past_of' k f r s adds p = (
   p.0,
   λ rest. let x = f (with_marks r (p.0 ++ rest)) in first_both s.past (past_of x) (past_of' (k x)) (p.1 rest) (adds x),
 )
 
 pub passes_as : {X : Type 0} (past_of : X → List Marked) (f g : Run → X) (r s : Run)
-    → ((marks : List Mark) → f (with_marks r marks) ≡ g (with_marks r marks)) → Passes past_of g r s
-    → Passes past_of f r s
+    → ((marks : List Mark) → f (with_marks r marks) ≡ g (with_marks r marks)) → PassesTo past_of g r s
+    → PassesTo past_of f r s
 passes_as past_of f g r s same p =
     (p.0, λ rest. subst (λ x. IsFirst s.past (past_of x)) (sym (same (p.0 ++ rest))) (p.1 rest))

@@ -8,11 +8,11 @@ use Rattle.tus_session.specs.declared.answers.Answer.{Answer}
 use Rattle.tus_session.specs.declared.errors.SessionError.TheVariants as errors
 use Rattle.common.specs.declared.stop.Stop.TheVariants as stops
 use Rattle.gateway_script.specs.Script as script
-use Rattle.gateway_script.specs.Script.{Run, Flow, flow, call, mores, mores_after, most_calls, onward, given_after}
+use Rattle.gateway_script.specs.Script.{Run, Flow, flow, call, mores, mores_after, most_calls, onward, after_given}
 use Rattle.gateway_script.specs.Script.{give_within}
 use Rattle.gateway_script.specs.declared.faults.CallFault.{CallFault}
 use Rattle.gateway_script.specs.declared.faults.CallFault.TheVariants as faults
-use Rattle.gateway_script.specs.Runs.{View, with_marks, Calls, Called, IsAt, IsStopped, Reaches, Leads, LeadsOn, Stops}
+use Rattle.gateway_script.specs.Runs.{RunView, with_marks, Calls, Called, IsRunAt, IsBrokenOff, Reaches, Leads, LeadsOn, StopsAt}
 use Rattle.gateway_script.specs.Runs.{run_past, flow_past, Flowed, Went, GivenOnce, settles}
 
 pub reach_both : {X : Type 0} (f g h : Run → X) (r s t : Run) → Reaches f r g s → Reaches g s h t → Reaches f r h t
@@ -32,8 +32,8 @@ reach_call : {X : Type 0} (k : script.Called → X) (r s : Run) (n : ℕ) (e : E
 reach_call k r s n e o c = (c.0 ∷ [], λ rest. ap k (c.1 rest))
 
 -- broken off after some calls
-pub stops_after : {C X : Type 0} (v : View C) (fault : CallFault) (past_of : X → List Marked) (f g : Run → X)
-    (r s : Run) → Reaches f r g s → Stops v fault past_of g s → Stops v fault past_of f r
+pub stops_after : {C X : Type 0} (v : RunView C) (fault : CallFault) (past_of : X → List Marked) (f g : Run → X)
+    (r s : Run) → Reaches f r g s → StopsAt v fault past_of g s → StopsAt v fault past_of f r
 stops_after v fault past_of f g r s p q = (q.0, passes_after past_of f g r s q.0 p q.1, q.2)
 
 -- THE PIECES OF A TEXT
@@ -49,8 +49,8 @@ settled : (go : Run → Flow) (given : List ℕ) (taken : ℕ) (closes more : Bo
 settled go given taken closes more x = grind arith
 
 -- the answer to a call for more leaves that many calls to go, or settles whether the line goes on
-abbrev pub MoreSays : {C : Type 0} → View C → Option Bool → ℕ → ℕ → Run → Type 0
-MoreSays v o k n r = (s : Run) × Reaches (mores (suc k) n) r (on_as (mores k n) o) s × IsAt v s
+abbrev pub MoreAnswers : {C : Type 0} → RunView C → Option Bool → ℕ → ℕ → Run → Type 0
+MoreAnswers v o k n r = (s : Run) × Reaches (mores (suc k) n) r (on_as (mores k n) o) s × IsRunAt v s
 
 -- through a call for more
 reach_more : (k n : ℕ) (r s : Run) (o : Outcome) → Calls r n (More n) s o
@@ -66,15 +66,15 @@ pub most_is : most_calls ≡ 18446744073709551615
 unfolding most_calls
 most_is = refl
 
-pub more_says : {C : Type 0} (v : View C) (a : Option Answer) (n k : ℕ) (r : Run) → Called v (Ok a) n (More n) r
-    → MoreSays v (settles a) k n r
-more_says v None n k r c = (c.0, reach_more k n r c.0 (Refused c.1) c.2, c.3)
-more_says v (Some a) n k r c =
+pub more_answers : {C : Type 0} (v : RunView C) (a : Option Answer) (n k : ℕ) (r : Run) → Called v (Ok a) n (More n) r
+    → MoreAnswers v (settles a) k n r
+more_answers v None n k r c = (c.0, reach_more k n r c.0 (Refused c.1) c.2, c.3)
+more_answers v (Some a) n k r c =
     let p = reach_more k n r c.0 (Gave c.1 a.taken a.closes a.more) c.2 in
     (c.0, (p.0, λ rest. p.1 rest ∙ settled (mores k n) c.1 a.taken a.closes a.more (with_marks c.0 rest)), c.3)
 
-more_stops : {C : Type 0} (v : View C) (fault : CallFault) (n k : ℕ) (r s : Run) (o : Outcome) → Calls r n (More n) s o
-    → IsStopped v fault s → Stops v fault flow_past (mores (suc k) n) r
+more_stops : {C : Type 0} (v : RunView C) (fault : CallFault) (n k : ℕ) (r s : Run) (o : Outcome) → Calls r n (More n) s o
+    → IsBrokenOff v fault s → StopsAt v fault flow_past (mores (suc k) n) r
 more_stops v fault n k r s o c at = (
   s,
   passes_by flow_past (mores (suc k) n) (λ x. mores_after (mores k n) (record { run = x; outcome = o })) r s
@@ -83,7 +83,7 @@ more_stops v fault n k r s o c at = (
 )
 
 -- after some calls
-flow_after : {C : Type 0} (v : View C) (result : Result Bool CallFault) (f g : Run → Flow) (r s : Run)
+flow_after : {C : Type 0} (v : RunView C) (result : Result Bool CallFault) (f g : Run → Flow) (r s : Run)
     → Reaches f r g s → Flowed v result g s → Flowed v result f r
 flow_after v (Ok b) f g r s p q = (q.0, reach_both f g (λ x. flow x b) r s q.0 p q.1, q.2)
 flow_after v (Err (faults.Stop stops.DiskFault)) f g r s p q =
@@ -92,14 +92,14 @@ flow_after v (Err (faults.Stop stops.NoMemory)) f g r s p q = stops_after v _ fl
 flow_after v (Err faults.Io) f g r s p q = stops_after v faults.Io flow_past f g r s p q
 
 -- one call more for a text
-module _ {C : Type 0} (v : View C) (f : Run → Flow) (n k : ℕ) (r s : Run) (p : Reaches f r (mores (suc k) n) s) where
+module _ {C : Type 0} (v : RunView C) (f : Run → Flow) (n k : ℕ) (r s : Run) (p : Reaches f r (mores (suc k) n) s) where
   pub more_on : (a : Option Answer) (o : Option Bool) → o ≡ settles a → Called v (Ok a) n (More n) s
-      → (t : Run) × Reaches f r (on_as (mores k n) o) t × IsAt v t
+      → (t : Run) × Reaches f r (on_as (mores k n) o) t × IsRunAt v t
   more_on a o is c =
-      let q : MoreSays v o k n s = rw is (more_says v a n k s c) in
+      let q : MoreAnswers v o k n s = rw is (more_answers v a n k s c) in
       (q.0, reach_both f (mores (suc k) n) (on_as (mores k n) o) r s q.0 p q.1, q.2)
 
-  more_broken : (fault : CallFault) → Stops v fault flow_past (mores (suc k) n) s → Stops v fault flow_past f r
+  more_broken : (fault : CallFault) → StopsAt v fault flow_past (mores (suc k) n) s → StopsAt v fault flow_past f r
   more_broken fault q = stops_after v fault flow_past f (mores (suc k) n) r s p q
 
   pub more_fails : (fault : CallFault) → Called v (Err fault) n (More n) s → Flowed v (Err fault) f r
@@ -114,7 +114,7 @@ module _ {C : Type 0} (v : View C) (f : Run → Flow) (n k : ℕ) (r s : Run) (p
 
 -- THE BYTES OF A LINE
 
-pub flow_open : {C : Type 0} (v : View C) (r : Run) (a : Answer) (given : List ℕ) (n : ℕ)
+pub flow_open : {C : Type 0} (v : RunView C) (r : Run) (a : Answer) (given : List ℕ) (n : ℕ)
     (result : Result Bool CallFault) → None ≡ settles (Some a) → Flowed v result (mores most_calls n) r
     → Flowed v result (λ x. mores_after (mores most_calls n)
     (record { run = x; outcome = Gave given a.taken a.closes a.more })) r
@@ -129,14 +129,14 @@ flow_open v r a given n result e f =
 -- a call with bytes
 came_reaches : (k n : ℕ) (bytes : List ℕ) (r s : Run) (o : Outcome) → (bytes ≡ [] → ⊥) → Calls r n (Came n bytes) s o
     → Reaches (give_within (suc k) n bytes) r
-    (λ x. given_after (give_within k n) n bytes (record { run = x; outcome = o })) s
+    (λ x. after_given (give_within k n) n bytes (record { run = x; outcome = o })) s
 unfolding give_within
 came_reaches k n [] r s o some c = absurd (some refl)
 came_reaches k n (b ∷ bytes) r s o some c =
-    reach_call (given_after (give_within k n) n (b ∷ bytes)) r s n (Came n (b ∷ bytes)) o c
+    reach_call (after_given (give_within k n) n (b ∷ bytes)) r s n (Came n (b ∷ bytes)) o c
 
 -- what a call with bytes and the text after it did
-module _ {C : Type 0} (v : View C) (k n : ℕ) (bytes : List ℕ) (r s : Run) (given : List ℕ) (a : Answer)
+module _ {C : Type 0} (v : RunView C) (k n : ℕ) (bytes : List ℕ) (r s : Run) (given : List ℕ) (a : Answer)
     (some : bytes ≡ [] → ⊥) (c : Calls r n (Came n bytes) s (Gave given a.taken a.closes a.more)) where
   abbrev rest_flow : Run → Flow
   rest_flow x = mores_after (mores most_calls n) (record { run = x; outcome = Gave given a.taken a.closes a.more })
@@ -158,8 +158,8 @@ module _ {C : Type 0} (v : View C) (k n : ℕ) (bytes : List ℕ) (r s : Run) (g
   once_off f = (f.0, reaches f.0 false f.1, f.2)
 
   -- broken off while a text was given
-  text_stops : (fault : CallFault) → Stops v fault flow_past rest_flow s
-      → Stops v fault run_past (give_within (suc k) n bytes) r
+  text_stops : (fault : CallFault) → StopsAt v fault flow_past rest_flow s
+      → StopsAt v fault run_past (give_within (suc k) n bytes) r
   text_stops fault f =
       stops_after v fault run_past (give_within (suc k) n bytes) (λ x. rest_given (rest_flow x)) r s
       (came_reaches k n bytes r s (Gave given a.taken a.closes a.more) some c) (
@@ -175,37 +175,37 @@ module _ {C : Type 0} (v : View C) (k n : ℕ) (bytes : List ℕ) (r s : Run) (g
   text_fails (faults.Stop stops.NoMemory) f = text_stops _ f
   text_fails faults.Io f = text_stops faults.Io f
 
-came_stops : {C : Type 0} (v : View C) (fault : CallFault) (k n : ℕ) (bytes : List ℕ) (r s : Run) (o : Outcome)
-    → (bytes ≡ [] → ⊥) → Calls r n (Came n bytes) s o → IsStopped v fault s
-    → Stops v fault run_past (give_within (suc k) n bytes) r
+came_stops : {C : Type 0} (v : RunView C) (fault : CallFault) (k n : ℕ) (bytes : List ℕ) (r s : Run) (o : Outcome)
+    → (bytes ≡ [] → ⊥) → Calls r n (Came n bytes) s o → IsBrokenOff v fault s
+    → StopsAt v fault run_past (give_within (suc k) n bytes) r
 came_stops v fault k n bytes r s o some c at = (
   s,
   passes_by run_past (give_within (suc k) n bytes)
-      (λ x. given_after (give_within k n) n bytes (record { run = x; outcome = o })) r s
+      (λ x. after_given (give_within k n) n bytes (record { run = x; outcome = o })) r s
       (came_reaches k n bytes r s o some c) (λ x. given_adds (give_within k n) (give_adds k n) n bytes x o),
   at,
 )
 
-pub came_fails : {C : Type 0} (v : View C) (fault : CallFault) (k n : ℕ) (bytes : List ℕ) (r : Run) → (bytes ≡ [] → ⊥)
+pub came_fails : {C : Type 0} (v : RunView C) (fault : CallFault) (k n : ℕ) (bytes : List ℕ) (r : Run) → (bytes ≡ [] → ⊥)
     → Called v (Err fault) n (Came n bytes) r → GivenOnce v (Err fault) k n bytes r
 came_fails v (faults.Stop stops.DiskFault) k n bytes r some c =
     (c.0, came_reaches k n bytes r c.0 (Refused (errors.Stop stops.DiskFault)) some c.1, c.2)
 came_fails v (faults.Stop stops.NoMemory) k n bytes r some c = came_stops v _ k n bytes r c.0 c.1 some c.2 c.3
 came_fails v faults.Io k n bytes r some c = came_stops v faults.Io k n bytes r c.0 c.1 some c.2 c.3
 
-pub came_refused : {C : Type 0} (v : View C) (k n : ℕ) (bytes : List ℕ) (r : Run) → (bytes ≡ [] → ⊥)
+pub came_refused : {C : Type 0} (v : RunView C) (k n : ℕ) (bytes : List ℕ) (r : Run) → (bytes ≡ [] → ⊥)
     → Called v (Ok None) n (Came n bytes) r → GivenOnce v (Ok None) k n bytes r
 came_refused v k n bytes r some c = (c.0, came_reaches k n bytes r c.0 (Refused c.1) some c.2, c.3)
 
 -- what went after some calls
-pub went_after : {C : Type 0} (v : View C) (result : Result (Unit {0}) CallFault) (f g : Run → Run) (r s : Run)
+pub went_after : {C : Type 0} (v : RunView C) (result : Result (Unit {0}) CallFault) (f g : Run → Run) (r s : Run)
     → Reaches f r g s → Went v result g s → Went v result f r
 went_after v (Ok x) f g r s p q = (q.0, reach_both f g (λ x. x) r s q.0 p q.1, q.2)
 went_after v (Err (faults.Stop stops.DiskFault)) f g r s p q = (q.0, reach_both f g (λ x. x) r s q.0 p q.1, q.2)
 went_after v (Err (faults.Stop stops.NoMemory)) f g r s p q = stops_after v _ run_past f g r s p q
 went_after v (Err faults.Io) f g r s p q = stops_after v faults.Io run_past f g r s p q
 
-pub once_fails : {C : Type 0} (v : View C) (fault : CallFault) (k n : ℕ) (bytes : List ℕ) (r : Run)
+pub once_fails : {C : Type 0} (v : RunView C) (fault : CallFault) (k n : ℕ) (bytes : List ℕ) (r : Run)
     → GivenOnce v (Err fault) k n bytes r → Went v (Err fault) (give_within (suc k) n bytes) r
 once_fails v (faults.Stop stops.DiskFault) k n bytes r p = p
 once_fails v (faults.Stop stops.NoMemory) k n bytes r p = p

@@ -3,8 +3,8 @@ use Rattle.std.specs.Prelude.{ℕ}
 use Rattle.gateway_script.specs.declared.streams.Counted.{Counted}
 
 -- what it stands over
-abbrev pub stream_of : {S : Type 0} → Counted S → S
-stream_of c = c.stream
+abbrev pub counted_stream : {S : Type 0} → Counted S → S
+counted_stream c = c.stream
 
 -- how many calls were refused
 abbrev pub refusals_of : {S : Type 0} → Counted S → ℕ

@@ -4,7 +4,7 @@ use Rattle.std.specs.Prelude.{drop, slice_get, codes, bytes_eq, nat_lt, nat_le, 
 use Rattle.std.specs.Fmt.{decimal}
 use Rattle.hex.specs.Hex.{decode_of}
 use Rattle.common.specs.Numbers.{number_of}
-use Rattle.common.specs.Splits.{before, after}
+use Rattle.common.specs.Splits.{before, rest_after}
 use Rattle.tus_request.specs.Value.{answered}
 use Rattle.tus_session.specs.declared.errors.SessionError.{SessionError}
 use Rattle.tus_session.specs.declared.errors.SessionError.TheVariants.{Stop}
@@ -61,16 +61,16 @@ abbrev pub order_of_word : List ℕ → List ℕ → Order
 order_of_word word rest =
     if bytes_eq word (codes "open") then order_with Open (conn_number rest)
     else if bytes_eq word (codes "cut") then order_with Hang (conn_number rest)
-    else if bytes_eq word (codes "say") then order_with (λ n. Give n (after 32 rest ++ (13 ∷ 10 ∷ [])))
+    else if bytes_eq word (codes "say") then order_with (λ n. Give n (rest_after 32 rest ++ (13 ∷ 10 ∷ [])))
     (conn_number (before 32 rest))
-    else if bytes_eq word (codes "came") then order_with (give_hex (hex_bytes (after 32 rest)))
+    else if bytes_eq word (codes "came") then order_with (give_hex (hex_bytes (rest_after 32 rest)))
     (conn_number (before 32 rest))
     else Bad
 
 -- empty lines and those that begin with `#` are skipped
 abbrev pub order_of : List ℕ → Order
 order_of [] = Skip
-order_of (b ∷ line) = if b == 35 then Skip else order_of_word (before 32 (b ∷ line)) (after 32 (b ∷ line))
+order_of (b ∷ line) = if b == 35 then Skip else order_of_word (before 32 (b ∷ line)) (rest_after 32 (b ∷ line))
 
 -- of a line without its LF, and without a CR before that
 abbrev pub order_in : List ℕ → Order
@@ -161,8 +161,8 @@ mores (suc k) n r = mores_after (mores k n) (call r n (More n))
 abbrev pub onward : (Run → Run) → Flow → Run
 onward go f = elim f.goes_on [ true ↦ go f.run | false ↦ f.run ]
 
-abbrev pub given_after : (List ℕ → Run → Run) → ℕ → List ℕ → Called → Run
-given_after go n bytes c = elim c.outcome [
+abbrev pub after_given : (List ℕ → Run → Run) → ℕ → List ℕ → Called → Run
+after_given go n bytes c = elim c.outcome [
   | Gave given taken closes more ↦ onward (go (drop taken bytes)) (mores_after (mores most_calls n) c)
   | Done ↦ c.run
   | Refused f ↦ c.run
@@ -171,7 +171,7 @@ given_after go n bytes c = elim c.outcome [
 unfoldable pub give_within : ℕ → ℕ → List ℕ → Run → Run
 give_within zero n bytes r = r
 give_within (suc k) n [] r = r
-give_within (suc k) n (b ∷ bytes) r = given_after (give_within k n) n (b ∷ bytes) (call r n (Came n (b ∷ bytes)))
+give_within (suc k) n (b ∷ bytes) r = after_given (give_within k n) n (b ∷ bytes) (call r n (Came n (b ∷ bytes)))
 
 abbrev pub obeyed : Order → Run → Run
 obeyed Skip r = r
@@ -202,8 +202,8 @@ pub record Result : Type 0 where
 abbrev pub ended_as : Run → Exit → Result
 ended_as r exit = record { run = r; exit = exit }
 
-abbrev pub finished : Run → Result
-finished r = ended_as r (if r.down then Faulted else Ran)
+abbrev pub finished_run : Run → Result
+finished_run r = ended_as r (if r.down then Faulted else Ran)
 
 abbrev pub is_bad : Order → Bool
 is_bad Bad = true
@@ -216,7 +216,7 @@ is_long start line = nat_lt MOST_LINE (length (before 10 line)) || nat_lt MOST_S
 
 -- the lines from this one on, of which the first is this number and begins at this byte
 unfoldable pub run_lines : ℕ → ℕ → List (List ℕ) → Run → Result
-run_lines number start [] r = finished (cut_from MOST_OPEN 0 r)
+run_lines number start [] r = finished_run (cut_from MOST_OPEN 0 r)
 run_lines number start (line ∷ lines) r =
     let order = order_in line in
     elim r.down [

@@ -3,7 +3,7 @@ ghost use Rattle.std.specs.Prelude.{ℕ, Bool, List, Option, IsErrOf};
 ghost use Rattle.upload_rules.specs.Answers.{Counts};
 ghost use Rattle.tus_session.specs.History.{State, Opened, Came, More, Ended};
 ghost use Rattle.gateway_script.specs.Script.{Run, call};
-ghost use Rattle.gateway_script.specs.Runs.{view, IsAt, Went, Refuses, Called, Tells};
+ghost use Rattle.gateway_script.specs.Runs.{view, IsRunAt, Went, Refuses, Called, WritesGiven};
 
 use crate::faults::CallFault;
 use crate::streams::CountedWrite;
@@ -35,14 +35,14 @@ pub(crate) fn refused<W: CountedWrite>(
 }
 
 /// What a call gave is written.
-fn tell<W: CountedWrite>(
+fn write_given<W: CountedWrite>(
     alloc: Global,
     writer: &mut W,
     conn: usize,
     bytes: &[u8],
     closes: bool,
 ) -> Result<(), CallFault>
-    ensures tells { Tells (W.contents writer.old) (W.contents writer.new) result conn bytes.now closes }
+    ensures wrote_given { WritesGiven (W.contents writer.old) (W.contents writer.new) result conn bytes.now closes }
     ensures io { Counts (IsErrOf result CallFault.Io) (W.refusals writer.old) (W.refusals writer.new) }
 {
     let mut out = Vec::new(alloc);
@@ -58,7 +58,7 @@ pub(crate) fn open<C: Connections, W: CountedWrite>(
     conn: usize,
 ) -> Result<(), CallFault>
     ensures does { (sure : Bool) (before : C) (st : State) (r : Run) (prefix : Option (List ℕ))
-        → IsAt (view C.Connections sure before core.old st (W.contents writer.old) prefix) r
+        → IsRunAt (view C.Connections sure before core.old st (W.contents writer.old) prefix) r
         → Went (view C.Connections sure before core.new st (W.contents writer.new) prefix) result
         (λ x. (call x conn (Opened conn)).run) r }
     ensures counts { Counts (IsErrOf result (CallFault.Stop Stop.DiskFault)) (C.failures core.old)
@@ -79,7 +79,7 @@ pub(crate) fn cut<C: Connections, W: CountedWrite>(
     conn: usize,
 ) -> Result<(), CallFault>
     ensures does { (sure : Bool) (before : C) (st : State) (r : Run) (prefix : Option (List ℕ))
-        → IsAt (view C.Connections sure before core.old st (W.contents writer.old) prefix) r
+        → IsRunAt (view C.Connections sure before core.old st (W.contents writer.old) prefix) r
         → Went (view C.Connections sure before core.new st (W.contents writer.new) prefix) result
         (λ x. (call x conn (Ended conn)).run) r }
     ensures counts { Counts (IsErrOf result (CallFault.Stop Stop.DiskFault)) (C.failures core.old)
@@ -101,7 +101,7 @@ pub(crate) fn came<C: Connections, W: CountedWrite>(
     bytes: &[u8],
 ) -> Result<Option<Answer>, CallFault>
     ensures does { (sure : Bool) (before : C) (st : State) (r : Run) (prefix : Option (List ℕ))
-        → IsAt (view C.Connections sure before core.old st (W.contents writer.old) prefix) r
+        → IsRunAt (view C.Connections sure before core.old st (W.contents writer.old) prefix) r
         → Called (view C.Connections sure before core.new st (W.contents writer.new) prefix) result conn
         (Came conn bytes.now) r }
     ensures counts { Counts (IsErrOf result (CallFault.Stop Stop.DiskFault)) (C.failures core.old)
@@ -111,7 +111,7 @@ pub(crate) fn came<C: Connections, W: CountedWrite>(
     let mut out = Vec::new(alloc);
     match core.came(conn, bytes, &mut out) {
         Ok(answer) => {
-            tell(alloc, writer, conn, &out, answer.closes)?;
+            write_given(alloc, writer, conn, &out, answer.closes)?;
             Ok(Some(answer))
         }
         Err(error) => {
@@ -129,7 +129,7 @@ pub(crate) fn more<C: Connections, W: CountedWrite>(
     conn: usize,
 ) -> Result<Option<Answer>, CallFault>
     ensures does { (sure : Bool) (before : C) (st : State) (r : Run) (prefix : Option (List ℕ))
-        → IsAt (view C.Connections sure before core.old st (W.contents writer.old) prefix) r
+        → IsRunAt (view C.Connections sure before core.old st (W.contents writer.old) prefix) r
         → Called (view C.Connections sure before core.new st (W.contents writer.new) prefix) result conn (More conn) r }
     ensures counts { Counts (IsErrOf result (CallFault.Stop Stop.DiskFault)) (C.failures core.old)
         (C.failures core.new) }
@@ -138,7 +138,7 @@ pub(crate) fn more<C: Connections, W: CountedWrite>(
     let mut out = Vec::new(alloc);
     match core.more(conn, &mut out) {
         Ok(answer) => {
-            tell(alloc, writer, conn, &out, answer.closes)?;
+            write_given(alloc, writer, conn, &out, answer.closes)?;
             Ok(Some(answer))
         }
         Err(error) => {

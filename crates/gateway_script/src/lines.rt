@@ -4,7 +4,7 @@ ghost use Rattle.common.specs.declared.stop.Stop.{Stop};
 ghost use Rattle.upload_rules.specs.Answers.{Counts};
 ghost use Rattle.tus_session.specs.History.{State, Gave};
 ghost use Rattle.gateway_script.specs.Script.{Run, mores, mores_after, most_calls, give_within};
-ghost use Rattle.gateway_script.specs.Runs.{view, IsAt, Went, Flowed, GivenOnce, settles};
+ghost use Rattle.gateway_script.specs.Runs.{view, IsRunAt, Went, Flowed, GivenOnce, settles};
 
 use crate::calls::{came, more};
 use crate::faults::CallFault;
@@ -32,7 +32,7 @@ fn give_text<C: Connections, W: CountedWrite>(
     conn: usize,
 ) -> Result<bool, CallFault>
     ensures does { (sure : Bool) (before : C) (st : State) (r : Run) (prefix : Option (List ℕ))
-        → IsAt (view C.Connections sure before core.old st (W.contents writer.old) prefix) r
+        → IsRunAt (view C.Connections sure before core.old st (W.contents writer.old) prefix) r
         → Flowed (view C.Connections sure before core.new st (W.contents writer.new) prefix) result
         (mores most_calls conn)
         r }
@@ -60,7 +60,7 @@ fn go_on<C: Connections, W: CountedWrite>(
     answer: Answer,
 ) -> Result<bool, CallFault>
     ensures does { (sure : Bool) (before : C) (st : State) (r : Run) (prefix : Option (List ℕ)) (given : List ℕ)
-        → IsAt (view C.Connections sure before core.old st (W.contents writer.old) prefix) r
+        → IsRunAt (view C.Connections sure before core.old st (W.contents writer.old) prefix) r
         → Flowed (view C.Connections sure before core.new st (W.contents writer.new) prefix) result
         (λ x. mores_after (mores most_calls conn)
         (record { run = x; outcome = Gave given answer.taken answer.closes answer.more })) r }
@@ -84,7 +84,7 @@ fn give_once<C: Connections, W: CountedWrite>(
 ) -> Result<Option<usize>, CallFault>
     ensures does { (sure : Bool) (before : C) (st : State) (r : Run) (prefix : Option (List ℕ)) (k : ℕ)
         → (bytes.now ≡ [] → ⊥)
-        → IsAt (view C.Connections sure before core.old st (W.contents writer.old) prefix) r
+        → IsRunAt (view C.Connections sure before core.old st (W.contents writer.old) prefix) r
         → GivenOnce (view C.Connections sure before core.new st
         (W.contents writer.new) prefix) result k conn bytes.now r }
     ensures counts { Counts (IsErrOf result (CallFault.Stop Stop.DiskFault)) (C.failures core.old)
@@ -120,7 +120,7 @@ pub(crate) fn give<C: Connections, W: CountedWrite>(
     bytes: &[u8],
 ) -> Result<(), CallFault>
     ensures does { (sure : Bool) (before : C) (st : State) (r : Run) (prefix : Option (List ℕ))
-        → IsAt (view C.Connections sure before core.old st (W.contents writer.old) prefix) r
+        → IsRunAt (view C.Connections sure before core.old st (W.contents writer.old) prefix) r
         → Went (view C.Connections sure before core.new st (W.contents writer.new) prefix) result
         (give_within (length bytes.now) conn bytes.now) r }
     ensures counts { Counts (IsErrOf result (CallFault.Stop Stop.DiskFault)) (C.failures core.old)

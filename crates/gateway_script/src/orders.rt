@@ -1,7 +1,7 @@
 //! The lines of a script.
 ghost use Rattle.std.specs.Prelude.{◌≡◌, IfOk};
 ghost use Rattle.gateway_script.specs.Script.{bared, order_of, conn_number, order_of_word};
-ghost use Rattle.gateway_script.specs.Shown.{order_shown, say_of, came_of};
+ghost use Rattle.gateway_script.specs.Shown.{order_shown, say_of, came_order};
 
 use crate::digits::HexDigits;
 use common::{after, number, prefix};
@@ -58,7 +58,7 @@ fn say(alloc: Global, rest: &[u8]) -> Result<Order, AllocError>
 
 /// The rest of a line after `came`: at least one byte in hex.
 fn came(alloc: Global, digits: &HexDigits, rest: &[u8]) -> Result<Order, AllocError>
-    ensures { IfOk result (λ o. order_shown o ≡ came_of rest.now) }
+    ensures { IfOk result (λ o. order_shown o ≡ came_order rest.now) }
 {
     let Some(conn) = connection(prefix(rest, b' ')) else {
         return Ok(Order::Bad);

@@ -8,7 +8,7 @@ ghost use Rattle.gateway_script.specs.Script.{Run, obeyed, cut_from, run_lines, 
 ghost use Rattle.common.specs.Splits.{before};
 ghost use Rattle.gateway_script.specs.Lines.{IsLine};
 ghost use Rattle.gateway_script.specs.Shown.{order_shown};
-ghost use Rattle.gateway_script.specs.Runs.{view, IsAt, Went, CutOne, LineRan, Ends};
+ghost use Rattle.gateway_script.specs.Runs.{view, IsRunAt, Went, CutOne, LineRan, LinesEnd};
 
 use crate::calls::{cut, open, refused};
 use crate::digits::HexDigits;
@@ -34,7 +34,7 @@ fn obey<C: Connections, W: CountedWrite>(
     order: &Order,
 ) -> Result<(), CallFault>
     ensures does { (sure : Bool) (before : C) (st : State) (r : Run) (prefix : Option (List ℕ))
-        → IsAt (view C.Connections sure before core.old st (W.contents writer.old) prefix) r
+        → IsRunAt (view C.Connections sure before core.old st (W.contents writer.old) prefix) r
         → Went (view C.Connections sure before core.new st (W.contents writer.new) prefix) result
         (obeyed (order_shown order.now)) r }
     ensures counts { Counts (IsErrOf result (CallFault.Stop Stop.DiskFault)) (C.failures core.old)
@@ -57,7 +57,7 @@ fn cut_open<C: Connections, W: CountedWrite>(
     conn: usize,
 ) -> Result<(), CallFault>
     ensures does { (sure : Bool) (before : C) (st : State) (r : Run) (prefix : Option (List ℕ)) (k : ℕ)
-        → IsAt (view C.Connections sure before core.old st (W.contents writer.old) prefix) r
+        → IsRunAt (view C.Connections sure before core.old st (W.contents writer.old) prefix) r
         → CutOne (view C.Connections sure before core.new st (W.contents writer.new) prefix) result k conn r }
     ensures counts { Counts (IsErrOf result (CallFault.Stop Stop.DiskFault)) (C.failures core.old)
         (C.failures core.new) }
@@ -122,7 +122,7 @@ fn run_line<C: Connections, W: CountedWrite>(
 ) -> Result<(), ScriptFault>
     requires { IsLine line.now }
     ensures does { (sure : Bool) (before : C) (st : State) (r : Run) (prefix : Option (List ℕ)) (lines : List (List ℕ))
-        → IsAt (view C.Connections sure before core.old st (W.contents writer.old) prefix) r
+        → IsRunAt (view C.Connections sure before core.old st (W.contents writer.old) prefix) r
         → LineRan (view C.Connections sure before core.new st
         (W.contents writer.new) prefix) result number start line.now
         lines r }
@@ -148,7 +148,7 @@ fn cut_all<C: Connections, W: CountedWrite>(
     writer: &mut W,
 ) -> Result<(), CallFault>
     ensures does { (sure : Bool) (before : C) (st : State) (r : Run) (prefix : Option (List ℕ))
-        → IsAt (view C.Connections sure before core.old st (W.contents writer.old) prefix) r
+        → IsRunAt (view C.Connections sure before core.old st (W.contents writer.old) prefix) r
         → Went (view C.Connections sure before core.new st (W.contents writer.new) prefix) result
         (cut_from MOST_OPEN 0) r }
     ensures counts { Counts (IsErrOf result (CallFault.Stop Stop.DiskFault)) (C.failures core.old)
@@ -171,8 +171,8 @@ pub fn run_script<C: Connections, W: CountedWrite>(
     script: &[u8],
 ) -> Result<(), ScriptFault>
     ensures does { (sure : Bool) (before : C) (st : State) (r : Run) (prefix : Option (List ℕ))
-        → IsAt (view C.Connections sure before core.old st (W.contents writer.old) prefix) r
-        → Ends (view C.Connections sure before core.new st (W.contents writer.new) prefix) result
+        → IsRunAt (view C.Connections sure before core.old st (W.contents writer.old) prefix) r
+        → LinesEnd (view C.Connections sure before core.new st (W.contents writer.new) prefix) result
         (run_lines 1 0 (script_lines script.now)) r }
     ensures counts { Counts (IsErrOf result (ScriptFault.Stop Stop.DiskFault)) (C.failures core.old)
         (C.failures core.new) }

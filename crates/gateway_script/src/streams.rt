@@ -24,7 +24,7 @@ pub trait CountedRead {
         ensures within { IfOk result (λ count. count ≤ length piece.old) }
         ensures ok { IfOk result (λ count. Consumes (remaining self.old) (remaining self.new) (take count piece.new)) }
         ensures end { IfOk result (λ count. count ≡ 0 → 0 < length piece.old → IsAtEnd (remaining self.new)) }
-        ensures kept { OnErr result (Keeps (remaining self.old) (remaining self.new)) }
+        ensures unchanged { OnErr result (Keeps (remaining self.old) (remaining self.new)) }
         ensures counts { Counts (IsErr result) (refusals self.old) (refusals self.new) };
 }
 
@@ -51,7 +51,7 @@ fn read_on<R: Read>(reader: &mut R, piece: &mut [u8]) -> Result<usize, Refused>
     ensures ok { IfOk result (λ count. Consumes (R.remaining reader.old) (R.remaining reader.new)
         (take count piece.new)) }
     ensures end { IfOk result (λ count. count ≡ 0 → 0 < length piece.old → IsAtEnd (R.remaining reader.new)) }
-    ensures kept { OnErr result (Keeps (R.remaining reader.old) (R.remaining reader.new)) }
+    ensures unchanged { OnErr result (Keeps (R.remaining reader.old) (R.remaining reader.new)) }
 {
     for _ in 0..u64::MAX {
         match reader.read(piece) {
@@ -106,11 +106,11 @@ pub struct Counted<S> {
 }
 
 impl<S> Counted<S> {
-    ghost use Rattle.gateway_script.specs.Counted.{stream_of, refusals_of};
+    ghost use Rattle.gateway_script.specs.Counted.{counted_stream, refusals_of};
 
     /// No call was refused so far.
     pub fn new(stream: S) -> Self
-        ensures stream { stream_of result ≡ stream }
+        ensures stream { counted_stream result ≡ stream }
         ensures none { refusals_of result ≡ 0 }
     {
         Counted {
@@ -121,7 +121,7 @@ impl<S> Counted<S> {
 
     // Counts a call that was refused.
     fn note(&mut self, outcome: Result<usize, Refused>)
-        ensures stream { stream_of self.new ≡ stream_of self.old }
+        ensures stream { counted_stream self.new ≡ counted_stream self.old }
         ensures counts { Counts (IsErr outcome) (refusals_of self.old) (refusals_of self.new) }
     {
         if outcome.is_err() {
@@ -131,9 +131,9 @@ impl<S> Counted<S> {
 }
 
 impl<R: Read> CountedRead for Counted<R> {
-    ghost use Rattle.gateway_script.specs.Counted.{stream_of, refusals_of};
+    ghost use Rattle.gateway_script.specs.Counted.{counted_stream, refusals_of};
 
-    ghost remaining = { λ c. R.remaining (stream_of c) };
+    ghost remaining = { λ c. R.remaining (counted_stream c) };
 
     ghost refusals = { λ c. refusals_of c };
 
@@ -145,9 +145,9 @@ impl<R: Read> CountedRead for Counted<R> {
 }
 
 impl<W: Write> CountedWrite for Counted<W> {
-    ghost use Rattle.gateway_script.specs.Counted.{stream_of, refusals_of};
+    ghost use Rattle.gateway_script.specs.Counted.{counted_stream, refusals_of};
 
-    ghost contents = { λ c. W.contents (stream_of c) };
+    ghost contents = { λ c. W.contents (counted_stream c) };
 
     ghost refusals = { λ c. refusals_of c };
 

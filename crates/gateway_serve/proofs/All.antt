@@ -7,14 +7,14 @@ use Rattle.std.proofs.lemmas.List.{get_or_default, get_or_past}
 use Rattle.common.specs.declared.stop.DiskFault.{DiskFault}
 use Rattle.tus_session.specs.History.{State, Opened, Done, Refused, Marked, history, step}
 use Rattle.tus_session.specs.declared.errors.SessionError.{SessionError}
-use Rattle.tus_session.specs.Connections.{mark_of, told_done}
+use Rattle.tus_session.specs.Connections.{mark_of, outcome_of_done}
 use Rattle.tus_session.specs.declared.connections.Connections.{Ghosts}
-use Rattle.gateway_serve.specs.Conversations.{Conversation, AreTalks, begun}
+use Rattle.gateway_serve.specs.Conversations.{Conversation, AreTalks, new_conversation}
 use Rattle.gateway_serve.specs.Sockets as sockets
 use Rattle.gateway_serve.specs.Sockets.{Pairs, current_of}
 use Rattle.gateway_serve.specs.declared.sockets.Seen.{Seen}
 use Rattle.gateway_serve.specs.Served.{AllServed, AllLeft}
-use Rattle.gateway_serve.specs.Joined.{Joins, Alone, PlaceJoins, PlaceFell, GoesAt, GoesOn, OthersStay, AllJoin}
+use Rattle.gateway_serve.specs.Joined.{Joins, Alone, PlaceJoins, PlaceFell, GoesAt, StaysJoined, OthersStay, AllJoin}
 use Rattle.gateway_serve.specs.Joined.{AllFell, PlaceWaits, SamePlaces, IsNew, joint_of, nothing_yet, with_place}
 use Rattle.gateway_serve.specs.declared.places.Place.{Place}
 use Rattle.gateway_serve.specs.declared.places.Place.TheVariants.{Free, Open}
@@ -24,17 +24,17 @@ use Rattle.gateway_serve.proofs.After.{followed}
 use Rattle.gateway_serve.proofs.Steps.{opens_closed, unopened}
 use Rattle.gateway_serve.proofs.Joints.{moved}
 use Rattle.gateway_serve.proofs.Talks.{talks_here, alone_step, gave_done, gave_refused}
-use Rattle.gateway_serve.proofs.Freed.{loosely, others_stay, untold_place}
+use Rattle.gateway_serve.proofs.Freed.{loosely, others_stay, unreported_place}
 
 -- by events of another connection a place stays as it was
 module _ {S : Type 0} (sure : Bool) (st : State) (past now : List Marked) (k : ℕ)
     (talks : (cs : List Conversation) → AreTalks sure st past k cs → AreTalks sure st now k cs)
     (conns : (history st now).conns k ≡ (history st past).conns k) where
-  place_kept : (p : Place S) (ended : List Seen) → PlaceJoins sure p ended st past k → PlaceJoins sure p ended st now k
-  place_kept Free ended is = (is.0, talks is.0 is.1, is.2, conns ∙ is.3)
-  place_kept (Open l) ended is =
+  place_unchanged : (p : Place S) (ended : List Seen) → PlaceJoins sure p ended st past k → PlaceJoins sure p ended st now k
+  place_unchanged Free ended is = (is.0, talks is.0 is.1, is.2, conns ∙ is.3)
+  place_unchanged (Open l) ended is =
       moved sure ended st past k (joint_of l) (joint_of l) now is.latest is (talks (is.latest ∷ is.others) is.talks)
-      is.told is.taken is.few is.given (λ e. conns ∙ is.shut e)
+      is.disconnected is.taken is.few is.given (λ e. conns ∙ is.shut e)
 
 -- of one place that is set, and of the others
 pub set_all : {S : Type 0} (P : Place S → ℕ → Type 0) (places : List (Place S)) (n : ℕ) (p' : Place S)
@@ -56,7 +56,7 @@ module _ {S : Type 0} (sure : Bool) (places : List (Place S)) (n : ℕ) (p' : Pl
     (alone : Alone sure st n past now) (others : OthersStay n ended ended')
     (all : AllJoin sure places ended st past) where
   other_place : (k : ℕ) → (k ≡ n → ⊥) → PlaceJoins sure (get_or places k Free) (current_of k ended') st now k
-  other_place k ne = rw (others k ne) (place_kept sure st past now k (alone.talks k ne) (alone.conns k ne)
+  other_place k ne = rw (others k ne) (place_unchanged sure st past now k (alone.talks k ne) (alone.conns k ne)
       (get_or places k Free) (current_of k ended) (all k))
 
   pub all_joined : PlaceJoins sure p' (current_of n ended') st now n → AllJoin sure (set places n p') ended' st now
@@ -69,17 +69,17 @@ module _ {S : Type 0} (sure : Bool) (places : List (Place S)) (n : ℕ) (p' : Pl
       (λ k ne. falls sure (get_or places k Free) (current_of k ended') st now k (other_place k ne))
 
 -- what was done at one place, among all
-pub among_all : {C S T : Type 0} (c : Ghosts C) (old mid new : C) (told : Result T DiskFault)
+pub among_all : {C S T : Type 0} (c : Ghosts C) (old mid new : C) (reported : Result T DiskFault)
     (first places : List (Place S)) (n : ℕ) (d p' : Place S) (was ended ended' : List Seen)
-    → GoesOn c old mid (Ok (tt {0})) first places was ended
-    → GoesAt c mid new told (get_or places n d) p' ended ended' n → OthersStay n ended ended' → n < length places
-    → GoesOn c old new told first (set places n p') was ended'
-among_all c old mid new told first places n d p' was ended ended' on goes others inside =
+    → StaysJoined c old mid (Ok (tt {0})) first places was ended
+    → GoesAt c mid new reported (get_or places n d) p' ended ended' n → OthersStay n ended ended' → n < length places
+    → StaysJoined c old new reported first (set places n p') was ended'
+among_all c old mid new reported first places n d p' was ended ended' on goes others inside =
     λ sure before st past went joins.
     let s = on sure before st past went joins in
     followed c sure before new st (λ now. Alone sure st n s.0 now × PlaceJoins sure p' (current_of n ended') st now n)
     (λ now. Alone sure st n s.0 now × PlaceFell sure p' (current_of n ended') st now n)
-    (AllJoin sure (set places n p') ended' st) (AllFell sure (set places n p') ended' st) told
+    (AllJoin sure (set places n p') ended' st) (AllFell sure (set places n p') ended' st) reported
     (goes sure before st s.0 s.1 (rw (get_or_default places n Free d inside) at (s.2 n)))
     (λ now x. all_joined sure places n p' ended ended' st s.0 now inside x.0 others s.2 x.1)
     (λ now x. all_fallen sure places n p' ended ended' st s.0 now inside x.0 others s.2 x.1)
@@ -123,7 +123,7 @@ pub one_more_left : {S : Type 0} (sure : Bool) (i : ℕ) (places : List (Place S
     → HalfLeft sure i places ended st past → HalfLeft sure (i + 1) (set places i p') ended' st past
 one_more_left {S} sure i places d p' ended ended' st past inside with few all = λ k. elim (cases_eq k i) [
   | inl e ↦ (
-    λ lt. rw (e, with) (untold_place sure ended st past i (get_or places i d) few
+    λ lt. rw (e, with) (unreported_place sure ended st past i (get_or places i d) few
         (rw (get_or_default places i Free d inside) at ((all i).1 (omega arith)))),
     λ le. absurd (omega (arith, le, e)),
   )
@@ -159,7 +159,7 @@ same_join {S} sure old new ended ended' st past same is all = λ n. rw (is, same
 -- A CONNECTION IS OPENED, in a place that is free
 module _ {S : Type 0} (sure : Bool) (places : List (Place S)) (n : ℕ) (ended : List Seen) (st : State)
     (past : List Marked) (answer : Result (Unit {0}) SessionError)
-    (outcome : (step (history st past) (Opened n) (mark_of answer)).outcome ≡ told_done answer)
+    (outcome : (step (history st past) (Opened n) (mark_of answer)).outcome ≡ outcome_of_done answer)
     (all : AllJoin sure places ended st past) (free : get_or places n Free ≡ Free) where
   at_free : PlaceJoins {S = S} sure Free (current_of n ended) st past n
   at_free = rw free at (all n)
@@ -168,11 +168,11 @@ module _ {S : Type 0} (sure : Bool) (places : List (Place S)) (n : ℕ) (ended :
       → Joins sure (joint_of l) (current_of n ended) st ((Opened n, mark_of answer) ∷ past) n
   begins l new done =
       rw new (record {
-        latest = begun;
+        latest = new_conversation;
         others = at_free.0;
         talks = talks_here sure st past (Opened n) (mark_of answer) at_free.0 Done at_free.1
             (gave_done sure _ _ done);
-        told = refl;
+        disconnected = refl;
         taken = refl;
         few = omega arith;
         given = refl;
@@ -186,27 +186,27 @@ module _ {S : Type 0} (sure : Bool) (places : List (Place S)) (n : ℕ) (ended :
   all_opened p' inside new x ok =
       all_joined sure places n p' ended ended st past ((Opened n, mark_of answer) ∷ past) inside
       (alone_step sure st past (Opened n) (mark_of answer)) (λ k ne. refl) all
-      (rw new.1 (begins new.0 new.2 (outcome ∙ ap told_done ok)))
+      (rw new.1 (begins new.0 new.2 (outcome ∙ ap outcome_of_done ok)))
 
   -- or it is refused
   pub all_unopened : (f : SessionError) → answer ≡ Err f
       → AllJoin sure places ended st ((Opened n, mark_of answer) ∷ past)
   all_unopened f refused =
       let now : List Marked = (Opened n, mark_of answer) ∷ past in
-      let told : (step (history st past) (Opened n) (mark_of answer)).outcome ≡ Refused f =
-      outcome ∙ ap told_done refused in
+      let reported : (step (history st past) (Opened n) (mark_of answer)).outcome ≡ Refused f =
+      outcome ∙ ap outcome_of_done refused in
       let here : PlaceJoins {S = S} sure Free (current_of n ended) st now n = (
         at_free.0,
         talks_here sure st past (Opened n) (mark_of answer) at_free.0 (Refused f) at_free.1
-            (gave_refused sure _ _ f told),
+            (gave_refused sure _ _ f reported),
         at_free.2,
         unopened (history st past) n (mark_of answer)
-            (λ done. let x : Refused f ≡ Done = sym told ∙ done in absurd (cc)) ∙ at_free.3,
+            (λ done. let x : Refused f ≡ Done = sym reported ∙ done in absurd (cc)) ∙ at_free.3,
       ) in
       let alone = alone_step sure st past (Opened n) (mark_of answer) in
       λ k. elim (cases_eq k n) [
         | inl e ↦ rw (e, free) here
-        | inr ne ↦ place_kept sure st past now k (alone.talks k ne) (alone.conns k ne) (get_or places k Free)
+        | inr ne ↦ place_unchanged sure st past now k (alone.talks k ne) (alone.conns k ne) (get_or places k Free)
             (current_of k ended) (all k)
       ]
 

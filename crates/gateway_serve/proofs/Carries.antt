@@ -4,10 +4,10 @@ use Rattle.std.proofs.lemmas.List.{get_or_default}
 use Rattle.std.specs.Io.KnownBytes.{Consumes, Appends, Keeps}
 use Rattle.gateway_serve.specs.declared.sockets.Seen.{Seen}
 use Rattle.std.specs.declared.io.ErrorKind.{ErrorKind}
-use Rattle.gateway_serve.specs.Bytes.{came_of, went_of, stream_of, latest_of}
+use Rattle.gateway_serve.specs.Bytes.{bytes_come, went_of, stream_of, latest_of}
 use Rattle.gateway_serve.specs.Joined.{Joint, joint_of, nothing_yet}
 use Rattle.gateway_serve.specs.Streams.{Carried, untouched, read, not_read, written, not_written}
-use Rattle.gateway_serve.specs.Streams.{IsOf, StaysOf, PlaceHas, PlaceKeeps, AllHave, AllKeep}
+use Rattle.gateway_serve.specs.Streams.{IsOf, StaysOf, PlaceHas, PlacePreserves, AllHave, AllPreserve}
 use Rattle.gateway_serve.specs.declared.sockets.Latest.{Latest}
 use Rattle.gateway_serve.specs.declared.sockets.Latest.TheVariants as Was
 use Rattle.gateway_serve.specs.declared.sockets.Socket.{Socket}
@@ -23,46 +23,46 @@ module _ {S : Type 0} (remaining contents : S → Option (List ℕ)) where
       → Carried remaining contents accepted s came' went' last'
   carried_by accepted s came came' went went' last last' e f h k = rw (e, f, h) k
 
-  pub read_stays : (old new : Socket S) (bytes : List ℕ) (n : ℕ) → came_of new ≡ came_of old ++ bytes
+  pub read_stays : (old new : Socket S) (bytes : List ℕ) (n : ℕ) → bytes_come new ≡ bytes_come old ++ bytes
       → went_of new ≡ went_of old → latest_of new ≡ Was.Read n → length bytes ≡ n
       → Consumes (remaining (stream_of old)) (remaining (stream_of new)) bytes
       → StaysOf remaining contents old new
   read_stays old new bytes n e f last count does = λ accepted k.
-      carried_by accepted (stream_of new) (came_of old ++ bytes) (came_of new) (went_of old) (went_of new)
+      carried_by accepted (stream_of new) (bytes_come old ++ bytes) (bytes_come new) (went_of old) (went_of new)
       (Was.Read (length bytes)) (latest_of new) e f (last ∙ ap Was.Read (sym count))
-      (read (stream_of old) (stream_of new) (came_of old) (went_of old) bytes (latest_of old) k does)
+      (read (stream_of old) (stream_of new) (bytes_come old) (went_of old) bytes (latest_of old) k does)
 
-  pub not_read_stays : (old new : Socket S) (kind : ErrorKind) → came_of new ≡ came_of old → went_of new ≡ went_of old
+  pub not_read_stays : (old new : Socket S) (kind : ErrorKind) → bytes_come new ≡ bytes_come old → went_of new ≡ went_of old
       → latest_of new ≡ Was.Failed kind → Keeps (remaining (stream_of old)) (remaining (stream_of new))
       → StaysOf remaining contents old new
   not_read_stays old new kind e f last does = λ accepted k.
-      carried_by accepted (stream_of new) (came_of old) (came_of new) (went_of old) (went_of new) (Was.Failed kind)
+      carried_by accepted (stream_of new) (bytes_come old) (bytes_come new) (went_of old) (went_of new) (Was.Failed kind)
       (latest_of new) e f last
-      (not_read (stream_of old) (stream_of new) (came_of old) (went_of old) (latest_of old) kind k does)
+      (not_read (stream_of old) (stream_of new) (bytes_come old) (went_of old) (latest_of old) kind k does)
 
-  pub written_stays : (old new : Socket S) (bytes : List ℕ) (n : ℕ) → came_of new ≡ came_of old
+  pub written_stays : (old new : Socket S) (bytes : List ℕ) (n : ℕ) → bytes_come new ≡ bytes_come old
       → went_of new ≡ went_of old ++ bytes → latest_of new ≡ Was.Written n → length bytes ≡ n
       → Appends (contents (stream_of old)) (contents (stream_of new)) bytes
       → StaysOf remaining contents old new
   written_stays old new bytes n e f last count does = λ accepted k.
-      carried_by accepted (stream_of new) (came_of old) (came_of new) (went_of old ++ bytes) (went_of new)
+      carried_by accepted (stream_of new) (bytes_come old) (bytes_come new) (went_of old ++ bytes) (went_of new)
       (Was.Written (length bytes)) (latest_of new) e f (last ∙ ap Was.Written (sym count))
-      (written (stream_of old) (stream_of new) (came_of old) (went_of old) bytes (latest_of old) k does)
+      (written (stream_of old) (stream_of new) (bytes_come old) (went_of old) bytes (latest_of old) k does)
 
-  pub not_written_stays : (old new : Socket S) (kind : ErrorKind) → came_of new ≡ came_of old
+  pub not_written_stays : (old new : Socket S) (kind : ErrorKind) → bytes_come new ≡ bytes_come old
       → went_of new ≡ went_of old → latest_of new ≡ Was.Failed kind
       → Keeps (contents (stream_of old)) (contents (stream_of new))
       → StaysOf remaining contents old new
   not_written_stays old new kind e f last does = λ accepted k.
-      carried_by accepted (stream_of new) (came_of old) (came_of new) (went_of old) (went_of new) (Was.Failed kind)
+      carried_by accepted (stream_of new) (bytes_come old) (bytes_come new) (went_of old) (went_of new) (Was.Failed kind)
       (latest_of new) e f last
-      (not_written (stream_of old) (stream_of new) (came_of old) (went_of old) (latest_of old) kind k does)
+      (not_written (stream_of old) (stream_of new) (bytes_come old) (went_of old) (latest_of old) kind k does)
 
   -- A PLACE
   pub new_is_of : (accepted : S) (l : Link S) → stream_of l.socket ≡ accepted → latest_of l.socket ≡ Was.None
       → joint_of l ≡ nothing_yet → IsOf remaining contents accepted l.socket
   new_is_of accepted l is last new =
-      carried_by accepted (stream_of l.socket) [] (came_of l.socket) [] (went_of l.socket) Was.None
+      carried_by accepted (stream_of l.socket) [] (bytes_come l.socket) [] (went_of l.socket) Was.None
       (latest_of l.socket) (ap (λ (j : Joint). j.came) new) (ap (λ (j : Joint). j.went) new) last
       (rw is untouched)
 
@@ -72,11 +72,11 @@ module _ {S : Type 0} (remaining contents : S → Option (List ℕ)) where
   set_has places n p' inside here all =
       set_all (λ p k. PlaceHas remaining contents p) places n p' inside here (λ k ne. all k)
 
-  pub among_keep : (first places : List (Place S)) (n : ℕ) (d p' : Place S) (was ended ended' : List Seen)
-      → AllKeep remaining contents first places was ended → n < length places
-      → PlaceKeeps remaining contents (get_or places n d) p' ended ended'
-      → AllKeep remaining contents first (set places n p') was ended'
-  among_keep first places n d p' was ended ended' keep inside keeps = λ have had.
+  pub among_preserve : (first places : List (Place S)) (n : ℕ) (d p' : Place S) (was ended ended' : List Seen)
+      → AllPreserve remaining contents first places was ended → n < length places
+      → PlacePreserves remaining contents (get_or places n d) p' ended ended'
+      → AllPreserve remaining contents first (set places n p') was ended'
+  among_preserve first places n d p' was ended ended' keep inside after_is = λ have had.
       let s = keep have had in
-      let now = keeps (rw (get_or_default places n Free d inside) at (s.0 n)) s.1 in
+      let now = after_is (rw (get_or_default places n Free d inside) at (s.0 n)) s.1 in
       (set_has places n p' inside now.0 s.0, now.1)

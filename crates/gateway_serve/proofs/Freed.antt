@@ -10,7 +10,7 @@ use Rattle.common.specs.declared.stop.Stop.TheVariants.{DiskFault}
 use Rattle.tus_session.specs.Connections.{mark_of}
 use Rattle.gateway_serve.specs.Conversations.{Conversation, AreTalks, hung_up}
 use Rattle.gateway_serve.specs.Sockets as sockets
-use Rattle.gateway_serve.specs.Sockets.{IsQuietly, IsWhole, Pairs, current_of}
+use Rattle.gateway_serve.specs.Sockets.{IsQuietly, IsWholeReply, Pairs, current_of}
 use Rattle.common.specs.Traces.{trace_of}
 use Rattle.gateway_serve.specs.declared.sockets.Seen.{Seen}
 use Rattle.gateway_serve.specs.Joined.{Joint, Joins, PlaceJoins, PlaceFell, OthersStay, MayEnd, joint_of}
@@ -44,7 +44,7 @@ others_stay n reason (Open l) ended = others_current n (current n l.socket reaso
 
 -- what is quietly ended has written all
 abbrev IfWhole : Reason → Joint → Type 0
-IfWhole reason j = IsWhole reason → j.output ≡ []
+IfWhole reason j = IsWholeReply reason → j.output ≡ []
 
 if_whole : {S : Type 0} (reason : Reason) (l : Link S) → MayEnd reason (Open l) → IfWhole reason (joint_of l)
 if_whole Why.Closed l may = absurd may
@@ -69,19 +69,19 @@ module _ (sure : Bool) (ended : List Seen) (st : State) (past : List Marked) (n 
       (c : Conversation) → c.took ≡ is.latest.took → c.gave ≡ is.latest.gave
       → (reason ≡ Why.Closed → c.told ≡ false) → IfWhole reason j → FewWait j.output
       → sockets.Fits (current_at n j latest reason) c
-  fits latest reason j is c took gave untold whole few = record {
+  fits latest reason j is c took gave connected whole few = record {
     taken = (j.input, rw took is.taken, is.few);
     written = (j.output, rw gave (sym is.given), few);
     emptied = λ w. rw gave (all_went j is (whole w));
-    untold = untold;
+    connected = connected;
   }
 
   -- the session was told that its client is gone
-  told_pairs : (latest : Latest) (reason : Reason) (m : Mark) (j : Joint) → IfWhole reason j
+  reported_pairs : (latest : Latest) (reason : Reason) (m : Mark) (j : Joint) → IfWhole reason j
       → (reason ≡ Why.Closed → ⊥) → FewWait j.output → Joins sure j (current_of n ended) st past n
       → (cs : List Conversation) × AreTalks sure st ((Ended n, m) ∷ past) n cs
       × Pairs sockets.Served (current_of n (current_at n j latest reason ∷ ended)) cs
-  told_pairs latest reason m j whole unclosed few is =
+  reported_pairs latest reason m j whole unclosed few is =
       let s = current_at n j latest reason in
       let served : sockets.Served s (hung_up is.latest) =
       record {
@@ -94,21 +94,21 @@ module _ (sure : Bool) (ended : List Seen) (st : State) (past : List Marked) (n 
         rw (first_current n s ended refl) (served, is.pairs),
       )
 
-  told_none : (answer : Result (Unit {0}) SessionError) → (answer ≡ Err (Stop DiskFault) → ⊥)
+  reported_none : (answer : Result (Unit {0}) SessionError) → (answer ≡ Err (Stop DiskFault) → ⊥)
       → (history st ((Ended n, mark_of answer) ∷ past)).conns n ≡ None
-  told_none answer ok = grind (arith, ended_shuts, ended_lost)
+  reported_none answer ok = grind (arith, ended_shuts, ended_lost)
 
   -- THE PLACE AFTER, as it is then
-  pub told_place : {S : Type 0} (reason : Reason) (p p' : Place S) (ended' : List Seen)
+  pub reported_place : {S : Type 0} (reason : Reason) (p p' : Place S) (ended' : List Seen)
       (answer : Result (Unit {0}) SessionError)
       → p' ≡ Free → ended' ≡ with_place n reason p ended → MayEnd reason p → PlaceWaits p → (p ≡ Free → ⊥)
       → (answer ≡ Err (Stop DiskFault) → ⊥) → PlaceJoins sure p (current_of n ended) st past n
       → PlaceJoins sure p' (current_of n ended') st ((Ended n, mark_of answer) ∷ past) n
-  told_place reason Free p' ended' answer free with may few used ok is = absurd (used refl)
-  told_place reason (Open l) p' ended' answer free with may few used ok is =
-      let all = told_pairs l.socket.latest reason (mark_of answer) (joint_of l) (if_whole reason l may)
+  reported_place reason Free p' ended' answer free with may few used ok is = absurd (used refl)
+  reported_place reason (Open l) p' ended' answer free with may few used ok is =
+      let all = reported_pairs l.socket.latest reason (mark_of answer) (joint_of l) (if_whole reason l may)
       (not_closed reason (Open l) may) few is in
-      rw (free, with) (all.0, all.1, all.2, told_none answer ok ∙ sym is.apart)
+      rw (free, with) (all.0, all.1, all.2, reported_none answer ok ∙ sym is.apart)
 
   pub fallen_place : {S : Type 0} (reason : Reason) (p p' : Place S) (ended' : List Seen) (m : Mark) → p' ≡ Free
       → ended' ≡ with_place n reason p ended → MayEnd reason p → PlaceWaits p → (p ≡ Free → ⊥)
@@ -116,19 +116,19 @@ module _ (sure : Bool) (ended : List Seen) (st : State) (past : List Marked) (n 
       → PlaceFell sure p' (current_of n ended') st ((Ended n, m) ∷ past) n
   fallen_place reason Free p' ended' m free with may few used is = absurd (used refl)
   fallen_place reason (Open l) p' ended' m free with may few used is =
-      rw (free, with) (told_pairs l.socket.latest reason m (joint_of l) (if_whole reason l may)
+      rw (free, with) (reported_pairs l.socket.latest reason m (joint_of l) (if_whole reason l may)
       (not_closed reason (Open l) may) few is)
 
   -- WITHOUT A WORD to the session
-  pub untold_place : {S : Type 0} (p : Place S) → PlaceWaits p → PlaceFell sure p (current_of n ended) st past n
+  pub unreported_place : {S : Type 0} (p : Place S) → PlaceWaits p → PlaceFell sure p (current_of n ended) st past n
       → (cs : List Conversation) × AreTalks sure st past n cs
       × Pairs sockets.Fits (current_of n (with_place n Why.Over p ended)) cs
-  untold_place Free few is = (is.0, is.1, loosely (current_of n ended) is.0 is.2)
-  untold_place (Open l) few is = (
+  unreported_place Free few is = (is.0, is.1, loosely (current_of n ended) is.0 is.2)
+  unreported_place (Open l) few is = (
     is.latest ∷ is.others,
     is.talks,
     rw (first_current n (current n l.socket Why.Over) ended refl) (
-      fits l.socket.latest Why.Over (joint_of l) is is.latest refl refl (λ e. is.told) (λ w. absurd w) few,
+      fits l.socket.latest Why.Over (joint_of l) is is.latest refl refl (λ e. is.disconnected) (λ w. absurd w) few,
       loosely (current_of n ended) is.others is.pairs,
     ),
   )

@@ -10,8 +10,8 @@ use Rattle.tus_session.specs.declared.errors.SessionError.{SessionError}
 use Rattle.tus_session.specs.declared.errors.SessionError.TheVariants.{Stop, TooMany, Closed, Down}
 use Rattle.common.specs.declared.stop.Stop.TheVariants.{NoMemory, DiskFault}
 use Rattle.tus_action.specs.Serves.{Appends}
-use Rattle.tus_session.specs.Connections.{mark_of, told, Adds}
-use Rattle.gateway_serve.specs.Conversations.{Conversation, AreTalks, GaveAs, longer}
+use Rattle.tus_session.specs.Connections.{mark_of, outcome_of, Adds}
+use Rattle.gateway_serve.specs.Conversations.{Conversation, AreTalks, GaveAs, longer_conversation}
 use Rattle.gateway_serve.specs.declared.buffers.TheConstants.{PIECE}
 use Rattle.gateway_serve.specs.declared.sockets.Seen.{Seen}
 use Rattle.gateway_serve.specs.Joined.{Joint, Joins, is_last, stage_by, stage_after}
@@ -37,14 +37,14 @@ gave_as sure a bytes given o text is appends = rw is (given, appends, refl)
 module _ (sure : Bool) (ended : List Seen) (st : State) (past : List Marked) (n : ℕ) where
   -- the latest conversation went on, and those before are as they were
   pub moved : (j j' : Joint) (past' : List Marked) (latest : Conversation) (is : Joins sure j ended st past n)
-      → AreTalks sure st past' n (latest ∷ is.others) → latest.told ≡ false → j'.came ≡ latest.took ++ j'.input
+      → AreTalks sure st past' n (latest ∷ is.others) → latest.disconnected ≡ false → j'.came ≡ latest.took ++ j'.input
       → length j'.input ≤ PIECE → j'.went ++ j'.output ≡ latest.gave
       → (j'.closed ≡ true → (history st past').conns n ≡ None) → Joins sure j' ended st past' n
-  moved j j' past' latest is talks told taken few given shut = record {
+  moved j j' past' latest is talks disconnected taken few given shut = record {
     latest = latest;
     others = is.others;
     talks = talks;
-    told = told;
+    disconnected = disconnected;
     taken = taken;
     few = few;
     given = given;
@@ -65,11 +65,11 @@ module _ (sure : Bool) (ended : List Seen) (st : State) (past : List Marked) (n 
   -- the conversation goes on by so many bytes
   longer_joins : (e : Event) (m : Mark) (j : Joint) (took gave input output : List ℕ) (closed : Bool)
       (is : Joins sure j ended st past n)
-      → AreTalks sure st ((e, m) ∷ past) n (longer is.latest took gave ∷ is.others) → j.input ≡ took ++ input
+      → AreTalks sure st ((e, m) ∷ past) n (longer_conversation is.latest took gave ∷ is.others) → j.input ≡ took ++ input
       → output ≡ j.output ++ gave → (closed ≡ true → (history st ((e, m) ∷ past)).conns n ≡ None)
       → Joins sure (with_input j input output closed) ended st ((e, m) ∷ past) n
   longer_joins e m j took gave input output closed is talks taken given shut =
-      moved j (with_input j input output closed) ((e, m) ∷ past) (longer is.latest took gave) is talks is.told
+      moved j (with_input j input output closed) ((e, m) ∷ past) (longer_conversation is.latest took gave) is talks is.disconnected
       (is.taken ∙ (ap (λ l. is.latest.took ++ l) taken ∙ sym (append_assoc is.latest.took took input)))
       (shorter took input j.input taken is.few)
       (ap (λ l. j.went ++ l) given ∙ (sym (append_assoc j.went j.output gave) ∙ ap (λ l. l ++ gave) is.given)) shut
@@ -84,7 +84,7 @@ module _ (sure : Bool) (ended : List Seen) (st : State) (past : List Marked) (n 
       → Joins sure (with_input j j.input output closed) ended st ((e, m) ∷ past) n
   refused_joins e m f j output closed is talks same adds shut =
       moved j (with_input j j.input output closed) ((e, m) ∷ past) is.latest is (talks (gave_refused sure _ _ f same))
-      is.told is.taken is.few (ap (λ l. j.went ++ l) adds ∙ is.given) shut
+      is.disconnected is.taken is.few (ap (λ l. j.went ++ l) adds ∙ is.given) shut
 
   -- the connection is closed after a refusal
   shut_after : (e : Event) (f : SessionError) → (f ≡ Stop DiskFault → ⊥)
@@ -101,7 +101,7 @@ module _ (sure : Bool) (ended : List Seen) (st : State) (past : List Marked) (n 
   -- bytes came
   came_joins : (answer : Result Answer SessionError) (bytes : List ℕ) (j : Joint) (output : List ℕ)
       → (answer ≡ Err (Stop DiskFault) → ⊥)
-      → (step (history st past) (Came n j.input) (mark_of answer)).outcome ≡ told bytes answer
+      → (step (history st past) (Came n j.input) (mark_of answer)).outcome ≡ outcome_of bytes answer
       → Adds sure answer bytes (step (history st past) (Came n j.input) (mark_of answer)).text j.output output
       → Joins sure j ended st past n
       → Joins sure (with_input j (drop (taken_after answer) j.input) output (is_last (stage_after answer))) ended st
@@ -122,7 +122,7 @@ module _ (sure : Bool) (ended : List Seen) (st : State) (past : List Marked) (n 
   -- the next piece of a text was asked for
   more_joins : (answer : Result Answer SessionError) (bytes : List ℕ) (j : Joint) (output : List ℕ)
       → (answer ≡ Err (Stop DiskFault) → ⊥)
-      → (step (history st past) (More n) (mark_of answer)).outcome ≡ told bytes answer
+      → (step (history st past) (More n) (mark_of answer)).outcome ≡ outcome_of bytes answer
       → Adds sure answer bytes (step (history st past) (More n) (mark_of answer)).text j.output output
       → Joins sure j ended st past n
       → Joins sure (with_input j j.input output (is_last (stage_after answer))) ended st
@@ -142,7 +142,7 @@ module _ (sure : Bool) (ended : List Seen) (st : State) (past : List Marked) (n 
   -- THE LINK AFTER AN ANSWER, at the stage that follows it. What was given is what waits
   pub came_link : (answer : Result Answer SessionError) (bytes : List ℕ) (j : Joint) (piece input output : List ℕ)
       (stage : Stage) (taken : ℕ) → (answer ≡ Err (Stop DiskFault) → ⊥)
-      → piece ≡ j.input → (step (history st past) (Came n piece) (mark_of answer)).outcome ≡ told bytes answer
+      → piece ≡ j.input → (step (history st past) (Came n piece) (mark_of answer)).outcome ≡ outcome_of bytes answer
       → Adds sure answer bytes (step (history st past) (Came n piece) (mark_of answer)).text j.output output
       → stage ≡ stage_after answer → taken ≡ taken_after answer → input ≡ drop taken j.input
       → Joins sure j ended st past n
@@ -153,7 +153,7 @@ module _ (sure : Bool) (ended : List Seen) (st : State) (past : List Marked) (n 
   -- the disk failed
   pub came_down : (answer : Result Answer SessionError) (bytes : List ℕ) (j : Joint) (piece output : List ℕ)
       → answer ≡ Err (Stop DiskFault) → piece ≡ j.input
-      → (step (history st past) (Came n piece) (mark_of answer)).outcome ≡ told bytes answer
+      → (step (history st past) (Came n piece) (mark_of answer)).outcome ≡ outcome_of bytes answer
       → Adds sure answer bytes (step (history st past) (Came n piece) (mark_of answer)).text j.output output
       → Joins sure j ended st past n
       → Joins sure (with_input j j.input output j.closed) ended st ((Came n piece, mark_of answer) ∷ past) n
@@ -165,7 +165,7 @@ module _ (sure : Bool) (ended : List Seen) (st : State) (past : List Marked) (n 
 
   pub more_link : (answer : Result Answer SessionError) (bytes : List ℕ) (j : Joint) (output : List ℕ) (stage : Stage)
       → (answer ≡ Err (Stop DiskFault) → ⊥)
-      → (step (history st past) (More n) (mark_of answer)).outcome ≡ told bytes answer
+      → (step (history st past) (More n) (mark_of answer)).outcome ≡ outcome_of bytes answer
       → Adds sure answer bytes (step (history st past) (More n) (mark_of answer)).text j.output output
       → stage ≡ stage_after answer → Joins sure j ended st past n
       → Joins sure (with_input j j.input output (is_last stage)) ended st ((More n, mark_of answer) ∷ past) n
@@ -173,7 +173,7 @@ module _ (sure : Bool) (ended : List Seen) (st : State) (past : List Marked) (n 
 
   pub more_fell : (answer : Result Answer SessionError) (bytes : List ℕ) (j : Joint) (output : List ℕ)
       → answer ≡ Err (Stop DiskFault)
-      → (step (history st past) (More n) (mark_of answer)).outcome ≡ told bytes answer
+      → (step (history st past) (More n) (mark_of answer)).outcome ≡ outcome_of bytes answer
       → Adds sure answer bytes (step (history st past) (More n) (mark_of answer)).text j.output output
       → Joins sure j ended st past n
       → Joins sure (with_input j j.input output j.closed) ended st ((More n, mark_of answer) ∷ past) n

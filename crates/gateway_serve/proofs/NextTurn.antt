@@ -1,14 +1,14 @@
 -- What becomes of clients, turn by turn.
 use Rattle.std.proofs.Common.{◌≡◌, ◌<◌, ◌≤◌, ℕ, ◌+◌, ◌-◌, ◌^◌, List, [], ◌∷◌, length, Bool, true, false}
 use Rattle.std.proofs.Common.{refl, ap, ◌∙◌, arith}
-use Rattle.gateway_serve.specs.Acceptors.{LetsIn, LetsInBy, given, one_if}
+use Rattle.gateway_serve.specs.Acceptors.{LetsIn, LetsInBy, count_given, one_if}
 use Rattle.gateway_serve.specs.declared.doors.Clients.{Clients}
 use Rattle.gateway_serve.specs.declared.doors.Door.{Door}
 
 -- before the first
 pub none_asked : (before : List Bool) (passes : ℕ) → passes ≡ 0
     → LetsIn before before 0 (record { opened = 0; refused = 0; waits = 0 }) false passes
-unfolding given
+unfolding count_given
 none_asked before passes none = record {
   since = [];
   asked = refl;
@@ -19,20 +19,20 @@ none_asked before passes none = record {
 }
 
 -- the listener was asked, and none waited
-given_one : (gave : Bool) (since : List Bool) (n : ℕ) → given since ≡ n → given (gave ∷ since) ≡ n + one_if gave
-unfolding given
+given_one : (gave : Bool) (since : List Bool) (n : ℕ) → count_given since ≡ n → count_given (gave ∷ since) ≡ n + one_if gave
+unfolding count_given
 given_one gave since n e = grind arith
 
-none_given : (gave : Bool) (since : List Bool) (waits : ℕ) → (given since ≡ 0 → waits ≡ 0)
-    → given (gave ∷ since) ≡ 0 → waits ≡ 0
-unfolding given
+none_given : (gave : Bool) (since : List Bool) (waits : ℕ) → (count_given since ≡ 0 → waits ≡ 0)
+    → count_given (gave ∷ since) ≡ 0 → waits ≡ 0
+unfolding count_given
 none_given gave since waits none e = grind arith
 
 pub asked_one : (before answers answers' : List Bool) (turns : ℕ) (clients : Clients) (waits waits' gave : Bool)
     (passes passes' : ℕ) → answers' ≡ gave ∷ answers → waits ≡ false → waits' ≡ gave → passes' ≤ 31
     → LetsIn before answers turns clients waits passes → LetsIn before answers' (turns + 1) clients waits' passes'
 asked_one before answers answers' turns clients waits waits' gave passes passes' e out is few l =
-    let all : given l.since ≡ clients.opened + clients.refused + one_if false =
+    let all : count_given l.since ≡ clients.opened + clients.refused + one_if false =
     l.each ∙ ap (λ b. clients.opened + clients.refused + one_if b) out in
     record {
       since = gave ∷ l.since;
@@ -44,8 +44,8 @@ asked_one before answers answers' turns clients waits waits' gave passes passes'
     }
 
 -- each answer gave one client at most
-given_few : (since : List Bool) → given since ≤ length since
-unfolding given
+given_few : (since : List Bool) → count_given since ≤ length since
+unfolding count_given
 given_few [] = omega arith
 given_few (true ∷ since) = omega (arith, given_few since)
 given_few (false ∷ since) = omega (arith, given_few since)

@@ -18,9 +18,9 @@ passes_of p = p.left
 abbrev pub one_if : Bool → ℕ
 one_if b = if b then 1 else 0
 
-unfoldable pub given : List Bool → ℕ
-given [] = 0
-given (gave ∷ answers) = one_if gave + given answers
+unfoldable pub count_given : List Bool → ℕ
+count_given [] = 0
+count_given (gave ∷ answers) = one_if gave + count_given answers
 
 -- WHAT BECOMES OF CLIENTS in so many turns, of a listener that had answered this before: each that it gave has a
 -- connection, or was refused one, or waits for a place. It is asked in at least every 32nd turn, but for those in which
@@ -29,10 +29,10 @@ pub record LetsIn (before answers : List Bool) (turns : ℕ) (clients : Clients)
   where
     pub since : List Bool
     pub asked : answers ≡ since ++ before
-    pub each : given since ≡ clients.opened + clients.refused + one_if waits
+    pub each : count_given since ≡ clients.opened + clients.refused + one_if waits
     pub most : length since + clients.waits ≤ turns
     pub often : turns + passes ≤ 32 * length since + clients.waits
-    pub none : given since ≡ 0 → clients.waits ≡ 0
+    pub none : count_given since ≡ 0 → clients.waits ≡ 0
 
 abbrev pub LetsInBy : {S : Type 0} → List Bool → List Bool → ℕ → Door S → Type 0
 LetsInBy before answers turns d = LetsIn before answers turns d.clients (is_some d.waiting) (passes_of d.pace)

@@ -5,8 +5,8 @@ use Rattle.gateway_serve.specs.declared.sockets.Socket.{Socket}
 use Rattle.gateway_serve.specs.declared.sockets.Latest.{Latest}
 use Rattle.gateway_serve.specs.declared.reasons.Reason.{Reason}
 
-abbrev pub came_of : {S : Type 0} → Socket S → List ℕ
-came_of s = s.came.items
+abbrev pub bytes_come : {S : Type 0} → Socket S → List ℕ
+bytes_come s = s.came.items
 
 abbrev pub went_of : {S : Type 0} → Socket S → List ℕ
 went_of s = s.went.items

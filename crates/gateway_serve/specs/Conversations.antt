@@ -9,16 +9,16 @@ use Rattle.tus_session.specs.History.{history, conn_in}
 pub record Conversation : Type 0 where
   pub took : List ℕ
   pub gave : List ℕ
-  pub told : Bool
+  pub disconnected : Bool
 
-abbrev pub begun : Conversation
-begun = record { took = []; gave = []; told = false }
+abbrev pub new_conversation : Conversation
+new_conversation = record { took = []; gave = []; disconnected = false }
 
-abbrev pub longer : Conversation → List ℕ → List ℕ → Conversation
-longer c took gave = record { took = c.took ++ took; gave = c.gave ++ gave; told = c.told }
+abbrev pub longer_conversation : Conversation → List ℕ → List ℕ → Conversation
+longer_conversation c took gave = record { took = c.took ++ took; gave = c.gave ++ gave; disconnected = c.told }
 
 abbrev pub hung_up : Conversation → Conversation
-hung_up c = record { took = c.took; gave = c.gave; told = true }
+hung_up c = record { took = c.took; gave = c.gave; disconnected = true }
 
 abbrev pub latest : (Conversation → Conversation) → List Conversation → List Conversation
 latest f [] = []
@@ -26,9 +26,9 @@ latest f (c ∷ cs) = f c ∷ cs
 
 -- what an event and its outcome make of the conversations of its connection
 abbrev pub goes_on : Event → Outcome → List Conversation → List Conversation
-goes_on (Opened n) Done cs = begun ∷ cs
-goes_on (Came n piece) (Gave bytes taken closes more) cs = latest (λ c. longer c (take taken piece) bytes) cs
-goes_on (More n) (Gave bytes taken closes more) cs = latest (λ c. longer c [] bytes) cs
+goes_on (Opened n) Done cs = new_conversation ∷ cs
+goes_on (Came n piece) (Gave bytes taken closes more) cs = latest (λ c. longer_conversation c (take taken piece) bytes) cs
+goes_on (More n) (Gave bytes taken closes more) cs = latest (λ c. longer_conversation c [] bytes) cs
 goes_on (Ended n) outcome cs = latest hung_up cs
 goes_on e outcome cs = cs
 

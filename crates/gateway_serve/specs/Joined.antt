@@ -10,9 +10,9 @@ use Rattle.gateway_serve.specs.Conversations.{Conversation, AreTalks}
 use Rattle.gateway_serve.specs.Sockets.{current_of, IsQuietly, Served, Pairs}
 use Rattle.gateway_serve.specs.declared.buffers.TheConstants.{PIECE}
 use Rattle.gateway_serve.specs.declared.sockets.Seen.{Seen}
-use Rattle.gateway_serve.specs.Bytes.{came_of, went_of, current}
+use Rattle.gateway_serve.specs.Bytes.{bytes_come, went_of, current}
 use Rattle.gateway_serve.specs.Waiting.{FewWait}
-use Rattle.gateway_serve.specs.Served.{IsBack, WentOn, Serves, AllServed, AllLeft}
+use Rattle.gateway_serve.specs.Served.{IsBack, WentOn, ServesPart, AllServed, AllLeft}
 use Rattle.gateway_serve.specs.declared.links.Stage.{Stage}
 use Rattle.gateway_serve.specs.declared.links.Stage.TheVariants.{Taking, Giving, Closed}
 use Rattle.gateway_serve.specs.declared.links.Link.{Link}
@@ -42,7 +42,7 @@ is_last Closed = true
 
 abbrev pub joint_of : {S : Type 0} → Link S → Joint
 joint_of l = record {
-  came = came_of l.socket;
+  came = bytes_come l.socket;
   went = went_of l.socket;
   input = l.input;
   output = l.output;
@@ -55,7 +55,7 @@ pub record Joins (sure : Bool) (j : Joint) (ended : List Seen) (st : State) (pas
   pub latest : Conversation
   pub others : List Conversation
   pub talks : AreTalks sure st past n (latest ∷ others)
-  pub told : latest.told ≡ false
+  pub disconnected : latest.disconnected ≡ false
   pub taken : j.came ≡ latest.took ++ j.input
   pub few : length j.input ≤ PIECE
   pub given : j.went ++ j.output ≡ latest.gave
@@ -89,15 +89,15 @@ wrote n j = record {
   closed = j.closed;
 }
 
-abbrev pub Writes : Joint → Joint → Type 0
-Writes old new = (n : ℕ) × (new ≡ wrote n old)
+abbrev pub WritesPiece : Joint → Joint → Type 0
+WritesPiece old new = (n : ℕ) × (new ≡ wrote n old)
 
 -- where none wait for the session, these are read, at most 4,096
 abbrev pub read : List ℕ → Joint → Joint
 read bytes j = record { came = j.came ++ bytes; went = j.went; input = bytes; output = j.output; closed = j.closed }
 
-abbrev pub Reads : Joint → Joint → Type 0
-Reads old new = (new ≡ old) ⊎ ((old.input ≡ []) × ((bytes : List ℕ) × (new ≡ read bytes old) × (length bytes ≤ PIECE)))
+abbrev pub ReadsPiece : Joint → Joint → Type 0
+ReadsPiece old new = (new ≡ old) ⊎ ((old.input ≡ []) × ((bytes : List ℕ) × (new ≡ read bytes old) × (length bytes ≤ PIECE)))
 
 -- what follows an answer, once all is written. After a refusal the connection is closed, and nothing was taken
 abbrev pub stage_by : Answer → Stage
@@ -122,7 +122,7 @@ abbrev pub Goes : {C S T : Type 0} → Ghosts C → C → C → Result T DiskFau
 Goes {C} c old new result l l' n =
     (sure : Bool) (before : C) (st : State) (past : List Marked) (ended : List Seen) → WentOn c sure before old st past
     → Joins sure (joint_of l) ended st past n
-    → Serves c sure before new st result (λ now. Alone sure st n past now × Joins sure (joint_of l') ended st now n)
+    → ServesPart c sure before new st result (λ now. Alone sure st n past now × Joins sure (joint_of l') ended st now n)
     (λ now. Alone sure st n past now × Joins sure (joint_of l') ended st now n)
 
 -- PLACES. One is free only once its connection is closed again
@@ -170,7 +170,7 @@ abbrev pub GoesAt : {C S T : Type 0} → Ghosts C → C → C → Result T DiskF
 GoesAt {C} c old new result p p' ended ended' n =
     (sure : Bool) (before : C) (st : State) (past : List Marked) → WentOn c sure before old st past
     → PlaceJoins sure p (current_of n ended) st past n
-    → Serves c sure before new st result (λ now. Alone sure st n past now × PlaceJoins sure p'
+    → ServesPart c sure before new st result (λ now. Alone sure st n past now × PlaceJoins sure p'
     (current_of n ended') st now n)
     (λ now. Alone sure st n past now × PlaceFell sure p' (current_of n ended') st now n)
 
@@ -199,25 +199,25 @@ abbrev pub SamePlaces : {S : Type 0} → List (Place S) → List (Place S) → T
 SamePlaces old new = (n : ℕ) → get_or new n Free ≡ get_or old n Free
 
 -- joined places stay joined
-abbrev pub GoesOn : {C S T : Type 0} → Ghosts C → C → C → Result T DiskFault → List (Place S) → List (Place S)
+abbrev pub StaysJoined : {C S T : Type 0} → Ghosts C → C → C → Result T DiskFault → List (Place S) → List (Place S)
     → List Seen → List Seen → Type 0
-GoesOn {C} c old new result places places' ended ended' =
+StaysJoined {C} c old new result places places' ended ended' =
     (sure : Bool) (before : C) (st : State) (past : List Marked) → WentOn c sure before old st past
     → AllJoin sure places ended st past
-    → Serves c sure before new st result (AllJoin sure places' ended' st) (AllFell sure places' ended' st)
+    → ServesPart c sure before new st result (AllJoin sure places' ended' st) (AllFell sure places' ended' st)
 
 -- after it all connections are ended, unless the disk failed
-abbrev pub Ends : {C S T : Type 0} → Ghosts C → C → C → Result T DiskFault → List (Place S) → List (Place S) → List Seen
+abbrev pub AllEnded : {C S T : Type 0} → Ghosts C → C → C → Result T DiskFault → List (Place S) → List (Place S) → List Seen
     → List Seen → Type 0
-Ends {C} c old new result places places' ended ended' =
+AllEnded {C} c old new result places places' ended ended' =
     (sure : Bool) (before : C) (st : State) (past : List Marked) → WentOn c sure before old st past
     → AllJoin sure places ended st past
-    → Serves c sure before new st result (AllServed sure ended' st) (AllFell sure places' ended' st)
+    → ServesPart c sure before new st result (AllServed sure ended' st) (AllFell sure places' ended' st)
 
 -- and then their sockets were let go
-abbrev pub Finishes : {C S T : Type 0} → Ghosts C → C → C → Result T DiskFault → List (Place S) → List Seen → List Seen
+abbrev pub LetsGo : {C S T : Type 0} → Ghosts C → C → C → Result T DiskFault → List (Place S) → List Seen → List Seen
     → Type 0
-Finishes {C} c old new result places ended ended' =
+LetsGo {C} c old new result places ended ended' =
     (sure : Bool) (before : C) (st : State) (past : List Marked) → WentOn c sure before old st past
     → AllJoin sure places ended st past
-    → Serves c sure before new st result (AllServed sure ended' st) (AllLeft sure ended' st)
+    → ServesPart c sure before new st result (AllServed sure ended' st) (AllLeft sure ended' st)

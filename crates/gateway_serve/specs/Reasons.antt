@@ -46,12 +46,12 @@ stay_of l tick = record {
 }
 
 -- its time is over
-abbrev pub IsLate : {S : Type 0} → Link S → Tick → Gone → Type 0
-IsLate l tick gone = (gone ≡ Why.Late (stay_of l tick)) × IsOver (stay_of l tick)
+abbrev pub IsOutOfTime : {S : Type 0} → Link S → Tick → Gone → Type 0
+IsOutOfTime l tick gone = (gone ≡ Why.Late (stay_of l tick)) × IsOver (stay_of l tick)
 
 -- A CONNECTION IS LOST for this reason: so its socket answered, or its time is over
 abbrev pub IsLostBy : {S : Type 0} → Link S → Tick → Gone → Type 0
-IsLostBy l tick gone = EndsBy gone (latest_of (socket_of l)) ⊎ IsLate l tick gone
+IsLostBy l tick gone = EndsBy gone (latest_of (socket_of l)) ⊎ IsOutOfTime l tick gone
 
 -- THE REASON for which a socket ended whose stream last answered this, while serving went on
 abbrev pub HasReason : Latest → Reason → Type 0

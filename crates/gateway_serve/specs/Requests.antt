@@ -52,23 +52,23 @@ looked r bytes now =
 abbrev pub with_more : Request → ℕ → Request
 with_more r n = record { head = r.head; begun = r.begun; brought = min (r.brought + n) 18_446_744_073_709_551_615 }
 
-abbrev pub added : Request → List ℕ → Duration → Request
-added r bytes now = with_more (looked r bytes now) (length bytes)
+abbrev pub with_bytes : Request → List ℕ → Duration → Request
+with_bytes r bytes now = with_more (looked r bytes now) (length bytes)
 
 -- and is measured anew after ten seconds
-abbrev pub measured : Request → Duration → Request
-measured r now = measured_from r (has_come r.head && nat_le 10 (seconds_from r.begun now)) now
+abbrev pub measured_anew : Request → Duration → Request
+measured_anew r now = measured_from r (has_come r.head && nat_le 10 (seconds_from r.begun now)) now
 
 abbrev pub measured_by : Option Request → Duration → Option Request
 measured_by None now = None
-measured_by (Some request) now = Some (measured request now)
+measured_by (Some request) now = Some (measured_anew request now)
 
 -- THE REQUEST that a connection is in, once so many bytes of those that came were taken: none, where more waits to be
 -- written than before, by more bytes than those that ask a client to go on with its body
-abbrev pub begun_at : Option Request → Duration → Request
-begun_at None now = record { head = InLine; begun = now; brought = 0 }
-begun_at (Some request) now = request
+abbrev pub request_or_new : Option Request → Duration → Request
+request_or_new None now = record { head = InLine; begun = now; brought = 0 }
+request_or_new (Some request) now = request
 
 abbrev pub request_by : Option Request → (owed owes : ℕ) → (input : List ℕ) → ℕ → Duration → Option Request
 request_by request owed owes input taken now =
-    if nat_lt 25 (owes - owed) then None else Some (added (begun_at request now) (take taken input) now)
+    if nat_lt 25 (owes - owed) then None else Some (with_bytes (request_or_new request now) (take taken input) now)

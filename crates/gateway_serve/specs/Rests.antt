@@ -10,8 +10,8 @@ read_or None now = now
 read_or (Some time) now = time
 
 -- AFTER A TURN in which something was done or not, at this time
-abbrev pub passed : Watch → Option Duration → Bool → Watch
-passed w time busy = record { now = read_or time w.now; busy = if busy then read_or time w.now else w.busy }
+abbrev pub watch_after : Watch → Option Duration → Bool → Watch
+watch_after w time busy = record { now = read_or time w.now; busy = if busy then read_or time w.now else w.busy }
 
 -- for how many nanoseconds nothing was done
 abbrev pub idle : Watch → ℕ

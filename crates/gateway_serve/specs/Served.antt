@@ -18,7 +18,7 @@ ImagesShow c before now st past = LimitsTo (c.moment before) (c.moment now) (c.l
 -- honest
 pub record WentOn {C : Type 0} (c : Ghosts C) (sure : Bool) (before now : C) (st : State) (past : List Marked) :
     Type 0 where
-  pub stands : c.stands now sure (history st past)
+  pub represents : c.represents now sure (history st past)
   pub images : sure ≡ true → ImagesShow c before now st past
 
 -- these events came, and at the latest of them the disk failed: the connections are down, and of them nothing is
@@ -31,10 +31,10 @@ pub record WentDown {C : Type 0} (c : Ghosts C) (sure : Bool) (before now : C) (
 
 -- What a part of serving did: some events came, of which the one fact holds, or the other where the disk failed at
 -- the latest
-abbrev pub Serves : {C T : Type 0} → Ghosts C → Bool → C → C → State → Result T DiskFault → (List Marked → Type 0)
+abbrev pub ServesPart : {C T : Type 0} → Ghosts C → Bool → C → C → State → Result T DiskFault → (List Marked → Type 0)
     → (List Marked → Type 0) → Type 0
-Serves c sure before now st (Ok x) On Down = (past : List Marked) × WentOn c sure before now st past × On past
-Serves c sure before now st (Err fault) On Down = (past : List Marked) × (e : Event)
+ServesPart c sure before now st (Ok x) On Down = (past : List Marked) × WentOn c sure before now st past × On past
+ServesPart c sure before now st (Err fault) On Down = (past : List Marked) × (e : Event)
     × WentDown c sure before now st ((e, Failed) ∷ past) × Down ((e, Failed) ∷ past)
 
 -- the connection is as it was before these events: closed, if it was

@@ -33,10 +33,10 @@ IsQuietly (Why.Failed kind) = ⊥
 IsQuietly Why.Stuck = ⊥
 IsQuietly (Why.Late stay) = IsQuiet stay.at
 
-abbrev pub IsWhole : Reason → Type 0
-IsWhole Closed = Unit {0}
-IsWhole (Lost gone) = IsQuietly gone
-IsWhole Over = ⊥
+abbrev pub IsWholeReply : Reason → Type 0
+IsWholeReply Closed = Unit {0}
+IsWholeReply (Lost gone) = IsQuietly gone
+IsWholeReply Over = ⊥
 
 -- all bytes that came, but for at most 4,096 at the end, are those that the session took, and those that went are the
 -- first that it gave, all but at most 135,167 at the end: all of them, where the reason says so. Where it says that the
@@ -44,8 +44,8 @@ IsWhole Over = ⊥
 pub record Fits (s : Seen) (c : Conversation) : Type 0 where
   pub taken : IsAllBut PIECE c.took s.came.items
   pub written : IsAllBut most_waiting s.went.items c.gave
-  pub emptied : IsWhole s.reason → s.went.items ≡ c.gave
-  pub untold : s.reason ≡ Closed → c.told ≡ false
+  pub emptied : IsWholeReply s.reason → s.went.items ≡ c.gave
+  pub connected : s.reason ≡ Closed → c.told ≡ false
 
 -- and all that it gave went, unless the session was told that the client is gone
 pub record Served (s : Seen) (c : Conversation) : Type 0 where

@@ -3,7 +3,7 @@ use Rattle.std.specs.Prelude.{ℕ, List, [], ◌∷◌, ◌++◌, length, Option
 use Rattle.std.specs.Io.KnownBytes.{Consumes, Appends, Keeps}
 use Rattle.gateway_serve.specs.declared.sockets.Seen.{Seen}
 use Rattle.std.specs.declared.io.ErrorKind.{ErrorKind}
-use Rattle.gateway_serve.specs.Bytes.{came_of, went_of, stream_of, latest_of}
+use Rattle.gateway_serve.specs.Bytes.{bytes_come, went_of, stream_of, latest_of}
 use Rattle.gateway_serve.specs.declared.sockets.Latest.{Latest}
 use Rattle.gateway_serve.specs.declared.sockets.Latest.TheVariants as Was
 use Rattle.gateway_serve.specs.declared.sockets.Socket.{Socket}
@@ -34,7 +34,7 @@ pub data Carried {S : Type 0} (remaining contents : S → Option (List ℕ)) (ac
 module _ {S : Type 0} (remaining contents : S → Option (List ℕ)) where
   -- a socket has the stream that was accepted, of which its bytes came, and to which its bytes went
   abbrev pub IsOf : S → Socket S → Type 0
-  IsOf accepted s = Carried remaining contents accepted (stream_of s) (came_of s) (went_of s) (latest_of s)
+  IsOf accepted s = Carried remaining contents accepted (stream_of s) (bytes_come s) (went_of s) (latest_of s)
 
   -- and it still does
   abbrev pub StaysOf : Socket S → Socket S → Type 0
@@ -59,14 +59,14 @@ module _ {S : Type 0} (remaining contents : S → Option (List ℕ)) where
   AllHad (s ∷ ended) = Had s × AllHad ended
 
   -- what a place and the sockets that ended have, after what was done there
-  abbrev pub PlaceKeeps : Place S → Place S → List Seen → List Seen → Type 0
-  PlaceKeeps p p' ended ended' = PlaceHas p → AllHad ended → PlaceHas p' × AllHad ended'
+  abbrev pub PlacePreserves : Place S → Place S → List Seen → List Seen → Type 0
+  PlacePreserves p p' ended ended' = PlaceHas p → AllHad ended → PlaceHas p' × AllHad ended'
 
   abbrev pub AllHave : List (Place S) → Type 0
   AllHave places = (n : ℕ) → PlaceHas (get_or places n Free)
 
-  abbrev pub AllKeep : List (Place S) → List (Place S) → List Seen → List Seen → Type 0
-  AllKeep places places' ended ended' = AllHave places → AllHad ended → AllHave places' × AllHad ended'
+  abbrev pub AllPreserve : List (Place S) → List (Place S) → List Seen → List Seen → Type 0
+  AllPreserve places places' ended ended' = AllHave places → AllHad ended → AllHave places' × AllHad ended'
 
 abbrev pub socket_of : {S : Type 0} → Link S → Socket S
 socket_of l = l.socket

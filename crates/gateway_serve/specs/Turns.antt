@@ -16,8 +16,8 @@ abbrev pub closed_of : {S : Type 0} → Server S → ℕ
 closed_of s = s.closed
 
 -- nobody came yet
-abbrev pub IsFresh : {S : Type 0} → Server S → Type 0
-IsFresh s = ((before : List Bool) → LetsInBy before before 0 (door_of s)) × (closed_of s ≡ 0)
+abbrev pub IsUnvisited : {S : Type 0} → Server S → Type 0
+IsUnvisited s = ((before : List Bool) → LetsInBy before before 0 (door_of s)) × (closed_of s ≡ 0)
 
 -- one more client can be counted
 abbrev pub HasRoom : Clients → Type 0
@@ -28,8 +28,8 @@ abbrev pub NoneIsFree : {S : Type 0} → List (Place S) → Type 0
 NoneIsFree places = (k : ℕ) → k < length places → get_or places k Free ≢ Free
 
 -- no other place can be made: there are as many as may be, or their memory is full
-abbrev pub IsFull : {S : Type 0} → Server S → Type 0
-IsFull s = (MOST_OPEN ≤ length (places_of s)) ⊎ (vec_capacity s.places ≤ vec_len s.places)
+abbrev pub HasNoPlace : {S : Type 0} → Server S → Type 0
+HasNoPlace s = (MOST_OPEN ≤ length (places_of s)) ⊎ (vec_capacity s.places ≤ vec_len s.places)
 
 -- all but the places, and the client who waits, is as it was
 pub record RestStays {S : Type 0} (s s' : Server S) : Type 0 where

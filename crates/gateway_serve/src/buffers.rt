@@ -5,9 +5,9 @@ ghost use Rattle.std.specs.Io.KnownBytes.{Consumes, Appends, Keeps, IsAtEnd};
 ghost use Rattle.common.specs.declared.stop.Stop.{Stop};
 ghost use Rattle.upload_rules.specs.Answers.{Limits, Quiet, Counts};
 ghost use Rattle.tus_session.specs.History.{State, Came, More};
-ghost use Rattle.tus_session.specs.Connections.{Gives, Falls, mark_of};
+ghost use Rattle.tus_session.specs.Connections.{GivesFor, Falls, mark_of};
 ghost use Rattle.tus_session.specs.Images.{shown_by};
-ghost use Rattle.gateway_serve.specs.Bytes.{came_of, went_of, stream_of, latest_of};
+ghost use Rattle.gateway_serve.specs.Bytes.{bytes_come, went_of, stream_of, latest_of};
 ghost use Rattle.gateway_serve.specs.Gone.{after_read, after_write};
 ghost use Rattle.gateway_serve.specs.Waiting.{FewWait, HasRoom};
 ghost use Rattle.gateway_serve.specs.declared.buffers.TheConstants.{PIECE};
@@ -25,7 +25,7 @@ pub(crate) const PIECE: usize = 4096;
 const MOST_WAITING: usize = 65_536;
 
 /// So much memory a buffer of which all is written keeps, in bytes: a piece of a text needs none anew.
-const MOST_KEPT: usize = 131_072;
+const MOST_HELD: usize = 131_072;
 
 /// What was read from a socket: the session took a prefix part of it.
 #[derive(Drop)]
@@ -68,9 +68,9 @@ impl Input {
     pub(crate) fn read<S: Read + Write>(&mut self, socket: &mut Socket<S>) -> io::Result<usize>
         ensures count { IfOk result (λ n. length self.new ≡ n) }
         ensures few { length self.new ≤ PIECE }
-        ensures came { IfOk result (λ n. came_of socket.new ≡ came_of socket.old ++ self.new) }
+        ensures came { IfOk result (λ n. bytes_come socket.new ≡ bytes_come socket.old ++ self.new) }
         ensures went { went_of socket.new ≡ went_of socket.old }
-        ensures same { OnErr result (came_of socket.new ≡ came_of socket.old) }
+        ensures same { OnErr result (bytes_come socket.new ≡ bytes_come socket.old) }
         ensures none { OnErr result (self.new ≡ []) }
         ensures latest { latest_of socket.new ≡ after_read result }
         ensures bytes { IfOk result (λ n.
@@ -148,7 +148,7 @@ impl Output {
         ensures count { IfOk result (λ n. length (take n self.old) ≡ n) }
         ensures rest { IfOk result (λ n. self.new ≡ drop n self.old) }
         ensures went { IfOk result (λ n. went_of socket.new ≡ went_of socket.old ++ take n self.old) }
-        ensures came { came_of socket.new ≡ came_of socket.old }
+        ensures came { bytes_come socket.new ≡ bytes_come socket.old }
         ensures none { OnErr result (went_of socket.new ≡ went_of socket.old) }
         ensures same { OnErr result (self.new ≡ self.old) }
         ensures latest { latest_of socket.new ≡ after_write result }
@@ -177,9 +177,9 @@ impl Output {
         bytes: &[u8],
     ) -> Result<Answer, SessionError>
         requires { HasRoom self.old }
-        ensures gives { (sure : Bool) (st : State) → C.stands gateway.old sure st
-            → Gives sure (C.stands gateway.new sure) result self.old self.new st (Came conn bytes.now) }
-        ensures crash { (st : State) → C.stands gateway.old true st
+        ensures gives { (sure : Bool) (st : State) → C.represents gateway.old sure st
+            → GivesFor sure (C.represents gateway.new sure) result self.old self.new st (Came conn bytes.now) }
+        ensures crash { (st : State) → C.represents gateway.old true st
             → Limits (C.moment gateway.old) (C.moment gateway.new) (C.left_only gateway.old) (C.left_only gateway.new)
             st.world.store (shown_by st (Came conn bytes.now) (mark_of result)) }
         ensures counts { Counts (IsErrOf result (SessionError.Stop Stop.DiskFault)) (C.failures gateway.old)
@@ -198,8 +198,8 @@ impl Output {
         conn: usize,
     ) -> Result<Answer, SessionError>
         requires { HasRoom self.old }
-        ensures gives { (sure : Bool) (st : State) → C.stands gateway.old sure st
-            → Gives sure (C.stands gateway.new sure) result self.old self.new st (More conn) }
+        ensures gives { (sure : Bool) (st : State) → C.represents gateway.old sure st
+            → GivesFor sure (C.represents gateway.new sure) result self.old self.new st (More conn) }
         ensures crash { Quiet (C.moment gateway.old) (C.moment gateway.new) (C.left_only gateway.old)
             (C.left_only gateway.new) }
         ensures counts { Counts (IsErrOf result (SessionError.Stop Stop.DiskFault)) (C.failures gateway.old)
@@ -220,7 +220,7 @@ fn free_written(bytes: &mut Vec<u8>, written: usize)
 {
     if written == bytes.len() {
         bytes.clear();
-        if bytes.capacity() > MOST_KEPT {
+        if bytes.capacity() > MOST_HELD {
             bytes.shrink_to_fit();
         }
     } else if written > 0 {

@@ -2,7 +2,7 @@
 ghost use Rattle.std.specs.Prelude.{◌≡◌, ◌≤◌, ◌+◌, ◌↔◌, IsTrue, IsFalse, IfSome, IsNone, IsSome, false};
 ghost use Rattle.std.specs.Duration.{as_nanos};
 ghost use Rattle.gateway_serve.specs.Acceptors.{passes_of};
-ghost use Rattle.gateway_serve.specs.Rests.{IsIdle, passed, rest_at};
+ghost use Rattle.gateway_serve.specs.Rests.{IsIdle, watch_after, rest_at};
 
 use std::time::{Clock, Duration};
 
@@ -49,7 +49,7 @@ impl Pace {
     /// Whether the socket is asked in this turn. Where the turn before did nothing each one is.
     pub(crate) fn is_due(&mut self, busy: bool) -> bool
         ensures idle { busy ≡ false → IsTrue result }
-        ensures passed { IsFalse result → passes_of self.old ≡ passes_of self.new + 1 }
+        ensures watch_after { IsFalse result → passes_of self.old ≡ passes_of self.new + 1 }
     {
         if busy && self.left > 0 {
             self.left -= 1;
@@ -98,7 +98,7 @@ impl Watch {
     /// that is a 32nd of the time since one had, at most 10 milliseconds: so a client waits at most a 32nd of its own
     /// silence longer.
     pub(crate) fn rest(&mut self, time: Option<Duration>, was_busy: bool) -> Option<Duration>
-        ensures time { self.new ≡ passed self.old time was_busy }
+        ensures time { self.new ≡ watch_after self.old time was_busy }
         ensures rests { IsSome result ↔ IsIdle self.new }
         ensures rest { IfSome result (λ rest. as_nanos rest ≡ rest_at self.new) }
     {

@@ -1,7 +1,7 @@
 //! A socket and its connection of the gateway.
 ghost use Rattle.std.specs.Prelude.{◌≡◌, ◌≢◌, ◌⊎◌, ◌↔◌, IsErr, IsErrOf, IfOk, IfSome, IsTrue, length};
 ghost use Rattle.upload_rules.specs.Answers.{Counts};
-ghost use Rattle.gateway_serve.specs.Joined.{Goes, IsOver, Writes, Reads, joint_of, nothing_yet, with_link};
+ghost use Rattle.gateway_serve.specs.Joined.{Goes, IsOver, WritesPiece, ReadsPiece, joint_of, nothing_yet, with_link};
 ghost use Rattle.gateway_serve.specs.Joined.{stage_by, stage_after, taken_after, at_of};
 ghost use Rattle.gateway_serve.specs.Waiting.{FewWait, HasRoom};
 ghost use Rattle.gateway_serve.specs.Bytes.{stream_of, latest_of};
@@ -9,7 +9,7 @@ ghost use Rattle.gateway_serve.specs.Streams.{StaysOf, socket_of};
 ghost use Rattle.gateway_serve.specs.Gone.{EndsBy, IfLost, IsFailure};
 ghost use Rattle.gateway_serve.specs.declared.sockets.Latest.{Latest};
 ghost use Rattle.gateway_serve.specs.Longest.{link_between_since};
-ghost use Rattle.gateway_serve.specs.Reasons.{IsLate, IsLostBy, moved_of, opened_of, stay_of};
+ghost use Rattle.gateway_serve.specs.Reasons.{IsOutOfTime, IsLostBy, moved_of, opened_of, stay_of};
 ghost use Rattle.gateway_serve.specs.Requests.{measured_by, request_by};
 ghost use Rattle.gateway_serve.specs.Stays as stays;
 ghost use Rattle.std.specs.IoError.{error_kind};
@@ -143,7 +143,7 @@ impl<S: Read + Write> Link<S> {
         ensures socket { socket_of self.new ≡ socket_of self.old }
         ensures same { joint_of self.new ≡ joint_of self.old }
         ensures over { result ≡ Left.Closed → left ≡ Left.Closed }
-        ensures lost { IfLost result (λ gone. (left ≡ Left.Lost gone) ⊎ IsLate self.new tick gone) }
+        ensures lost { IfLost result (λ gone. (left ≡ Left.Lost gone) ⊎ IsOutOfTime self.new tick gone) }
     {
         let moved = !matches!(left, Left::Idle);
         self.pace.asked(moved);
@@ -237,7 +237,7 @@ impl<S: Read + Write> Link<S> {
     fn write(&mut self) -> Left
         ensures lost { IfLost result (λ gone. EndsBy gone (latest_of (socket_of self.new))) }
         ensures stream { StaysOf S.remaining S.contents (socket_of self.old) (socket_of self.new) }
-        ensures part { Writes (joint_of self.old) (joint_of self.new) }
+        ensures part { WritesPiece (joint_of self.old) (joint_of self.new) }
         ensures unclosed { result ≢ Left.Closed }
     {
         match self.output.write(&mut self.socket) {
@@ -293,7 +293,7 @@ impl<S: Read + Write> Link<S> {
     fn read(&mut self) -> Option<Left>
         ensures lost { IfSome result (λ left. IfLost left (λ gone. EndsBy gone (latest_of (socket_of self.new)))) }
         ensures stream { StaysOf S.remaining S.contents (socket_of self.old) (socket_of self.new) }
-        ensures part { Reads (joint_of self.old) (joint_of self.new) }
+        ensures part { ReadsPiece (joint_of self.old) (joint_of self.new) }
         ensures unclosed { IfSome result (λ left. left ≢ Left.Closed) }
     {
         if !self.input.left().is_empty() {

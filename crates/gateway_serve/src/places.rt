@@ -2,7 +2,7 @@
 ghost use Rattle.std.specs.Prelude.{◌≡◌, ◌↔◌, ◌<◌, ◌≤◌, IsTrue, IsErr, IsErrOf, Ok, length};
 ghost use Rattle.upload_rules.specs.Answers.{Counts};
 ghost use Rattle.gateway_serve.specs.Joined.{GoesAt, OthersStay, IsNew, MayEnd, PlaceWaits, with_place};
-ghost use Rattle.gateway_serve.specs.Streams.{PlaceIsOf, PlaceKeeps};
+ghost use Rattle.gateway_serve.specs.Streams.{PlaceIsOf, PlacePreserves};
 ghost use Rattle.gateway_serve.specs.Reasons.{StayReasoned};
 ghost use Rattle.gateway_serve.specs.Longest.{between_since};
 
@@ -75,7 +75,7 @@ impl<S: Read + Write + Drop> Place<S> {
         ended: &mut Trace<Seen>,
     ) -> Result<Turned, DiskFault>
         ensures reasons { StayReasoned ended.old.items ended.new.items }
-        ensures streams { PlaceKeeps S.remaining S.contents self.old self.new ended.old.items ended.new.items }
+        ensures streams { PlacePreserves S.remaining S.contents self.old self.new ended.old.items ended.new.items }
         ensures serves { GoesAt C.Connections gateway.old gateway.new result self.old self.new
             ended.old.items ended.new.items conn }
         ensures others { OthersStay conn ended.old.items ended.new.items }
@@ -113,7 +113,7 @@ impl<S: Read + Write + Drop> Place<S> {
     ) -> Result<(), DiskFault>
         requires { MayEnd reason self.old }
         ensures ended { ended.new.items ≡ with_place conn reason self.old ended.old.items }
-        ensures streams { PlaceKeeps S.remaining S.contents self.old self.new ended.old.items ended.new.items }
+        ensures streams { PlacePreserves S.remaining S.contents self.old self.new ended.old.items ended.new.items }
         ensures serves { GoesAt C.Connections gateway.old gateway.new result self.old self.new
             ended.old.items ended.new.items conn }
         ensures free { self.new ≡ Place.Free }
@@ -130,7 +130,7 @@ impl<S: Read + Write + Drop> Place<S> {
     /// Lets the socket go for this reason, if one is there: the session isn't told.
     pub(crate) fn free(&mut self, conn: usize, reason: Reason, ended: &mut Trace<Seen>)
         ensures waiting { PlaceWaits self.old }
-        ensures streams { PlaceKeeps S.remaining S.contents self.old self.new ended.old.items ended.new.items }
+        ensures streams { PlacePreserves S.remaining S.contents self.old self.new ended.old.items ended.new.items }
         ensures free { self.new ≡ Place.Free }
         ensures ended { ended.new.items ≡ with_place conn reason self.old ended.old.items }
     {

@@ -1,6 +1,6 @@
 //! What serving sees of a request: whether its head came, and how fast its body comes.
 ghost use Rattle.std.specs.Prelude.{◌≡◌, None, true, false};
-ghost use Rattle.gateway_serve.specs.Requests.{added, at_in, begun_at, has_come, head_after, looked, measured};
+ghost use Rattle.gateway_serve.specs.Requests.{with_bytes, at_in, request_or_new, has_come, head_after, looked, measured_anew};
 ghost use Rattle.gateway_serve.specs.Requests.{measured_from};
 
 use crate::stays::At;
@@ -46,7 +46,7 @@ pub(crate) struct Request {
 impl Request {
     /// Of which nothing came, at this time.
     pub(crate) fn new(now: Duration) -> Self
-        ensures { result ≡ begun_at None now }
+        ensures { result ≡ request_or_new None now }
     {
         Request {
             head: HeadEnd::InLine,
@@ -67,7 +67,7 @@ impl Request {
 
     /// More of it came. The bytes of a body are counted, and not looked at.
     pub(crate) fn add(&mut self, bytes: &[u8], now: Duration)
-        ensures { self.new ≡ added self.old bytes.now now }
+        ensures { self.new ≡ with_bytes self.old bytes.now now }
     {
         if !self.has_head() {
             self.look_for_end(bytes, now);
@@ -91,7 +91,7 @@ impl Request {
 
     /// Measures the speed of the body anew, where it was measured for ten seconds.
     pub(crate) fn measure(&mut self, now: Duration)
-        ensures { self.new ≡ measured self.old now }
+        ensures { self.new ≡ measured_anew self.old now }
     {
         if self.has_head() && now.saturating_sub(self.begun).as_secs() >= MEASURED {
             self.measure_from(now);

@@ -3,11 +3,11 @@ ghost use Rattle.std.specs.Prelude.{◌≡◌, ◌≢◌, ◌⊎◌, ◌↔◌, 
 ghost use Rattle.std.specs.Prelude.{IfSome, IsErr, IsFalse, IsNone, IsSomeAnd, IsTrue};
 ghost use Rattle.upload_rules.specs.Answers.{Counts};
 ghost use Rattle.tus_session.specs.History.{State, Marked};
-ghost use Rattle.gateway_serve.specs.Joined.{AllFell, GoesOn, Ends, IsFreeAt};
+ghost use Rattle.gateway_serve.specs.Joined.{AllFell, StaysJoined, AllEnded, IsFreeAt};
 ghost use Rattle.gateway_serve.specs.Longest.{BeganBy, IsLongest, pause_of, since_of};
 ghost use Rattle.gateway_serve.specs.Reasons.{StayReasoned, AtMostOnce};
 ghost use Rattle.gateway_serve.specs.Served.{AllLeft};
-ghost use Rattle.gateway_serve.specs.Streams.{AllKeep};
+ghost use Rattle.gateway_serve.specs.Streams.{AllPreserve};
 ghost use Rattle.gateway_serve.specs.Turns.{NoneIsFree};
 
 use crate::idle::Tick;
@@ -119,9 +119,9 @@ pub(crate) fn turn_each<S: Read + Write + Drop, C: Connections>(
     ended: &mut Trace<Seen>,
     round: &mut Round,
 ) -> Result<(), DiskFault>
-    ensures streams { AllKeep S.remaining S.contents places.old places.new ended.old.items ended.new.items }
+    ensures streams { AllPreserve S.remaining S.contents places.old places.new ended.old.items ended.new.items }
     ensures reasons { StayReasoned ended.old.items ended.new.items }
-    ensures serves { GoesOn C.Connections gateway.old gateway.new result places.old places.new
+    ensures serves { StaysJoined C.Connections gateway.old gateway.new result places.old places.new
         ended.old.items ended.new.items }
     ensures counts { Counts (IsErr result) (C.failures gateway.old) (C.failures gateway.new) }
     ensures closed { round.old.closed ≤ length ended.old.items → round.new.closed ≤ length ended.new.items }
@@ -144,10 +144,10 @@ pub(crate) fn end_each<S: Read + Write + Drop, C: Connections>(
     gateway: &mut C,
     ended: &mut Trace<Seen>,
 ) -> Result<(), DiskFault>
-    ensures streams { AllKeep S.remaining S.contents places.old places.new ended.old.items ended.new.items }
+    ensures streams { AllPreserve S.remaining S.contents places.old places.new ended.old.items ended.new.items }
     ensures once { AtMostOnce ended.old.items ended.new.items }
     ensures more { length ended.old.items ≤ length ended.new.items }
-    ensures serves { Ends C.Connections gateway.old gateway.new result places.old places.new
+    ensures serves { AllEnded C.Connections gateway.old gateway.new result places.old places.new
         ended.old.items ended.new.items }
     ensures counts { Counts (IsErr result) (C.failures gateway.old) (C.failures gateway.new) }
 {
@@ -162,7 +162,7 @@ pub(crate) fn end_each<S: Read + Write + Drop, C: Connections>(
 
 /// Lets all sockets go: the session isn't told.
 pub(crate) fn free_each<S: Read + Write + Drop>(places: &mut [Place<S>], ended: &mut Trace<Seen>)
-    ensures streams { AllKeep S.remaining S.contents places.old places.new ended.old.items ended.new.items }
+    ensures streams { AllPreserve S.remaining S.contents places.old places.new ended.old.items ended.new.items }
     ensures once { AtMostOnce ended.old.items ended.new.items }
     ensures left { (sure : Bool) (st : State) (past : List Marked)
         → AllFell sure places.old ended.old.items st past → AllLeft sure ended.new.items st past }

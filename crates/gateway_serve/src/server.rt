@@ -3,11 +3,11 @@ ghost use Rattle.std.specs.Prelude.{◌≡◌, ◌↔◌, ◌<◌, ◌≤◌, �
 ghost use Rattle.std.specs.Prelude.{IfSome, IsErr, IsFalse, IsNone, IsTrue, None};
 ghost use Rattle.upload_rules.specs.Answers.{Counts};
 ghost use Rattle.gateway_serve.specs.Acceptors.{HasServed, LetsInBy, one_if};
-ghost use Rattle.gateway_serve.specs.Joined.{GoesOn, Ends, Finishes, IsFreeAt, SamePlaces, ended_of, places_of};
+ghost use Rattle.gateway_serve.specs.Joined.{StaysJoined, AllEnded, LetsGo, IsFreeAt, SamePlaces, ended_of, places_of};
 ghost use Rattle.gateway_serve.specs.Longest.{IsLongest};
 ghost use Rattle.gateway_serve.specs.Reasons.{AllReasoned, StayReasoned, EndsReasoned, IsLeftReasoned};
-ghost use Rattle.gateway_serve.specs.Streams.{AllHave, AllHad, AllKeep};
-ghost use Rattle.gateway_serve.specs.Turns.{HasRoom, IsFresh, IsFull, NoneIsFree, RestStays, closed_of, door_of};
+ghost use Rattle.gateway_serve.specs.Streams.{AllHave, AllHad, AllPreserve};
+ghost use Rattle.gateway_serve.specs.Turns.{HasRoom, IsUnvisited, HasNoPlace, NoneIsFree, RestStays, closed_of, door_of};
 
 use crate::acceptors::Acceptor;
 use crate::doors::Door;
@@ -65,11 +65,11 @@ impl<S: Read + Write + Drop> Server<S> {
         connections: u64,
         turns: u64,
     ) -> Result<(), DiskFault>
-        requires { IsFresh self.old }
+        requires { IsUnvisited self.old }
         ensures reasons { AllReasoned (ended_of self.old) → IsLeftReasoned (ended_of self.new) }
         ensures streams { AllHave S.remaining S.contents (places_of self.old)
             → AllHad S.remaining S.contents (ended_of self.old) → AllHad S.remaining S.contents (ended_of self.new) }
-        ensures serves { Finishes C.Connections gateway.old gateway.new result (places_of self.old)
+        ensures serves { LetsGo C.Connections gateway.old gateway.new result (places_of self.old)
             (ended_of self.old) (ended_of self.new) }
         ensures counts { Counts (IsErr result) (C.failures gateway.old) (C.failures gateway.new) }
         ensures clients { HasServed (A.answers acceptor.old) (A.answers acceptor.new) turns connections
@@ -93,11 +93,11 @@ impl<S: Read + Write + Drop> Server<S> {
         connections: u64,
         turns: u64,
     ) -> Result<(), DiskFault>
-        requires { IsFresh self.old }
+        requires { IsUnvisited self.old }
         ensures reasons { AllReasoned (ended_of self.old) → EndsReasoned (ended_of self.new) }
-        ensures streams { AllKeep S.remaining S.contents (places_of self.old) (places_of self.new)
+        ensures streams { AllPreserve S.remaining S.contents (places_of self.old) (places_of self.new)
             (ended_of self.old) (ended_of self.new) }
-        ensures serves { Ends C.Connections gateway.old gateway.new result (places_of self.old) (places_of self.new)
+        ensures serves { AllEnded C.Connections gateway.old gateway.new result (places_of self.old) (places_of self.new)
             (ended_of self.old) (ended_of self.new) }
         ensures counts { Counts (IsErr result) (C.failures gateway.old) (C.failures gateway.new) }
         ensures clients { HasServed (A.answers acceptor.old) (A.answers acceptor.new) turns connections
@@ -124,9 +124,9 @@ impl<S: Read + Write + Drop> Server<S> {
         requires room { HasRoom (door_of self.old).clients }
         requires waits { (door_of self.old).clients.waits + 1 < 2 ^ 64 }
         ensures reasons { StayReasoned (ended_of self.old) (ended_of self.new) }
-        ensures streams { AllKeep S.remaining S.contents (places_of self.old) (places_of self.new)
+        ensures streams { AllPreserve S.remaining S.contents (places_of self.old) (places_of self.new)
             (ended_of self.old) (ended_of self.new) }
-        ensures serves { GoesOn C.Connections gateway.old gateway.new result (places_of self.old) (places_of self.new)
+        ensures serves { StaysJoined C.Connections gateway.old gateway.new result (places_of self.old) (places_of self.new)
             (ended_of self.old) (ended_of self.new) }
         ensures counts { Counts (IsErr result) (C.failures gateway.old) (C.failures gateway.new) }
         ensures clients { (before : List Bool) (turns : ℕ)
@@ -178,15 +178,15 @@ impl<S: Read + Write + Drop> Server<S> {
     fn seat<C: Connections>(&mut self, gateway: &mut C) -> Result<(), DiskFault>
         requires { HasRoom (door_of self.old).clients }
         ensures reasons { StayReasoned (ended_of self.old) (ended_of self.new) }
-        ensures streams { AllKeep S.remaining S.contents (places_of self.old) (places_of self.new)
+        ensures streams { AllPreserve S.remaining S.contents (places_of self.old) (places_of self.new)
             (ended_of self.old) (ended_of self.new) }
-        ensures serves { GoesOn C.Connections gateway.old gateway.new result (places_of self.old) (places_of self.new)
+        ensures serves { StaysJoined C.Connections gateway.old gateway.new result (places_of self.old) (places_of self.new)
             (ended_of self.old) (ended_of self.new) }
         ensures counts { Counts (IsErr result) (C.failures gateway.old) (C.failures gateway.new) }
         ensures clients { (before answers : List Bool) (turns : ℕ) → LetsInBy before answers turns (door_of self.old)
             → LetsInBy before answers turns (door_of self.new) }
         ensures takes { IsTrue (is_some (door_of self.new).waiting)
-            → NoneIsFree (places_of self.new) × IsFull self.old }
+            → NoneIsFree (places_of self.new) × HasNoPlace self.old }
         ensures ended { ended_of self.new ≡ ended_of self.old }
         ensures closed { closed_of self.new ≡ closed_of self.old }
     {
@@ -214,7 +214,7 @@ impl<S: Read + Write + Drop> Server<S> {
         ensures waits { one_if (is_some (door_of self.old).waiting)
             ≡ one_if (is_some result) + one_if (is_some (door_of self.new).waiting) }
         ensures takes { IsTrue (is_some (door_of self.new).waiting)
-            → NoneIsFree (places_of self.new) × IsFull self.old }
+            → NoneIsFree (places_of self.new) × HasNoPlace self.old }
     {
         if !self.door.waits() {
             return None;
@@ -226,7 +226,7 @@ impl<S: Read + Write + Drop> Server<S> {
     // The number of the first place that is free.
     fn free_place(&mut self) -> Option<usize>
         ensures free { IfSome result (λ conn. IsFreeAt (places_of self.new) conn) }
-        ensures none { IsNone result → NoneIsFree (places_of self.new) × IsFull self.old }
+        ensures none { IsNone result → NoneIsFree (places_of self.new) × HasNoPlace self.old }
         ensures same { SamePlaces (places_of self.old) (places_of self.new) }
         ensures door { door_of self.new ≡ door_of self.old }
         ensures ended { ended_of self.new ≡ ended_of self.old }
@@ -241,7 +241,7 @@ impl<S: Read + Write + Drop> Server<S> {
     // The number of another place, where there are fewer than `MOST_OPEN` and memory for it is there.
     fn new_place(&mut self) -> Option<usize>
         ensures free { IfSome result (λ conn. IsFreeAt (places_of self.new) conn) }
-        ensures none { IsNone result → (places_of self.new ≡ places_of self.old) × IsFull self.old }
+        ensures none { IsNone result → (places_of self.new ≡ places_of self.old) × HasNoPlace self.old }
         ensures same { SamePlaces (places_of self.old) (places_of self.new) }
         ensures door { door_of self.new ≡ door_of self.old }
         ensures ended { ended_of self.new ≡ ended_of self.old }

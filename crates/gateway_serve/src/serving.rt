@@ -4,7 +4,7 @@ ghost use Rattle.upload_rules.specs.Answers.{Counts};
 ghost use Rattle.tus_session.specs.History.{State};
 ghost use Rattle.gateway_serve.specs.Acceptors.{HasServed};
 ghost use Rattle.gateway_serve.specs.Reasons.{IsLeftReasoned};
-ghost use Rattle.gateway_serve.specs.Served.{Serves, AllServed, AllLeft};
+ghost use Rattle.gateway_serve.specs.Served.{ServesPart, AllServed, AllLeft};
 ghost use Rattle.gateway_serve.specs.Streams.{AllHad};
 
 use crate::acceptors::Acceptor;
@@ -71,8 +71,8 @@ where
     // unless the session was told that the client is gone. Each connection is closed again. After a disk fault the
     // last two are not promised, but where the reason is that the session closed the connection, or that it was late
     // between requests or in one, all of that went.
-    ensures serves { (sure : Bool) (st : State) → C.stands gateway sure st
-        → Serves C.Connections sure gateway result.gateway st result.served
+    ensures serves { (sure : Bool) (st : State) → C.represents gateway sure st
+        → ServesPart C.Connections sure gateway result.gateway st result.served
         (AllServed sure result.ended.items st) (AllLeft sure result.ended.items st) }
     ensures counts { Counts (IsErr result.served) (C.failures gateway) (C.failures result.gateway) }
 

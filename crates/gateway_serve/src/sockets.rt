@@ -33,12 +33,12 @@ pub(crate) struct Socket<S> {
 
 // A stream of which nothing is known but that it is one: so nothing is read of it or written to it.
 impl<S> Socket<S> {
-    ghost use Rattle.gateway_serve.specs.Bytes.{came_of, went_of, stream_of, latest_of};
+    ghost use Rattle.gateway_serve.specs.Bytes.{bytes_come, went_of, stream_of, latest_of};
 
     /// Nothing came, and nothing went.
     pub(crate) fn new(stream: S) -> Self
         ensures stream { stream_of result ≡ stream }
-        ensures came { came_of result ≡ [] }
+        ensures came { bytes_come result ≡ [] }
         ensures went { went_of result ≡ [] }
         ensures latest { latest_of result ≡ Latest.None }
     {
@@ -52,14 +52,14 @@ impl<S> Socket<S> {
 }
 
 impl<S: Read + Write> Socket<S> {
-    ghost use Rattle.gateway_serve.specs.Bytes.{came_of, went_of, stream_of, latest_of};
+    ghost use Rattle.gateway_serve.specs.Bytes.{bytes_come, went_of, stream_of, latest_of};
     ghost use Rattle.gateway_serve.specs.Gone.{after_read, after_write};
 
     /// Reads into the prefix of `buf`: how many bytes.
     pub(crate) fn read(&mut self, buf: &mut [u8]) -> io::Result<usize>
         ensures bound { ReadsAtMost result buf.new }
-        ensures came { IfOk result (λ n. came_of self.new ≡ came_of self.old ++ take n buf.new) }
-        ensures none { OnErr result (came_of self.new ≡ came_of self.old) }
+        ensures came { IfOk result (λ n. bytes_come self.new ≡ bytes_come self.old ++ take n buf.new) }
+        ensures none { OnErr result (bytes_come self.new ≡ bytes_come self.old) }
         ensures went { went_of self.new ≡ went_of self.old }
         ensures latest { latest_of self.new ≡ after_read result }
         ensures bytes { ReadConsumes (S.remaining (stream_of self.old)) (S.remaining (stream_of self.new)) result
@@ -83,7 +83,7 @@ impl<S: Read + Write> Socket<S> {
         ensures bound { WritesAtMost result bytes.now }
         ensures went { IfOk result (λ n. went_of self.new ≡ went_of self.old ++ take n bytes.now) }
         ensures none { OnErr result (went_of self.new ≡ went_of self.old) }
-        ensures came { came_of self.new ≡ came_of self.old }
+        ensures came { bytes_come self.new ≡ bytes_come self.old }
         ensures latest { latest_of self.new ≡ after_write result }
         ensures bytes { WriteAppends (S.contents (stream_of self.old)) (S.contents (stream_of self.new)) result
             bytes.now }
@@ -110,18 +110,18 @@ pub(crate) struct Untouched<S> {
 
 impl<S> Model for Untouched<S> {
     ghost use Rattle.std.specs.Prelude.{◌≡◌, []};
-    ghost use Rattle.gateway_serve.specs.Bytes.{came_of, went_of, stream_of, latest_of};
+    ghost use Rattle.gateway_serve.specs.Bytes.{bytes_come, went_of, stream_of, latest_of};
     ghost use Rattle.gateway_serve.specs.declared.sockets.Latest.TheVariants.{None};
 
     ghost Value = { S };
 
     ghost view = { λ u. stream_of u.socket };
 
-    ghost invariant = { λ u. (came_of u.socket ≡ []) × (went_of u.socket ≡ []) × (latest_of u.socket ≡ None) };
+    ghost invariant = { λ u. (bytes_come u.socket ≡ []) × (went_of u.socket ≡ []) × (latest_of u.socket ≡ None) };
 }
 
 impl<S> Untouched<S> {
-    ghost use Rattle.gateway_serve.specs.Bytes.{came_of, went_of, stream_of, latest_of};
+    ghost use Rattle.gateway_serve.specs.Bytes.{bytes_come, went_of, stream_of, latest_of};
 
     /// A stream as it was accepted.
     pub(crate) fn of(stream: S) -> Self
@@ -135,7 +135,7 @@ impl<S> Untouched<S> {
     /// The socket, for a connection.
     pub(crate) fn into_socket(self) -> Socket<S>
         ensures stream { stream_of result ≡ self }
-        ensures came { came_of result ≡ [] }
+        ensures came { bytes_come result ≡ [] }
         ensures went { went_of result ≡ [] }
         ensures latest { latest_of result ≡ Latest.None }
     {

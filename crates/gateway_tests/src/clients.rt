@@ -15,7 +15,7 @@ use tus_session::MOST_OPEN;
 #[derive(Clone, Copy, Drop)]
 pub(crate) struct Manner<'a> {
     /// The bytes that it sends first.
-    pub(crate) says: &'a [u8],
+    pub(crate) sends: &'a [u8],
     /// The bytes that it sends at every second read after them.
     pub(crate) goes_on: &'a [u8],
     /// How many bytes it accepts before it pauses.
@@ -28,19 +28,19 @@ pub(crate) struct Manner<'a> {
 #[derive(Drop)]
 pub(crate) struct Client<'a> {
     manner: Manner<'a>,
-    told: &'a Cell<usize>,
+    replied: &'a Cell<usize>,
 }
 
 impl Read for Client<'_> {
     fn read(&mut self, buf: &mut [u8]) -> io::Result<usize> {
-        let says = self.manner.says;
-        let count = says.len().min(buf.len());
+        let sends = self.manner.sends;
+        let count = sends.len().min(buf.len());
         if count == 0 {
-            self.manner.says = self.manner.goes_on;
+            self.manner.sends = self.manner.goes_on;
             return Err(io::Error::from(ErrorKind::WouldBlock));
         }
-        buf[..count].copy_from_slice(&says[..count]);
-        self.manner.says = &says[count..];
+        buf[..count].copy_from_slice(&sends[..count]);
+        self.manner.sends = &sends[count..];
         Ok(count)
     }
 }
@@ -58,7 +58,7 @@ impl Write for Client<'_> {
             buf.len()
         };
         manner.takes = manner.takes.saturating_sub(count);
-        self.told.set(self.told.get().saturating_add(count));
+        self.replied.set(self.replied.get().saturating_add(count));
         Ok(count)
     }
 
@@ -84,7 +84,7 @@ pub(crate) struct Clients<'a> {
     pub(crate) others: Manner<'a>,
     pub(crate) last: Manner<'a>,
     pub(crate) watched: usize,
-    pub(crate) told: &'a Cell<usize>,
+    pub(crate) replied: &'a Cell<usize>,
     pub(crate) rest: &'a Cell<usize>,
 }
 
@@ -106,8 +106,8 @@ impl<'a> OpenListener for Clients<'a> {
         };
         let client = Client {
             manner,
-            told: if left == self.watched {
-                self.told
+            replied: if left == self.watched {
+                self.replied
             } else {
                 self.rest
             },

@@ -65,7 +65,7 @@ fn spool_with_five(rt: &impl Abort, alloc: Global) -> MemoryDisk {
 fn texts_are_written_into_files(rt: HostRuntime) {
     let alloc = rt.alloc();
     let mut disk = spool_with_five(&rt, alloc);
-    for (folder, there, all, said, files) in EXPORTS.iter() {
+    for (folder, there, all, last_line, files) in EXPORTS.iter() {
         let _ = fs::remove_dir_all(&rt, *folder);
         fs::create_dir(&rt, *folder).expect(&rt, "a folder");
         if let Some(text) = there {
@@ -83,7 +83,7 @@ fn texts_are_written_into_files(rt: HostRuntime) {
             (there.is_some(), *there == Some("mine"))
         );
         assert!(rt; !fs::exists(&rt, left.as_str()).expect(&rt, "a look at the folder"));
-        assert_eq!(rt; lines.as_slice(), *said);
+        assert_eq!(rt; lines.as_slice(), *last_line);
         for (name, text) in files.iter() {
             let path = format!(in alloc; "{folder}/{name}").expect(&rt, "memory for a path");
             let found = fs::read(&rt, path.as_str()).expect(&rt, name);

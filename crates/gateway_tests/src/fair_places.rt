@@ -27,12 +27,12 @@ type First<'a> = (&'a [u8], &'a [u8], bool);
 
 /// Whether the last client, which sends one request, gets a reply within `turns` turns of `step` microseconds. All
 /// places are taken when it comes, by `first` and by others, which don't read their replies.
-fn is_told(rt: &impl Abort, alloc: Global, first: First, step: u64, turns: u64) -> bool {
-    let told = Cell::new(0);
+fn is_answered(rt: &impl Abort, alloc: Global, first: First, step: u64, turns: u64) -> bool {
+    let replied = Cell::new(0);
     let others = Cell::new(0);
-    let (says, goes_on, reads) = first;
+    let (sends, goes_on, reads) = first;
     let asks = Manner {
-        says: OPTIONS,
+        sends: OPTIONS,
         goes_on: b"",
         takes: 0,
         pauses: 0,
@@ -41,7 +41,7 @@ fn is_told(rt: &impl Abort, alloc: Global, first: First, step: u64, turns: u64) 
         left: Cell::new(MOST_OPEN + 1),
         all: MOST_OPEN + 1,
         first: Manner {
-            says,
+            sends,
             goes_on,
             takes: 0,
             pauses: if reads { 0 } else { u32::MAX },
@@ -52,11 +52,11 @@ fn is_told(rt: &impl Abort, alloc: Global, first: First, step: u64, turns: u64) 
         },
         last: asks,
         watched: 1,
-        told: &told,
+        replied: &replied,
         rest: &others,
     };
     served(rt, alloc, &Steps::new(step), &clients, 64, turns);
-    told.get() > 0
+    replied.get() > 0
 }
 
 const MILLIS: u64 = 1000;
@@ -94,10 +94,10 @@ static KEEPERS: [(First, u64, u64, bool); 17] = [
 
 #[test]
 fn one_that_waits_gets_the_place_of_one_that_keeps_its_own(rt: HostRuntime) {
-    for (first, step, turns, told) in KEEPERS.iter() {
+    for (first, step, turns, replied) in KEEPERS.iter() {
         assert_eq!(rt;
-            is_told(&rt, rt.alloc(), *first, *step, *turns),
-            *told,
+            is_answered(&rt, rt.alloc(), *first, *step, *turns),
+            *replied,
             "{turns}"
         );
     }

@@ -46,7 +46,7 @@ impl Story<'_> {
     /// last change that it acknowledges, or those after the next one.
     pub(crate) fn check(&self, rt: &impl Abort, disk: MemoryDisk, written: &[u8]) {
         assert!(rt; self.talk.wanted.starts_with(written));
-        let left = told(rt, self.alloc, disk);
+        let left = replied(rt, self.alloc, disk);
         let mut fits = false;
         for stage in self.talk.stages.iter() {
             let fit = stage.uploads == left;
@@ -158,7 +158,7 @@ fn put_upload_of(
 }
 
 /// The uploads on a disk in the form of `put_upload`, by their numbers. The greatest number is 2.
-pub(crate) fn told(rt: &impl Abort, alloc: Global, disk: MemoryDisk) -> Vec<u8> {
+pub(crate) fn replied(rt: &impl Abort, alloc: Global, disk: MemoryDisk) -> Vec<u8> {
     match Spool::open(alloc, disk) {
         Ok(mut spool) => {
             let mut uploads = Vec::new(alloc);

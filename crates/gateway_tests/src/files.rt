@@ -5,7 +5,7 @@ use crate::talks::Step::{Added, Deferred, Made, Open};
 use crate::talks::{Step, Talk};
 use gateway_files::{
     Failure, delete_incomplete_file, export_file, format_file, json_file, list_file, list_on,
-    open_spool, say_formatted, say_read, upgrade_file,
+    open_spool, report_formatted, report_read, upgrade_file,
 };
 use spool_disk::{Disk, FileDisk};
 use std::alloc::Global;
@@ -88,8 +88,8 @@ fn spool_is_made_used_listed_and_upgraded(rt: HostRuntime) {
     fs::write(&rt, JIS0212, "# two\n108\t02D8\n").expect(&rt, "a file");
     let made = format_file(&rt, alloc, SPOOL, 16, FOLDER).expect(&rt, "a spool");
     let mut lines = Vec::new(alloc);
-    say_formatted(&mut lines, 16, made.pages).expect(&rt, "a line");
-    say_read(&mut lines, made.files.as_slice()).expect(&rt, "lines");
+    report_formatted(&mut lines, 16, made.pages).expect(&rt, "a line");
+    report_read(&mut lines, made.files.as_slice()).expect(&rt, "lines");
     assert!(rt; lines.starts_with(FORMATTED));
     let talk = Talk::new(&rt, alloc, STEPS);
     let disk = open_spool(&rt, SPOOL).expect(&rt, "a new spool");
@@ -103,17 +103,17 @@ fn spool_is_made_used_listed_and_upgraded(rt: HostRuntime) {
     let disk = open_spool(&rt, SPOOL).expect(&rt, "an upgraded spool");
     drop(lists(&rt, alloc, disk));
     let again = upgrade_file(&rt, alloc, SPOOL);
-    let said =
+    let last_line =
         "refused: 35 AlreadyNew\ngateway_file_test/spool is of version 2: there is nothing to do";
-    fails(&rt, alloc, again, 2, said);
+    fails(&rt, alloc, again, 2, last_line);
     fs::remove_dir_all(&rt, FOLDER).expect(&rt, "a folder");
 }
 
 /// Checks that a command fails with this status and this message.
-fn fails(rt: &impl Abort, alloc: Global, ended: Result<(), Failure>, status: u8, said: &str) {
-    let failure = ended.expect_err(rt, said);
-    let told = format!(in alloc; "{failure}").expect(rt, "memory for a line");
-    assert_eq!(rt; (failure.status(), told.as_str()), (status, said));
+fn fails(rt: &impl Abort, alloc: Global, ended: Result<(), Failure>, status: u8, last_line: &str) {
+    let failure = ended.expect_err(rt, last_line);
+    let replied = format!(in alloc; "{failure}").expect(rt, "memory for a line");
+    assert_eq!(rt; (failure.status(), replied.as_str()), (status, last_line));
 }
 
 #[test]
@@ -128,9 +128,9 @@ fn spool_stays_as_it_is(rt: HostRuntime) {
     assert_eq!(rt; made.pages, 557);
     let before = fs::read(&rt, "gateway_again_test/spool").expect(&rt, "its bytes");
     let again = format_file(&rt, alloc, "gateway_again_test/spool", 32, AGAIN).map(drop);
-    let said = "refused: 13 AlreadySpool\n\
+    let last_line = "refused: 13 AlreadySpool\n\
     gateway_again_test/spool is a spool, and stays as it is: take another path, or remove it yourself";
-    fails(&rt, alloc, again, 2, said);
+    fails(&rt, alloc, again, 2, last_line);
     let index = "gateway_again_test/index-jis0212.txt";
     fs::write(&rt, index, "0\t3000\n8836\t3000\n").expect(&rt, "a file");
     let unread = format_file(&rt, alloc, "gateway_again_test/other", 16, AGAIN).map(drop);
@@ -151,17 +151,17 @@ fn spool_stays_as_it_is(rt: HostRuntime) {
 fn failure_says_what_the_system_said(rt: HostRuntime) {
     let alloc = rt.alloc();
     let lost = open_spool(&rt, "no_such_folder/spool").map(drop);
-    let said = "refused: 39 CannotOpen\n\
+    let last_line = "refused: 39 CannotOpen\n\
     cannot open the spool no_such_folder/spool: No such file or directory (os error 2)";
-    fails(&rt, alloc, lost, 2, said);
+    fails(&rt, alloc, lost, 2, last_line);
     let unmade = format_file(&rt, alloc, "gateway_unmade_test", 16, "no_such_folder").map(drop);
-    let said = "refused: 33 Io\n\
+    let last_line = "refused: 33 Io\n\
     cannot look into the folder no_such_folder: No such file or directory (os error 2)";
-    fails(&rt, alloc, unmade, 2, said);
+    fails(&rt, alloc, unmade, 2, last_line);
     assert!(rt; !fs::exists(&rt, "gateway_unmade_test").expect(&rt, "a folder"));
     let used = FileDisk::create(&rt, "gateway_used_test", 4).expect(&rt, "a file");
     let twice = open_spool(&rt, "gateway_used_test").map(drop);
-    let said = "refused: 38 InUse\n\
+    let last_line = "refused: 38 InUse\n\
     gateway_used_test is in use: stop the gateway that serves it";
     for ended in [
         open_spool(&rt, "gateway_used_test").map(drop),
@@ -171,7 +171,7 @@ fn failure_says_what_the_system_said(rt: HostRuntime) {
         delete_incomplete_file(&rt, alloc, "gateway_used_test", true),
         json_file(&rt, alloc, "gateway_used_test"),
     ] {
-        fails(&rt, alloc, ended, 2, said);
+        fails(&rt, alloc, ended, 2, last_line);
     }
     drop(used);
     fs::remove_file(&rt, "gateway_used_test").expect(&rt, "a file");

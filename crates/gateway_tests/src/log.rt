@@ -11,14 +11,14 @@ use std::time::{Clock, Duration};
 /// A stream that gives the bytes in a cell, and accepts everything.
 #[derive(Drop)]
 struct Wire<'a> {
-    says: &'a Cell<&'static [u8]>,
+    sends: &'a Cell<&'static [u8]>,
 }
 
 impl Read for Wire<'_> {
     fn read(&mut self, buf: &mut [u8]) -> io::Result<usize> {
-        let says = self.says.get();
-        let count = says.len().min(buf.len());
-        buf[..count].copy_from_slice(&says[..count]);
+        let sends = self.sends.get();
+        let count = sends.len().min(buf.len());
+        buf[..count].copy_from_slice(&sends[..count]);
         Ok(count)
     }
 }
@@ -36,14 +36,14 @@ impl Write for Wire<'_> {
 /// A listener whose connections all come from port 7.
 #[derive(Drop)]
 struct Door<'a> {
-    says: &'a Cell<&'static [u8]>,
+    sends: &'a Cell<&'static [u8]>,
 }
 
 impl<'a> OpenListener for Door<'a> {
     type Stream = Wire<'a>;
 
     fn accept(&self) -> io::Result<(Wire<'a>, SocketAddr)> {
-        let wire = Wire { says: self.says };
+        let wire = Wire { sends: self.sends };
         Ok((wire, SocketAddr::from((Ipv4Addr::LOCALHOST, 7))))
     }
 }
@@ -187,13 +187,13 @@ const TALKS: [(&[Passes], &str); 8] = [
 /// Reads what a client sends, in pieces of `size` bytes.
 fn reads<'s, R: Read>(
     rt: &impl Abort,
-    says: &Cell<&'s [u8]>,
+    sends: &Cell<&'s [u8]>,
     stream: &mut R,
     bytes: &'s [u8],
     size: usize,
 ) {
     for piece in bytes.chunks(size.max(1)) {
-        says.set(piece);
+        sends.set(piece);
         let mut buf = [0; 512];
         let count = stream.read(&mut buf).expect(rt, "bytes");
         assert_eq!(rt; buf.get(..count), Some(piece));
@@ -211,7 +211,7 @@ fn writes<W: Write>(rt: &impl Abort, stream: &mut W, bytes: &[u8], size: usize) 
 /// The log of one connection over which `talk` passes in pieces of `size` bytes.
 fn logged(rt: &impl Abort, alloc: Global, talk: &[Passes], size: usize) -> Vec<u8> {
     let written = Cell::new(Vec::new(alloc));
-    let says: Cell<&'static [u8]> = Cell::new(b"");
+    let sends: Cell<&'static [u8]> = Cell::new(b"");
     let clock = Millis { now: Cell::new(0) };
     let log = Log::new(
         alloc,
@@ -221,12 +221,12 @@ fn logged(rt: &impl Abort, alloc: Global, talk: &[Passes], size: usize) -> Vec<u
             written: &written,
         },
     );
-    let door = Door { says: &says };
+    let door = Door { sends: &sends };
     let listener = Logged::new(&door, &log);
     let (mut stream, _) = listener.accept().expect(rt, "a stream");
     for passes in talk {
         match *passes {
-            Passes::In(bytes) => reads(rt, &says, &mut stream, bytes, size),
+            Passes::In(bytes) => reads(rt, &sends, &mut stream, bytes, size),
             Passes::Out(bytes) => writes(rt, &mut stream, bytes, size),
         }
     }
@@ -260,7 +260,7 @@ fn lines_of_a_log(rt: HostRuntime) {
 fn stock_is_shown_in_the_line_of_a_minute(rt: HostRuntime) {
     let alloc = rt.alloc();
     let written = Cell::new(Vec::new(alloc));
-    let says: Cell<&'static [u8]> = Cell::new(b"");
+    let sends: Cell<&'static [u8]> = Cell::new(b"");
     let clock = Millis { now: Cell::new(0) };
     let log = Log::new(
         alloc,
@@ -270,7 +270,7 @@ fn stock_is_shown_in_the_line_of_a_minute(rt: HostRuntime) {
             written: &written,
         },
     );
-    let door = Door { says: &says };
+    let door = Door { sends: &sends };
     let listener = Logged::new(&door, &log);
     let (mut stream, _) = listener.accept().expect(&rt, "a stream");
     assert!(rt; log.wants_stock());
@@ -283,7 +283,7 @@ fn stock_is_shown_in_the_line_of_a_minute(rt: HostRuntime) {
     clock.now.set(5000);
     assert!(rt; log.wants_stock());
     let head = b"PATCH /files/1 HTTP/1.1\r\nUpload-Offset: 0\r\nContent-Length: 3\r\n\r\n";
-    reads(&rt, &says, &mut stream, head, 512);
+    reads(&rt, &sends, &mut stream, head, 512);
     log.end();
     drop(stream);
     let wanted =

@@ -1,6 +1,6 @@
 //! The gateway's command lines.
 
-use gateway_orders::{USAGE, read_order, say_usage};
+use gateway_orders::{USAGE, read_order, report_usage};
 use std::alloc::Global;
 use std::process::Abort;
 
@@ -188,7 +188,7 @@ fn read(rt: &impl Abort, alloc: Global, words: &[String]) -> String {
     };
     let mut out = Vec::new(alloc);
     let mut err = Vec::new(alloc);
-    let kind = match say_usage(&error, &mut out, &mut err).expect(rt, "lines") {
+    let kind = match report_usage(&error, &mut out, &mut err).expect(rt, "lines") {
         0 => "help",
         USAGE => "usage",
         _ => "",
@@ -207,25 +207,25 @@ fn message(rt: &impl Abort, alloc: Global, words: &[String]) -> String {
     };
     let mut out = Vec::new(alloc);
     let mut err = Vec::new(alloc);
-    say_usage(&error, &mut out, &mut err).expect(rt, "lines");
+    report_usage(&error, &mut out, &mut err).expect(rt, "lines");
     String::from_utf8(err).expect(rt, "text")
 }
 
 #[test]
 fn command_lines(rt: HostRuntime) {
-    for (line, told) in LINES.iter() {
+    for (line, replied) in LINES.iter() {
         let words = words_of(&rt, rt.alloc(), line);
-        assert_eq!(rt; read(&rt, rt.alloc(), &words).as_str(), *told, "{line}");
+        assert_eq!(rt; read(&rt, rt.alloc(), &words).as_str(), *replied, "{line}");
     }
 }
 
 #[test]
 fn messages(rt: HostRuntime) {
-    for (line, told) in MESSAGES.iter() {
+    for (line, replied) in MESSAGES.iter() {
         let words = words_of(&rt, rt.alloc(), line);
         let message = message(&rt, rt.alloc(), &words);
         assert!(rt;
-            message.split('\n').any(|found| found == *told),
+            message.split('\n').any(|found| found == *replied),
             "{line}: {message}"
         );
     }

@@ -5,7 +5,7 @@ use crate::spools::ends;
 use crate::stories::{BLOCK, FIFTEEN_BLOCKS, FREED, FULL_SPOOL, HELLO, LONG_TEXT, ONE_WINNER};
 use crate::talks::Step::{
     self, Added, Bytes, Came, Declare, Deferred, Deleted, Gone, Line, Made, Open, Patch, Patched,
-    Post, Refused, Replied, Reply, Say, Shown, Text, Told,
+    Post, Refused, Replied, Reply, Say, Shown, Text, Written,
 };
 use crate::talks::{Files, Talk, fresh, with_files};
 use common::{MOST_LENGTH, SLOTS};
@@ -60,11 +60,11 @@ const OPTIONS: &[Step] = &[
     ),
     Reply(1, "204 No Content", MAX_AND_CLOSE, b""),
     Bytes(198),
-    Told("x 1"),
+    Written("x 1"),
     Say(2, "OPTIONS /files HTTP/1.0\nTus-Resumable: 0.2.2"),
     Reply(2, "204 No Content", MAX_AND_CLOSE, b""),
     Bytes(198),
-    Told("x 2"),
+    Written("x 2"),
 ];
 
 /// Characters in UTF-8 that are cut: between two requests, by the end of the text, and by another byte.
@@ -223,7 +223,7 @@ const WAITERS: &[Step] = &[
     Open(1),
     Made(1, 5, ""),
     Say(1, WAITING),
-    Told("< 1 25\nHTTP/1.1 100 Continue\r\n\r\n"),
+    Written("< 1 25\nHTTP/1.1 100 Continue\r\n\r\n"),
     Came(1, b"he"),
     Patched(1, 2),
     Say(1, WAITING),
@@ -233,11 +233,11 @@ const WAITERS: &[Step] = &[
         "X-Refusal: 9\nContent-Length: 0\nConnection: close",
         b"",
     ),
-    Told("x 1"),
+    Written("x 1"),
 ];
 
 /// A connection that is open can't be opened again.
-const OPENED_TWICE: &[Step] = &[Line("open 3"), Line("open 3"), Told("! 3 29")];
+const OPENED_TWICE: &[Step] = &[Line("open 3"), Line("open 3"), Written("! 3 29")];
 
 /// A head that is too long, and one that isn't HTTP.
 const NO_HEADS: &[Step] = &[
@@ -249,7 +249,7 @@ const NO_HEADS: &[Step] = &[
         "X-Refusal: 19\nContent-Length: 0\nConnection: close",
         b"",
     ),
-    Told("x 1"),
+    Written("x 1"),
     Say(2, "BAD"),
     Reply(
         2,
@@ -258,7 +258,7 @@ const NO_HEADS: &[Step] = &[
         b"",
     ),
     Bytes(128),
-    Told("x 2"),
+    Written("x 2"),
 ];
 
 /// After `HELLO`: HEAD inside a POST, by `X-HTTP-Method-Override`.
@@ -488,7 +488,7 @@ fn blocks(rt: HostRuntime) {
 
 #[test]
 fn line_that_is_none_ends_a_script(rt: HostRuntime) {
-    let steps = [Line("came 4 00"), Line("opne 1"), Told("! 4 30")];
+    let steps = [Line("came 4 00"), Line("opne 1"), Written("! 4 30")];
     let talk = Talk::new(&rt, rt.alloc(), &steps);
     let disk = fresh(&rt, rt.alloc(), 32, None);
     let refused = Some(RunFault::Script(ScriptFault::Script(2)));

@@ -51,12 +51,12 @@ fn listen<R: Abort + Net<Listener = TcpListener, Stream = TcpStream>>(rt: &R) ->
 fn stays<R: Abort + Net<Listener = TcpListener, Stream = TcpStream>>(
     rt: &R,
     listener: &TcpListener,
-    says: &[u8],
+    sends: &[u8],
 ) -> TcpStream {
     let address = listener.local_addr().expect(rt, "an address");
     let mut stream = TcpStream::connect(rt, address).expect(rt, "a connection");
     stream
-        .write_all(says)
+        .write_all(sends)
         .expect(rt, "a socket that takes bytes");
     stream
 }
@@ -65,9 +65,9 @@ fn stays<R: Abort + Net<Listener = TcpListener, Stream = TcpStream>>(
 fn client<R: Abort + Net<Listener = TcpListener, Stream = TcpStream>>(
     rt: &R,
     listener: &TcpListener,
-    says: &[u8],
+    sends: &[u8],
 ) -> TcpStream {
-    let stream = stays(rt, listener, says);
+    let stream = stays(rt, listener, sends);
     stream
         .shutdown(Shutdown::Write)
         .expect(rt, "an open socket");
@@ -75,7 +75,7 @@ fn client<R: Abort + Net<Listener = TcpListener, Stream = TcpStream>>(
 }
 
 /// Checks that a client receives exactly these bytes before the end of its stream.
-fn is_told(rt: &impl Abort, alloc: Global, client: &mut TcpStream, wanted: &[u8]) {
+fn is_answered(rt: &impl Abort, alloc: Global, client: &mut TcpStream, wanted: &[u8]) {
     let mut bytes = Vec::new(alloc);
     client
         .read_to_end(&mut bytes)
@@ -124,8 +124,8 @@ fn two_clients_are_served(rt: HostRuntime) {
     let disk = fresh(&rt, alloc, 16, None);
     let (_disk, well) = served(&rt, alloc, &listener, disk, 2);
     assert!(rt; well);
-    is_told(&rt, alloc, &mut first, &replies(&rt, alloc, MADE_FIRST));
-    is_told(&rt, alloc, &mut second, &replies(&rt, alloc, MADE_SECOND));
+    is_answered(&rt, alloc, &mut first, &replies(&rt, alloc, MADE_FIRST));
+    is_answered(&rt, alloc, &mut second, &replies(&rt, alloc, MADE_SECOND));
 }
 
 #[test]
@@ -137,10 +137,10 @@ fn cut_body_counts_up_to_the_cut_and_a_close_is_told(rt: HostRuntime) {
     let disk = serve(&rt, alloc, &listener, disk);
     let mut later = client(&rt, &listener, HEAD);
     let disk = serve(&rt, alloc, &listener, disk);
-    is_told(&rt, alloc, &mut later, &replies(&rt, alloc, FOUR_OF_TEN));
+    is_answered(&rt, alloc, &mut later, &replies(&rt, alloc, FOUR_OF_TEN));
     let mut lost = stays(&rt, &listener, NOT_HTTP);
     drop(serve(&rt, alloc, &listener, disk));
-    is_told(&rt, alloc, &mut lost, MALFORMED);
+    is_answered(&rt, alloc, &mut lost, MALFORMED);
 }
 
 /// The disk fails at the first call after the spool is open, and the client gets no reply.
@@ -153,5 +153,5 @@ fn nothing_is_told_after_a_disk_fault(rt: HostRuntime) {
     let disk = FuseDisk::new(fresh(&rt, alloc, 16, None), calls);
     let (_disk, well) = served(&rt, alloc, &listener, disk, 1);
     assert!(rt; !well);
-    is_told(&rt, alloc, &mut client, b"");
+    is_answered(&rt, alloc, &mut client, b"");
 }

@@ -22,14 +22,14 @@ const SECOND: u64 = 1_000_000;
 /// `others`.
 fn comers<'a>(
     count: usize,
-    says: &'a [u8],
+    sends: &'a [u8],
     others: &'a [u8],
     pauses: u32,
-    told: &'a Cell<usize>,
+    replied: &'a Cell<usize>,
     rest: &'a Cell<usize>,
 ) -> Clients<'a> {
     let reads = Manner {
-        says: others,
+        sends: others,
         goes_on: others,
         takes: 10,
         pauses: 0,
@@ -38,34 +38,34 @@ fn comers<'a>(
         left: Cell::new(count),
         all: count,
         first: Manner {
-            says,
+            sends,
             pauses,
             ..reads
         },
         others: reads,
         last: reads,
         watched: count,
-        told,
+        replied,
         rest,
     }
 }
 
 /// How many bytes the first client gets if it pauses for `pauses` writes. There are at most 120 turns of a second each,
 /// and other clients have all other places.
-fn told(rt: &impl Abort, alloc: Global, pauses: u32) -> usize {
-    let told = Cell::new(0);
+fn replied(rt: &impl Abort, alloc: Global, pauses: u32) -> usize {
+    let replied = Cell::new(0);
     let others = Cell::new(0);
-    let clients = comers(MOST_OPEN, SAYS, b"", pauses, &told, &others);
+    let clients = comers(MOST_OPEN, SAYS, b"", pauses, &replied, &others);
     let closed = served(rt, alloc, &Steps::new(SECOND), &clients, 16, 120);
     assert_eq!(rt; (closed, others.get()), (MOST_OPEN as u64, 0));
-    told.get()
+    replied.get()
 }
 
 #[test]
 fn replies_under_way_are_kept_for_a_minute_where_all_places_are_taken(rt: HostRuntime) {
     let alloc = rt.alloc();
-    assert_eq!(rt; told(&rt, alloc, 5), replies(&rt, alloc, TOLD).len());
-    assert_eq!(rt; told(&rt, alloc, 100), 10);
+    assert_eq!(rt; replied(&rt, alloc, 5), replies(&rt, alloc, TOLD).len());
+    assert_eq!(rt; replied(&rt, alloc, 100), 10);
 }
 
 /// Each row: how many clients connect, how many microseconds a turn takes, how many turns there are, how often the
@@ -83,9 +83,9 @@ const IDLE: [(usize, u64, u64, u32, u64); 6] = [
 #[test]
 fn idle_server_rests(rt: HostRuntime) {
     for (count, step, turns, rests, nanos) in IDLE {
-        let told = Cell::new(0);
+        let replied = Cell::new(0);
         let rest = Cell::new(0);
-        let clients = comers(count, b"", b"", 0, &told, &rest);
+        let clients = comers(count, b"", b"", 0, &replied, &rest);
         let clock = Steps::new(step);
         served(&rt, rt.alloc(), &clock, &clients, 16, turns);
         assert_eq!(rt;

@@ -1,6 +1,6 @@
 //! Runs whose script reader or output writer is slow or fails, and the uploads after them.
 
-use crate::faults::{Story, hello, told};
+use crate::faults::{Story, hello, replied};
 use crate::spools::ran_between;
 use crate::stories::HELLO;
 use crate::talks::Talk;
@@ -116,7 +116,7 @@ fn read_fails(rt: &impl Abort, story: &Story<'_>, calls: usize) -> bool {
         "at {calls}"
     );
     assert!(rt; written.is_empty(), "at {calls}");
-    assert!(rt; told(rt, story.alloc, disk).is_empty(), "at {calls}");
+    assert!(rt; replied(rt, story.alloc, disk).is_empty(), "at {calls}");
     true
 }
 

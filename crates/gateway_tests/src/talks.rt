@@ -19,7 +19,7 @@ pub(crate) enum Step<'a> {
     /// Bytes that are received on a connection.
     Came(u32, &'a [u8]),
     /// A wanted line of the output.
-    Told(&'a str),
+    Written(&'a str),
     /// Bytes that must be sent on a connection.
     Given(u32, &'a [u8]),
     /// A reply on a connection.
@@ -130,7 +130,7 @@ impl Talk {
             Step::Line(text) => self.line(rt, text),
             Step::Say(conn, head) => self.say(rt, conn, head),
             Step::Came(conn, bytes) => self.came(rt, conn, bytes),
-            Step::Told(text) => self.told(rt, text),
+            Step::Written(text) => self.shows_line(rt, text),
             Step::Given(conn, bytes) => self.given(rt, conn, bytes),
             Step::Replied(conn, reply) => self.replied(rt, conn, reply),
             Step::Reply(conn, status, lines, body) => self.reply(rt, conn, status, lines, body),
@@ -178,7 +178,7 @@ impl Talk {
         put(rt, &mut self.script, b"\n");
     }
 
-    fn told(&mut self, rt: &impl Abort, text: &str) {
+    fn shows_line(&mut self, rt: &impl Abort, text: &str) {
         put(rt, &mut self.wanted, text.as_bytes());
         put(rt, &mut self.wanted, b"\n");
     }
@@ -212,12 +212,12 @@ impl Talk {
 
     fn given(&mut self, rt: &impl Abort, conn: u32, bytes: &[u8]) {
         let count = bytes.len();
-        self.told(
+        self.shows_line(
             rt,
             &format!(in self.alloc; "< {conn} {count}").expect(rt, MEMORY),
         );
         put(rt, &mut self.wanted, bytes);
-        self.told(rt, "");
+        self.shows_line(rt, "");
     }
 
     fn replied(&mut self, rt: &impl Abort, conn: u32, reply: Wanted) {

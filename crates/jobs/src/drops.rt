@@ -17,7 +17,7 @@ const BLOCKS: u32 = 16_384;
 
 const SAMPLE: usize = 131_072;
 // How many uploads lie in the spool at a time, and the connections that are used by turns.
-const KEPT: u64 = 200;
+const MOST_UPLOADS: u64 = 200;
 
 const CONNECTIONS: usize = 15;
 
@@ -118,8 +118,8 @@ impl Sender {
     // Reads a text back, and deletes one that was read before.
     fn read(&mut self, server: &mut Server, number: u64) -> Result<(), Fault> {
         server.send(self.conn, self.heads.ask("GET", number)?)?;
-        if number > KEPT {
-            server.send(self.conn, self.heads.ask("DELETE", number - KEPT)?)?;
+        if number > MOST_UPLOADS {
+            server.send(self.conn, self.heads.ask("DELETE", number - MOST_UPLOADS)?)?;
         }
         server.lose(self.conn)
     }

@@ -17,7 +17,7 @@ const SAMPLE: usize = 262_144;
 // How many connections the importers have, and how many mails lie in the spool at a time.
 const CONNECTIONS: usize = 6;
 
-const KEPT: u64 = 500;
+const MOST_UPLOADS: u64 = 500;
 
 /// An importer on its connection.
 #[derive(Drop)]
@@ -66,8 +66,8 @@ fn import(
             samples.get(kind),
         ) {
             importer.import(server, *tongue, sample, number, random)?;
-            if number > KEPT {
-                importer.delete(server, number - KEPT)?;
+            if number > MOST_UPLOADS {
+                importer.delete(server, number - MOST_UPLOADS)?;
             }
         }
     }

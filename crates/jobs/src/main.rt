@@ -35,8 +35,8 @@ fn main(rt: HostRuntime) -> ExitCode {
         Ok(()) => ExitCode::SUCCESS,
         Err(fault) => {
             // If standard error fails too, only the exit status reports the fault.
-            let told = eprintln!(rt; "jobs: {fault}");
-            drop(told);
+            let reported = eprintln!(rt; "jobs: {fault}");
+            drop(reported);
             ExitCode::FAILURE
         }
     }

@@ -70,7 +70,7 @@ impl Disk for RamDisk {
 
     ghost reads = { reads_of };
 
-    ghost tells = { λ failed old new. failed → ⊥ };
+    ghost fails_by = { λ failed old new. failed → ⊥ };
 
     ghost counts_now = { λ d t image le now. now };
 

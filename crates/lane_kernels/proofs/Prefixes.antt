@@ -171,9 +171,9 @@ on_true_at true P e p = p
 on_true_at false P e p = absurd (true≢false (sym e))
 
 -- the ASCII before the first lane that isn't
-pub lanes_front : (bytes : List ℕ) (n : ℕ) → n ≡ prefix_len is_ascii (take 32 bytes)
+pub lanes_prefix : (bytes : List ℕ) (n : ℕ) → n ≡ prefix_len is_ascii (take 32 bytes)
     → (n ≤ 32) × All (λ b. b < 128) (take n bytes)
-lanes_front bytes n e =
+lanes_prefix bytes n e =
     let lanes = take 32 bytes in
     let short : n ≤ 32 = let w = prefix_len-le-length is_ascii lanes in let l = length-take 32 bytes in
     omega (arith, e, w, l) in (

@@ -1,7 +1,7 @@
 -- The handler of UTF-16 on one byte, restored bytes read again.
 use Rattle.std.proofs.Common.{◌≡◌, ◌↔◌, ℕ, Bool, false, [], ◌∷◌, ◌++◌, Option, Some, None, IsTrue, ◌∙◌, arith}
 use Rattle.std.proofs.lemmas.Grind.{common_steps}
-use Rattle.enc_model.specs.Stream.{steps, byte_of}
+use Rattle.enc_model.specs.Stream.{steps, byte_run}
 use Rattle.enc_model.specs.declared.Answer.TheVariants.{Error}
 use Rattle.enc_model.specs.Utf16.{utf16, unit_of}
 use Rattle.enc_model.proofs.Calm.{utf16_calm}
@@ -17,7 +17,7 @@ unfolding utf16
 first_byte big lead byte = steps_one (utf16 big) (utf16_calm big) (record { byte = None; lead = lead }) byte
 
 second_run : (big : Bool) (lead : Option ℕ) (first second : ℕ) →
-    byte_of (utf16 big) (record { byte = Some first; lead = lead }) second
+    byte_run (utf16 big) (record { byte = Some first; lead = lead }) second
     ≡ (let unit = unit_of big first second in
     record {
       text = fault_text (unit_fault lead unit) ++ scalar_text (unit_scalar lead unit);

@@ -3,7 +3,7 @@ use Rattle.std.proofs.Common.{◌≡◌, ℕ, suc, ◌+◌, ◌-◌, ◌<◌, Bo
 use Rattle.std.proofs.Common.{length, get_or, refl, ap, ap₂, sym, ◌∙◌, arith}
 use Rattle.std.proofs.lemmas.Grind.{common_steps}
 use Rattle.std.specs.Option.{is_some}
-use Rattle.enc_model.specs.Stream.{Run, after, steps}
+use Rattle.enc_model.specs.Stream.{DecoderRun, text_then, steps}
 use Rattle.enc_model.specs.Utf16.{Utf16, utf16, unit_of}
 use Rattle.enc_model.proofs.Calm.{utf16_calm}
 use Rattle.enc_model.proofs.Steps.{steps_none, steps_append}
@@ -22,7 +22,7 @@ abbrev lead_after : Option ℕ → List ℕ → Option ℕ
 lead_after carried [] = carried
 lead_after carried (unit ∷ units) = lead_after (lead_of unit) units
 
-abbrev walked : Bool → Option ℕ → List ℕ → Run Utf16
+abbrev walked : Bool → Option ℕ → List ℕ → DecoderRun Utf16
 walked big lead bytes = record {
   text = units_text lead (units_of big bytes);
   state = record {
@@ -38,7 +38,7 @@ one_on : (big : Bool) (lead : Option ℕ) (a : ℕ) (bytes : List ℕ) → steps
     (a ∷ bytes) ≡ steps (utf16 big) false (at (Some a) lead) bytes
 one_on big lead a bytes =
     steps_append (utf16 big) (utf16_calm big) false (at None lead) (a ∷ []) bytes
-    ∙ ap (λ r. after r.text (steps (utf16 big) false r.state bytes)) (first_byte big lead a)
+    ∙ ap (λ r. text_then r.text (steps (utf16 big) false r.state bytes)) (first_byte big lead a)
 
 walk : (big : Bool) (lead : Option ℕ) (bytes : List ℕ) → steps (utf16 big) false (at None lead) bytes ≡ walked big lead
     bytes
@@ -48,8 +48,8 @@ walk big lead (a ∷ b ∷ bytes) =
     let unit = unit_of big a b in
     one_on big lead a (b ∷ bytes)
     ∙ steps_append (utf16 big) (utf16_calm big) false (at (Some a) lead) (b ∷ []) bytes
-    ∙ ap (λ r. after r.text (steps (utf16 big) false r.state bytes)) (second_byte big lead a b)
-    ∙ ap (after (fault_text (unit_fault lead unit) ++ scalar_text (unit_scalar lead unit)))
+    ∙ ap (λ r. text_then r.text (steps (utf16 big) false r.state bytes)) (second_byte big lead a b)
+    ∙ ap (text_then (fault_text (unit_fault lead unit) ++ scalar_text (unit_scalar lead unit)))
     (walk big (lead_of unit) bytes)
 
 walk_on : (big : Bool) (byte lead : Option ℕ) (bytes : List ℕ) → steps (utf16 big) false (at byte lead) bytes ≡ walked

@@ -19,14 +19,14 @@ written_more new old at inside room =
     ap (λ rest. set (take at new ++ rest) at x) first
     ∙ set_at (take at new) (get_or old at 0) (drop (at + 1) old) x at long
     ∙ sym (append_assoc (take at new) (x ∷ []) (drop (at + 1) old))
-    ∙ ap (λ front. front ++ drop (at + 1) old) (sym (take_more new at 0 inside))
+    ∙ ap (λ prefix. prefix ++ drop (at + 1) old) (sym (take_more new at 0 inside))
 
 take_chunk : (xs : List ℕ) (at n : ℕ) → take at xs ++ chunk at n xs ≡ take (at + n) xs
 take_chunk xs at n =
-    let front = take (at + n) xs in
+    let prefix = take (at + n) xs in
     ap (λ z. z ++ chunk at n xs) (sym (take-take at (at + n) xs (omega arith)))
-    ∙ ap (λ z. take at front ++ z) (sym (drop-take at n xs))
-    ∙ take-append-drop at front
+    ∙ ap (λ z. take at prefix ++ z) (sym (drop-take at n xs))
+    ∙ take-append-drop at prefix
 
 -- a chunk more
 pub written_chunk : (new old : List ℕ) (at n : ℕ) → at + n ≤ length new → at + n ≤ length old →
@@ -47,6 +47,6 @@ written_chunk new old at n inside room =
     ∙ ap (λ z. z ++ drop (at + n) old) (take_chunk new at n)
 
 -- what lies after is the old list's
-pub rest_kept : (new old : List ℕ) (at n : ℕ) → at ≤ length new → at ≤ n
+pub rest_unchanged : (new old : List ℕ) (at n : ℕ) → at ≤ length new → at ≤ n
     → drop n (take at new ++ drop at old) ≡ drop n old
-rest_kept new old at n inside further = drop-append-drop at old (take at new) n further (length-take-le at new inside)
+rest_unchanged new old at n inside further = drop-append-drop at old (take at new) n further (length-take-le at new inside)

@@ -24,13 +24,13 @@ unit_fault None unit = is_trail unit
 unit_fault (Some lead) unit = not (is_trail unit)
 
 -- The scalar of a pair.
-abbrev pub pair_of : Option ℕ → ℕ → Option ℕ
-pair_of None trail = None
-pair_of (Some lead) trail = Some (0x10000 + (lead - 0xD800) * 0x400 + (trail - 0xDC00))
+abbrev pub scalar_of_pair : Option ℕ → ℕ → Option ℕ
+scalar_of_pair None trail = None
+scalar_of_pair (Some lead) trail = Some (0x10000 + (lead - 0xD800) * 0x400 + (trail - 0xDC00))
 
 -- The scalar that the unit completes.
 abbrev pub unit_scalar : Option ℕ → ℕ → Option ℕ
-unit_scalar carried unit = if is_lead unit then None else if is_trail unit then pair_of carried unit else Some unit
+unit_scalar carried unit = if is_lead unit then None else if is_trail unit then scalar_of_pair carried unit else Some unit
 
 -- The scalars of units after a carried lead or none: one for each pair, and one for each unit that isn't a surrogate.
 abbrev pub scalars_of : Option ℕ → List ℕ → List ℕ

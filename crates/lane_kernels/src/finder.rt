@@ -2,8 +2,8 @@
 
 ghost use Rattle.std.specs.Prelude.{◌≤◌, length};
 
-use crate::front::ascii_lanes;
 use crate::lanes::LANES;
+use crate::prefix::ascii_lanes;
 use enc_feed::AsciiFinder;
 use std::simd::prelude::*;
 

@@ -3,20 +3,20 @@
 #![tactic(auto)]
 
 mod finder;
-mod front;
 mod lanes;
 mod laws;
 mod narrowing;
 mod order;
 mod pairing;
+mod prefix;
 mod units;
 
 pub use finder::AsciiLanes;
-pub use front::{
-    ascii_chunk, ascii_front, ascii_lanes, plain_chunk_2022, plain_front_2022, range_front,
-};
 pub use laws::paired_units_decode;
 pub use narrowing::narrow;
 pub use order::Order;
 pub use pairing::{Pairing, Step};
-pub use units::{lead_in, low_first, mask_within, paired, scalar_front, turned_round, unit_in};
+pub use prefix::{
+    ascii_chunk, ascii_lanes, ascii_prefix, plain_chunk_2022, plain_prefix_2022, range_prefix,
+};
+pub use units::{lead_in, low_first, mask_within, paired, scalar_prefix, turned_round, unit_in};

@@ -44,7 +44,7 @@ fn write_lanes(units: &[u16], out: &mut [u8], at: usize)
 /// lanes.
 #[inline(never)]
 fn narrow_by_units(units: &[u16], out: &mut [u8], at: usize) -> usize
-    requires front { at ≤ prefix_len is_ascii units.now }
+    requires prefix { at ≤ prefix_len is_ascii units.now }
     requires room { at ≤ length out.old }
     requires written { take at out.old ≡ take at units.now }
     ensures length { result ≡ min (prefix_len is_ascii units.now) (length out.old) }

@@ -86,7 +86,7 @@ impl Pairing {
               lead =
                   last_lead (units_of (is_big order) (with_carried self.old.byte bytes.now));
             }) }
-        ensures kept { OnFalse result (self.new ≡ self.old) }
+        ensures unchanged { OnFalse result (self.new ≡ self.old) }
     {
         let lanes = units_after(order, self.odd, bytes);
         *units = lanes.to_array();

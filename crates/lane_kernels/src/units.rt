@@ -121,7 +121,7 @@ pub fn mask_within(units: u16x32, lowest: u16, highest: u16) -> u64
 /// How many units precede the first surrogate.
 #[inline(always)]
 #[tactic(auto, using(std::proofs::lemmas::Simd::first_set_mask_l))]
-pub fn scalar_front(units: &[u16; 32]) -> usize
+pub fn scalar_prefix(units: &[u16; 32]) -> usize
     ensures { result ≡ prefix_len is_scalar_unit units.now }
 {
     first_set(

@@ -5,8 +5,8 @@ use Rattle.std.proofs.lemmas.Bool.{cases_eq}
 use Rattle.std.proofs.lemmas.List.{get_or_read}
 use Rattle.std.proofs.lemmas.Option.{none-some}
 use Rattle.common.specs.declared.limits.TheConstants.{MOST_BLOCKS, SLOTS}
-use Rattle.spool_blocks.specs.Blocks.{Row, IsWhole, slot_count}
-use Rattle.spool_blocks.specs.Chains.{Owns, rank, Reaches, Links, Linked, ListedFrom, links_left}
+use Rattle.spool_blocks.specs.Blocks.{Row, IsWholeText, slot_count}
+use Rattle.spool_blocks.specs.Chains.{Owns, rank, ReachesBlock, Links, Linked, ListedFrom, links_left}
 use Rattle.spool_blocks.proofs.Counts.{within}
 use Rattle.spool_blocks.proofs.Links.{lower}
 
@@ -27,7 +27,7 @@ module _ {rows : List Row} {below : List (Option ℕ)} {slot block : ℕ} {list 
     each = λ b i own. ⊎_elim
         (λ (e : b ≡ block). inr (λ lt whole. grind (arith, placed slot i)))
         (λ (ne : b ≡ block → ⊥). ⊎_elim
-        (λ (r : Reaches rows slot (Some block) b i).
+        (λ (r : ReachesBlock rows slot (Some block) b i).
         let top : rank b i ≤ rank block held.0 = grind (arith, r.least, r.owned, r.is, held.1) in
         let on = links.next slot block held.0 b i held.1 own
         (lower rows block b held.0 i few block_in (within rows b (slot, i) own) ne top) in
@@ -43,7 +43,7 @@ module _ {rows : List Row} {below : List (Option ℕ)} {slot block : ℕ} {list 
   fewer_links (Some t) link = let low = links.down slot block held.0 t held.1 (sym link) in grind (arith, held.1)
 
 pub all_listed : {rows : List Row} {slot : ℕ} {list : List ℕ} → ListedFrom rows slot None list → (b i : ℕ)
-    → Owns rows b slot i → i < length list → IsWhole slot rows → get_or list i 0 ≡ b
+    → Owns rows b slot i → i < length list → IsWholeText slot rows → get_or list i 0 ≡ b
 all_listed from b i own lt whole =
     ⊎_elim (λ r. absurd (none-some r.top r.is)) (λ done. done lt whole) (from.each b i own)
 
@@ -62,8 +62,8 @@ none_listed {tops = tops} linked rows' same slot next list lt is =
 -- where the slot's ordinals are whole, the list has at each its block
 pub listed_whole : (rows rows' : List Row) (slot : ℕ) (list : List ℕ) → rows' ≡ rows
     → length list ≡ slot_count slot rows
-    → ((b i : ℕ) → Owns rows' b slot i → i < length list → IsWhole slot rows' → get_or list i 0 ≡ b)
-    → (i : ℕ) → i < length list → IsWhole slot rows → Owns rows (get_or list i 0) slot i
+    → ((b i : ℕ) → Owns rows' b slot i → i < length list → IsWholeText slot rows' → get_or list i 0 ≡ b)
+    → (i : ℕ) → i < length list → IsWholeText slot rows → Owns rows (get_or list i 0) slot i
 listed_whole rows rows' slot list same size listed i lt whole =
     let held = whole.there i (omega (arith, lt, size)) in
     let all = rw same at listed in

@@ -3,7 +3,7 @@ use Rattle.std.proofs.Common.{◌≡◌, ℕ, zero, suc, ◌+◌, ◌<◌, List,
 use Rattle.std.proofs.Common.{slice_set, refl, arith, ◌==◌, if◌then◌else◌}
 use Rattle.std.proofs.lemmas.Bool.Decides.{nat_tests}
 use Rattle.spool_blocks.specs.Blocks.{Row, IsFree, free_count, reserved_count, owned_count, is_slots}
-use Rattle.spool_blocks.specs.Blocks.{slot_count, IsWhole}
+use Rattle.spool_blocks.specs.Blocks.{slot_count, IsWholeText}
 use Rattle.spool_blocks.specs.Chains.{Owns, OwnsOneEach}
 use Rattle.spool_blocks.proofs.Counts.{within}
 use Rattle.spool_blocks.proofs.Links.{count_less, sets}
@@ -39,7 +39,7 @@ each_counted (suc n) slot rows owns =
     count_less slot n rows top.0 (within rows top.0 (slot, n) top.1) top.1 in
     omega (arith, less, each_counted n slot (slice_set rows top.0 None) (one_less n slot top.0 rows owns top.1))
 
-pub whole : (n slot : ℕ) (rows : List Row) → OwnsOneEach rows slot n → IsWhole slot rows
+pub whole : (n slot : ℕ) (rows : List Row) → OwnsOneEach rows slot n → IsWholeText slot rows
 whole n slot rows owns = record {
   there = λ i lt. owns.there i (omega (arith, lt, each_counted n slot rows owns));
   once = owns.once;

@@ -1,7 +1,7 @@
 //! The blocks of each slot, linked from the highest ordinal down.
 ghost use Rattle.std.specs.Prelude.{◌≡◌, ◌≤◌, ◌<◌, ◌+◌, ℕ, List, Option, None, Some, IsNone, length, get_or, slice_set};
 ghost use Rattle.std.specs.Prelude.{replicate, IfOk, IfSome};
-ghost use Rattle.spool_blocks.specs.Blocks.{Row, slot_count, IsWhole};
+ghost use Rattle.spool_blocks.specs.Blocks.{Row, slot_count, IsWholeText};
 ghost use Rattle.spool_blocks.specs.Chains.{Owns, rank, Linked, Taken};
 
 use crate::link::Link;
@@ -94,7 +94,7 @@ impl Chains {
         requires { slot < SLOTS }
         ensures size { IfOk result (λ list. length list.items ≡ slot_count slot self.now) }
         ensures listed { IfOk result
-            (λ list. (i : ℕ) → i < length list.items → IsWhole slot self.now
+            (λ list. (i : ℕ) → i < length list.items → IsWholeText slot self.now
             → Owns self.now (get_or list.items i 0) slot i) }
     {
         let at = slot as usize;

@@ -16,13 +16,13 @@ pub(crate) struct Link {
 
 impl Model for Link {
     ghost use Rattle.std.specs.Prelude.{ℕ, Option};
-    ghost use Rattle.spool_blocks.specs.Link.{linked, number_of, number_linked};
+    ghost use Rattle.spool_blocks.specs.Link.{linked, link_number, number_linked};
 
     ghost Value = { Option ℕ };
 
     ghost view = { λ l. linked l.block };
 
-    ghost inverse = { λ v. record { block = number_of v } };
+    ghost inverse = { λ v. record { block = link_number v } };
 
     ghost inverse_ok = { λ l h. number_linked l.block (λ b. record { block = b }) };
 }

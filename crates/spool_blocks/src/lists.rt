@@ -1,6 +1,6 @@
 //! Filling the list of a slot's blocks along their links.
 ghost use Rattle.std.specs.Prelude.{◌≡◌, ◌≤◌, ◌<◌, ℕ, Some, length, get_or};
-ghost use Rattle.spool_blocks.specs.Blocks.{IsWhole};
+ghost use Rattle.spool_blocks.specs.Blocks.{IsWholeText};
 ghost use Rattle.spool_blocks.specs.Chains.{Owns, Links, ListedFrom};
 
 use crate::link::Link;
@@ -20,7 +20,7 @@ pub(crate) fn fill(
     requires links { Links rows.now below.now }
     requires top { ListedFrom rows.now slot top list.old }
     ensures size { length list.new ≡ length list.old }
-    ensures listed { (b i : ℕ) → Owns rows.now b slot i → i < length list.new → IsWhole slot rows.now
+    ensures listed { (b i : ℕ) → Owns rows.now b slot i → i < length list.new → IsWholeText slot rows.now
         → get_or list.new i 0 ≡ b }
 {
     let mut next = top;

@@ -8,22 +8,22 @@ use Rattle.common.specs.declared.limits.TheConstants.{SLOTS}
 use Rattle.enc_model.specs.Indexes.{IndexSet}
 use Rattle.spool_texts.specs.Reading.{IsRead as IsPieceRead}
 use Rattle.upload_rules.specs.Reading.{IsRead, no_such, text_at}
-use Rattle.upload_rules.specs.Records.{Keeps, TellsOf, above, with_number}
+use Rattle.upload_rules.specs.Records.{RepresentsValid, RepresentsOf, above, with_number}
 use Rattle.upload_rules.specs.Store.{Upload, Store, find, upload_of, text_of}
 use Rattle.upload_rules.specs.declared.records.Record.{Record}
 use Rattle.spool_journal.specs.Image.{text_page}
 use Rattle.spool_texts.specs.TextOn.{text_on}
 use Rattle.spool_texts.proofs.Shown.{shown}
 use Rattle.spool_texts.proofs.Reserves.{few_distinct}
-use Rattle.spool_pages.specs.View.{SlotRecord, View, Says, slot_at}
+use Rattle.spool_pages.specs.View.{SlotRecord, View, Encodes, slot_at}
 use Rattle.spool_catalog.specs.declared.order.NumberedSlot.{NumberedSlot}
-use Rattle.spool_catalog.specs.Holding.{Holding, FitsTogether, IsUsedBy, Lists, IsPlaceFor, numbered, number_at}
-use Rattle.spool_catalog.specs.Kept.{KeepsView}
-use Rattle.spool_catalog.specs.Records.{said_of, IsUnpacked, KeepsOf}
-use Rattle.spool_catalog.specs.Shows.{Shows, IsTold}
+use Rattle.spool_catalog.specs.Holding.{Holding, FitsTogether, IsUsedBy, IsListedAt, IsPlaceFor, numbered, number_at}
+use Rattle.spool_catalog.specs.Catalog.{HasView}
+use Rattle.spool_catalog.specs.Records.{slot_record_of, IsUnpacked, RepresentsValidOf}
+use Rattle.spool_catalog.specs.Shows.{Shows, IsRecorded}
 use Rattle.spool_catalog.proofs.numbers.Numbered.{above_is, above_none}
 use Rattle.spool_catalog.proofs.Valid.{in_use}
-use Rattle.spool_catalog.proofs.Told.{keeps}
+use Rattle.spool_catalog.proofs.Recorded.{valid_record}
 use Rattle.spool_catalog.proofs.slots.ChangedSlots.{clash, one_value}
 use Rattle.common.specs.declared.limits.TheConstants.{MOST_BLOCKS}
 use Rattle.spool_blocks.specs.Blocks.{Row}
@@ -31,18 +31,18 @@ use Rattle.spool_catalog.specs.Holding.{IsListOf, IsOwnedBy}
 use Rattle.std.proofs.Common.{IfSome}
 use Rattle.spool_catalog.proofs.numbers.Ordered.{one_slot as ordered_slot}
 
-pub kept_none : (x : IndexSet) (n : ℕ) (o : Option Upload) → o ≡ None → KeepsOf x n o None
-kept_none x n o e = subst (λ (p : Option Upload). KeepsOf x n p None) (sym e) tt
+pub none_valid : (x : IndexSet) (n : ℕ) (o : Option Upload) → o ≡ None → RepresentsValidOf x n o None
+none_valid x n o e = subst (λ (p : Option Upload). RepresentsValidOf x n p None) (sym e) tt
 
-pub kept_some : (x : IndexSet) (n : ℕ) (o : Option Upload) (u : Upload) (r : Record) → o ≡ Some u → Keeps x n r u
-    → KeepsOf x n o (Some r)
-kept_some x n o u r e k = subst (λ (p : Option Upload). KeepsOf x n p (Some r)) (sym e) k
+pub some_valid : (x : IndexSet) (n : ℕ) (o : Option Upload) (u : Upload) (r : Record) → o ≡ Some u → RepresentsValid x n r u
+    → RepresentsValidOf x n o (Some r)
+some_valid x n o u r e k = subst (λ (p : Option Upload). RepresentsValidOf x n p (Some r)) (sym e) k
 
-pub kept_tells : (x : IndexSet) (n : ℕ) (o : Option Upload) (r : Option Record) → KeepsOf x n o r
-    → TellsOf x (with_number n o) r
-kept_tells x n None None k = tt
-kept_tells x n (Some u) (Some r) k = k.tells
-kept_tells x n u r k = absurd k
+pub catalog_represents : (x : IndexSet) (n : ℕ) (o : Option Upload) (r : Option Record) → RepresentsValidOf x n o r
+    → RepresentsOf x (with_number n o) r
+catalog_represents x n None None k = tt
+catalog_represents x n (Some u) (Some r) k = k.represents
+catalog_represents x n u r k = absurd k
 
 pub match_is_none : {A X : Type 0} (P : A → Type 0) (o : Option A) → o ≡ None → X → MatchOption o X P
 match_is_none P None e x = x
@@ -66,14 +66,14 @@ only_record {q = q} t only there used e is =
 
 -- the slot of a number, by the order
 pub used_of : (h : Holding) → FitsTogether h → (number : ℕ) (o : Option ℕ)
-    → MatchOption o ((s : ℕ) → Lists h.order number s → ⊥) (Lists h.order number)
+    → MatchOption o ((s : ℕ) → IsListedAt h.order number s → ⊥) (IsListedAt h.order number)
     → MatchOption o ((s : ℕ) → IsUsedBy h.slots s number → ⊥) (λ s. IsUsedBy h.slots s number)
 used_of h fits number None free = λ s used.
     let lt : s < SLOTS = let inside = in_use h.slots s used.used used.there in omega (arith, inside, fits.slot_count) in
-    free s (subst (λ (n : ℕ). Lists h.order n s) used.is (fits.ordered.all s used.used lt used.there))
+    free s (subst (λ (n : ℕ). IsListedAt h.order n s) used.is (fits.ordered.all s used.used lt used.there))
 used_of h fits number (Some s) there = fits.ordered.names number s there
 
-module _ {h : Holding} {v : View} {m : Store} (kept : KeepsView h v) (shows : Shows v m) where
+module _ {h : Holding} {v : View} {m : Store} (catalog : HasView h v) (shows : Shows v m) where
   pub no_upload : (n : ℕ) → ((s : ℕ) → IsUsedBy h.slots s n → ⊥) → upload_of m n ≡ None
   no_upload n free = go (upload_of m n) refl
     where
@@ -81,35 +81,35 @@ module _ {h : Holding} {v : View} {m : Store} (kept : KeepsView h v) (shows : Sh
       go None e = e
       go (Some u) e =
           let has = shows.all n u e in
-          let there = ap (λ (xs : List (Option SlotRecord)). get_or xs has.slot None) kept.slots ∙ has.there in
+          let there = ap (λ (xs : List (Option SlotRecord)). get_or xs has.slot None) catalog.slots ∙ has.there in
           absurd (free has.slot (record { used = has.used; there = there; is = has.number }))
 
   -- the slot of a number tells of its upload
   module _ {s n : ℕ} {q : SlotRecord} (here : get_or h.slots s None ≡ Some q) (used : IsUsedBy h.slots s n) where
     there : slot_at v s ≡ Some q
-    there = ap (λ (xs : List (Option SlotRecord)). get_or xs s None) (sym kept.slots) ∙ here
+    there = ap (λ (xs : List (Option SlotRecord)). get_or xs s None) (sym catalog.slots) ∙ here
 
-    abbrev told : IsTold m q (v.texts s)
-    told = shows.told s q there
+    abbrev recorded : IsRecorded m q (v.texts s)
+    recorded = shows.recorded s q there
 
     number : q.number ≡ n
     number = ap (λ (r : SlotRecord). r.number) (one_value here used.there) ∙ used.is
 
-    upload_is : upload_of m n ≡ Some told.upload
-    upload_is = ap (λ (k : ℕ). find k m.uploads) (sym number) ∙ told.there
+    upload_is : upload_of m n ≡ Some recorded.upload
+    upload_is = ap (λ (k : ℕ). find k m.uploads) (sym number) ∙ recorded.there
 
-    pub found : {r : Record} → said_of r ≡ q → IsUnpacked r
-        → (u : Upload) × (upload_of m n ≡ Some u) × Keeps m.indexes n r u
-    found {r = r} said unpacked =
-        (told.upload, upload_is, keeps m.indexes q (v.texts s) told.upload told.tells r said unpacked n number)
+    pub found : {r : Record} → slot_record_of r ≡ q → IsUnpacked r
+        → (u : Upload) × (upload_of m n ≡ Some u) × RepresentsValid m.indexes n r u
+    found {r = r} slot_record unpacked =
+        (recorded.upload, upload_is, valid_record m.indexes q (v.texts s) recorded.upload recorded.represents r slot_record unpacked n number)
 
     -- and the text on its blocks is its upload's
-    pub text_told : (bytes : ℕ → ℕ) → Says bytes v → (u : Upload) → upload_of m n ≡ Some u
+    pub text_recorded : (bytes : ℕ → ℕ) → Encodes bytes v → (u : Upload) → upload_of m n ≡ Some u
         → text_on bytes (text_page h.layout) (get_or h.lists s []) q.text_len ≡ text_of m.indexes u
-    text_told bytes says u found_there = rw kept.blocks
-        (shown bytes (text_page v.blocks) v.rows s q.text_len (get_or h.lists s []) (kept.listed s q there)
-        (kept.sizes s q there) ∙ sym (says.texts s q there) ∙ told.tells.text
-        ∙ ap (text_of m.indexes) (same_Some told.upload u (sym upload_is ∙ found_there)))
+    text_recorded bytes encodes u found_there = rw catalog.blocks
+        (shown bytes (text_page v.blocks) v.rows s q.text_len (get_or h.lists s []) (catalog.listed s q there)
+        (catalog.sizes s q there) ∙ sym (encodes.texts s q there) ∙ recorded.represents.text
+        ∙ ap (text_of m.indexes) (same_Some recorded.upload u (sym upload_is ∙ found_there)))
 
   -- each upload stands in the order
   pub listed : (j : ℕ) (w : Upload) → find j m.uploads ≡ Some w
@@ -117,7 +117,7 @@ module _ {h : Holding} {v : View} {m : Store} (kept : KeepsView h v) (shows : Sh
   listed j w e =
       let has = shows.all j w e in
       let lt : has.slot < SLOTS = search (arith, common_steps) in
-      let l = kept.ordered.all has.slot has.used lt has.there in
+      let l = catalog.ordered.all has.slot has.used lt has.there in
       (l.place, l.below, ap (λ (p : NumberedSlot). p.number) l.here ∙ has.number)
 
   module _ (n place : ℕ) (is : IsPlaceFor h.order n place) where
@@ -147,15 +147,15 @@ module _ {h : Holding} {v : View} {m : Store} (kept : KeepsView h v) (shows : Sh
 
 -- ONE SLOT FOR A NUMBER
 
-one_slot : (h : Holding) → FitsTogether h → (n s : ℕ) → Lists h.order n s → (t : ℕ) → IsUsedBy h.slots t n → t ≡ s
+one_slot : (h : Holding) → FitsTogether h → (n s : ℕ) → IsListedAt h.order n s → (t : ℕ) → IsUsedBy h.slots t n → t ≡ s
 one_slot h fits n s l t used =
     let inside = in_use h.slots t used.used used.there in
     let lt : t < SLOTS = omega (arith, inside, fits.slot_count) in
-    let k = subst (λ (m : ℕ). Lists h.order m t) used.is (fits.ordered.all t used.used lt used.there) in
+    let k = subst (λ (m : ℕ). IsListedAt h.order m t) used.is (fits.ordered.all t used.used lt used.there) in
     ordered_slot h.slots h.order fits.slot_count fits.ordered n t s k l
 
 pub only_of : (h : Holding) → FitsTogether h → (n : ℕ) (found : Option ℕ)
-    → MatchOption found ((s : ℕ) → Lists h.order n s → ⊥) (Lists h.order n)
+    → MatchOption found ((s : ℕ) → IsListedAt h.order n s → ⊥) (IsListedAt h.order n)
     → IfSome found (λ s. (t : ℕ) → IsUsedBy h.slots t n → t ≡ s)
 only_of h fits n None l = tt
 only_of h fits n (Some s) l = one_slot h fits n s l

@@ -13,18 +13,18 @@ use Rattle.enc_model.specs.Decode.{Decoding, OfUtf8, OfUtf16, OfShiftJis, OfEucJ
 use Rattle.enc_model.specs.Decode.{run_as, undecided}
 use Rattle.enc_model.specs.Indexes.{IndexSet, tables}
 use Rattle.enc_model.specs.Japanese.{euc_jp, iso2022, shift_jis, single}
-use Rattle.enc_model.specs.Stream.{Run}
-use Rattle.enc_model.specs.Transcode.{Phase, Before, During, Over, Fed, Transcoder, fed, fed_end, fed_of}
+use Rattle.enc_model.specs.Stream.{DecoderRun}
+use Rattle.enc_model.specs.Transcode.{Phase, Before, During, Over, FedText, Transcoder, fed_text, fed_end, fed_of}
 use Rattle.enc_model.specs.Utf16.{utf16}
 use Rattle.enc_model.specs.Utf8.{utf8}
 use Rattle.enc_model.proofs.Pieces.{decoded_held}
 use Rattle.enc_model.proofs.Steps.{steps_none}
 use Rattle.enc_model.proofs.Transcoding.{coded_none}
-use Rattle.enc_stream.specs.StateBytes.{IsPhaseOf, IsShiftIn, IsValid as IsValidState, state_bytes}
+use Rattle.enc_stream.specs.StateBytes.{IsPhaseOf, IsShiftIn, IsValidState, state_bytes}
 use Rattle.spool_blocks.specs.Chains.{OwnsOneEach, Owns}
-use Rattle.spool_catalog.specs.Holding.{Holding, Lists, Orders, Rises, number_at, numbered}
-use Rattle.spool_catalog.specs.Kept.{KeepsView}
-use Rattle.spool_catalog.specs.Shows.{FitsPhase, HasSlot, HasState, IsRecordOf, IsTold, IsValid, Shows}
+use Rattle.spool_catalog.specs.Holding.{Holding, IsListedAt, Orders, Rises, number_at, numbered}
+use Rattle.spool_catalog.specs.Catalog.{HasView}
+use Rattle.spool_catalog.specs.Shows.{FitsPhase, HasSlot, HasState, IsRecordOf, IsRecorded, IsValid, Shows}
 use Rattle.spool_catalog.specs.declared.order.NumberedSlot.{NumberedSlot}
 use Rattle.spool_catalog.proofs.Valid.{in_use}
 use Rattle.spool_texts.specs.Texts.{text_shown}
@@ -47,12 +47,12 @@ decoding_none t (OfEucJp s) = ap (run_as OfEucJp) (steps_none (euc_jp t.jis0208 
 decoding_none t (OfIso2022 s) = ap (run_as OfIso2022) (steps_none (iso2022 t.jis0208) s)
 decoding_none t (OfSingle e s) = ap (run_as (OfSingle e)) (steps_none (single (t.single e)) s)
 
-fed_none : (t : Tables) (e : Encoding) (p : Phase) → IsPhaseOf e p → fed t e p [] ≡ record { text = []; phase = p }
-unfolding fed
+fed_none : (t : Tables) (e : Encoding) (p : Phase) → IsPhaseOf e p → fed_text t e p [] ≡ record { text = []; phase = p }
+unfolding fed_text
 fed_none t e (Before held) is =
     ap (λ (b : List ℕ). fed_of (decoded t e b false)) (append-nil held) ∙ ap fed_of (decoded_held t e held is)
 fed_none t e (During s) is =
-    ap (λ (r : Run Decoding). record { text = r.text; phase = During r.state }) (decoding_none t s)
+    ap (λ (r : DecoderRun Decoding). record { text = r.text; phase = During r.state }) (decoding_none t s)
 fed_none t e Over is = refl
 
 -- THE UPLOAD THAT A SLOT'S RECORD AND TEXT TELL OF
@@ -82,12 +82,12 @@ module _ (x : IndexSet) (r : SlotRecord) (text : List ℕ) (has : HasState r) (s
   count = omega arith
 
   -- where bytes may come
-  open_fed : fed (tables x) t.from t.phase [] ≡ record { text = []; phase = t.phase }
+  open_fed : fed_text (tables x) t.from t.phase [] ≡ record { text = []; phase = t.phase }
   open_fed = fed_none (tables x) t.from t.phase has.valid.fitting.phase
 
   open_text : text_with x u [] false ≡ record { bytes = text; state = t.shift; fault = None }
   open_text =
-      ap (λ (z : Fed). led_by text (coded f t.mode t.shift z.text)) open_fed
+      ap (λ (z : FedText). led_by text (coded f t.mode t.shift z.text)) open_fed
       ∙ ap (led_by text) (coded_none f t.mode t.shift)
       ∙ ap (λ (b : List ℕ). record { bytes = b; state = t.shift; fault = None }) (append-nil text)
 
@@ -101,24 +101,24 @@ module _ (x : IndexSet) (r : SlotRecord) (text : List ℕ) (has : HasState r) (s
   with_both p s e g = rw (e, g) refl
 
   open_state : transcoder_with x u [] false ≡ t
-  open_state = with_both (fed (tables x) t.from t.phase []).phase (text_with x u [] false).state
-      (ap (λ (z : Fed). z.phase) open_fed) (ap (λ (z : Coded). z.state) open_text)
+  open_state = with_both (fed_text (tables x) t.from t.phase []).phase (text_with x u [] false).state
+      (ap (λ (z : FedText). z.phase) open_fed) (ap (λ (z : Coded). z.state) open_text)
 
   -- and after the end
   ended_text : t.phase ≡ Over → t.shift ≡ InAscii
       → text_with x u [] true ≡ record { bytes = text; state = InAscii; fault = None }
-  unfolding fed fed_end
+  unfolding fed_text fed_end
   ended_text over ascii =
-      ap (λ (p : Phase). led_by text (ended_coded (coded f t.mode t.shift (let z = fed (tables x) t.from p [] in z.text ++
+      ap (λ (p : Phase). led_by text (ended_coded (coded f t.mode t.shift (let z = fed_text (tables x) t.from p [] in z.text ++
       fed_end (tables x) t.from z.phase)))) over
       ∙ ap (λ (s : Shift). led_by text (ended_coded (coded f t.mode s []))) ascii
       ∙ ap (λ (z : Coded). led_by text (ended_coded z)) (coded_none f t.mode InAscii)
       ∙ ap (λ (b : List ℕ). record { bytes = b; state = InAscii; fault = None }) (append-nil text)
 
-  told_as : (done : Bool) → is_length r.declared r.accepted ≡ done → (text_with x u [] done).bytes ≡ text
+  recorded_as : (done : Bool) → is_length r.declared r.accepted ≡ done → (text_with x u [] done).bytes ≡ text
       → (text_with x u [] done).fault ≡ None → transcoder_with x u [] done ≡ t → IsRecordOf x r text u
   unfolding text_of state_with
-  told_as done is bytes fault same =
+  recorded_as done is bytes fault same =
       let here : is_complete u ≡ done = ap (is_length r.declared) count ∙ is in
       let state = ap (transcoder_with x u []) here ∙ same in
       let all = ap (λ (b : Bool). (text_with x u [] b).bytes) here ∙ bytes in
@@ -135,21 +135,21 @@ module _ (x : IndexSet) (r : SlotRecord) (text : List ℕ) (has : HasState r) (s
         state = has.is ∙ ap state_bytes (sym state);
       }
 
-  open_told : is_length r.declared r.accepted ≡ false → IsRecordOf x r text u
-  open_told is = told_as false is (ap (λ (z : Coded). z.bytes) open_text) (ap (λ (z : Coded). z.fault) open_text)
+  open_recorded : is_length r.declared r.accepted ≡ false → IsRecordOf x r text u
+  open_recorded is = recorded_as false is (ap (λ (z : Coded). z.bytes) open_text) (ap (λ (z : Coded). z.fault) open_text)
       open_state
 
   by_phase : (p : Phase) → t.phase ≡ p → FitsPhase p r.accepted r.declared → IsShiftIn p t.to t.shift
       → IsRecordOf x r text u
-  by_phase (Before held) is fits shift = open_told fits.1
-  by_phase (During s) is fits shift = open_told fits.1
+  by_phase (Before held) is fits shift = open_recorded fits.1
+  by_phase (During s) is fits shift = open_recorded fits.1
   by_phase Over is fits ascii =
       let text_is = ended_text is ascii in
-      told_as true fits (ap (λ (z : Coded). z.bytes) text_is) (ap (λ (z : Coded). z.fault) text_is)
+      recorded_as true fits (ap (λ (z : Coded). z.bytes) text_is) (ap (λ (z : Coded). z.fault) text_is)
       (with_both Over InAscii (sym is) (sym ascii))
 
-  found_told : IsRecordOf x r text u
-  found_told = by_phase t.phase refl has.phase has.valid.fitting.shift
+  found_recorded : IsRecordOf x r text u
+  found_recorded = by_phase t.phase refl has.phase has.valid.fitting.shift
 
 -- THE NUMBERS IN THEIR ORDER
 
@@ -174,7 +174,7 @@ module _ (f : ℕ → Upload) where
       (find_here order n s place (rest_rises o order rises) (omega (arith, below)) here)
 
   listed_in : (order : List NumberedSlot) (n : ℕ) (u : Upload) → find n (map entry order) ≡ Some u
-      → (s : ℕ) × Lists order n s
+      → (s : ℕ) × IsListedAt order n s
   listed_in [] n u there = absurd cc
   listed_in (o ∷ order) n u there = elim (cases_eq o.number n) [
     | inl same ↦ (o.slot, record { place = 0; below = omega arith; here = rw same refl })
@@ -200,15 +200,15 @@ module _ (f : ℕ → Upload) where
 
 -- THE UPLOADS OF A VIEW
 
-module _ (h : Holding) (v : View) (keeps : KeepsView h v) (valid : IsValid v) (image : ℕ → ℕ) (first : ℕ)
+module _ (h : Holding) (v : View) (has_view : HasView h v) (valid : IsValid v) (image : ℕ → ℕ) (first : ℕ)
     (texts : (s : ℕ) (r : SlotRecord) → slot_at v s ≡ Some r → v.texts s ≡ text_shown image first v.rows s r.text_len)
   where
     -- each text is as long as its record says
     sizes : (s : ℕ) (r : SlotRecord) → slot_at v s ≡ Some r → length (v.texts s) ≡ r.text_len
     sizes s r there =
         let list = get_or h.lists s [] in
-        let size = keeps.sizes s r there in
-        let same = shown image first v.rows s r.text_len list (keeps.listed s r there) size in
+        let size = has_view.sizes s r there in
+        let same = shown image first v.rows s r.text_len list (has_view.listed s r there) size in
         omega (
           arith,
           ap length (texts s r there),
@@ -234,14 +234,14 @@ module _ (h : Holding) (v : View) (keeps : KeepsView h v) (valid : IsValid v) (i
     upload_by s None e = unused
     upload_by s (Some r) e = found_upload r (valid.records s r e).state.transcoder (v.texts s)
 
-    abbrev TellsBy : ℕ → Option SlotRecord → Upload → Type 0
-    TellsBy s None u = Unit {0}
-    TellsBy s (Some r) u = IsRecordOf v.indexes r (v.texts s) u
+    abbrev RepresentsAt : ℕ → Option SlotRecord → Upload → Type 0
+    RepresentsAt s None u = Unit {0}
+    RepresentsAt s (Some r) u = IsRecordOf v.indexes r (v.texts s) u
 
-    told_by : (s : ℕ) (o : Option SlotRecord) (e : slot_at v s ≡ o) → TellsBy s o (upload_by s o e)
+    recorded_by : (s : ℕ) (o : Option SlotRecord) (e : slot_at v s ≡ o) → RepresentsAt s o (upload_by s o e)
     unfolding upload_by
-    told_by s None e = tt
-    told_by s (Some r) e = found_told v.indexes r (v.texts s) (valid.records s r e).state (sizes s r e)
+    recorded_by s None e = tt
+    recorded_by s (Some r) e = found_recorded v.indexes r (v.texts s) (valid.records s r e).state (sizes s r e)
 
     abbrev upload_at : ℕ → Upload
     upload_at s = upload_by s (slot_at v s) refl
@@ -249,14 +249,14 @@ module _ (h : Holding) (v : View) (keeps : KeepsView h v) (valid : IsValid v) (i
     abbrev store : Store
     store = record { uploads = map (entry upload_at) h.order; next = v.next; indexes = v.indexes }
 
-    told : (s : ℕ) (r : SlotRecord) → slot_at v s ≡ Some r → IsTold store r (v.texts s)
-    told s r there =
+    recorded : (s : ℕ) (r : SlotRecord) → slot_at v s ≡ Some r → IsRecorded store r (v.texts s)
+    recorded s r there =
         let below = subst (λ (n : ℕ). s < n) valid.slot_count (in_use v.slots s r there) in
-        let listed = keeps.ordered.all s r below there in
+        let listed = has_view.ordered.all s r below there in
         record {
           upload = upload_at s;
-          there = find_here upload_at h.order r.number s listed.place keeps.ordered.rises listed.below listed.here;
-          tells = subst (λ (o : Option SlotRecord). TellsBy s o (upload_at s)) there (told_by s (slot_at v s) refl);
+          there = find_here upload_at h.order r.number s listed.place has_view.ordered.rises listed.below listed.here;
+          represents = subst (λ (o : Option SlotRecord). RepresentsAt s o (upload_at s)) there (recorded_by s (slot_at v s) refl);
         }
 
     pub each_shows : (m : Store) × Shows v m
@@ -266,11 +266,11 @@ module _ (h : Holding) (v : View) (keeps : KeepsView h v) (valid : IsValid v) (i
         valid = valid;
         next = refl;
         indexes = refl;
-        rising = in_order upload_at h.order keeps.ordered.rises;
-        told = told;
+        rising = in_order upload_at h.order has_view.ordered.rises;
+        recorded = recorded;
         all = λ n u there.
             let listed = listed_in upload_at h.order n u there in
-            let used = keeps.ordered.names n listed.0 listed.1 in
+            let used = has_view.ordered.names n listed.0 listed.1 in
             record { slot = listed.0; used = used.used; there = used.there; number = used.is };
       },
     )

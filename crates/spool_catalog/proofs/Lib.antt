@@ -1,5 +1,5 @@
 pub mod Valid
-pub mod Told
+pub mod Recorded
 pub mod Every
 pub mod Answered
 pub mod NewRecords

@@ -5,12 +5,12 @@ use Rattle.std.proofs.Common.{length, get_or, ltb, true, sym, ◌∙◌, ap, ari
 use Rattle.std.proofs.lemmas.Bool.Decides.{nat_tests}
 use Rattle.common.specs.declared.limits.TheConstants.{ROWS, SLOTS}
 use Rattle.upload_rules.specs.Room.{blocks_of}
-use Rattle.spool_pages.specs.View.{View, SlotRecord, Says, Stands, slot_at, slot_bytes, row_bytes, index_place}
+use Rattle.spool_pages.specs.View.{View, SlotRecord, Encodes, AreAt, slot_at, slot_bytes, row_bytes, index_place}
 use Rattle.spool_pages.specs.View.{slot_place, row_place}
 use Rattle.spool_pages.specs.Fits.{FitsSlotOf, FitsRow}
 use Rattle.enc_index.specs.Area.{area_byte}
 use Rattle.spool_journal.specs.Image.{journal_pages}
-use Rattle.spool_catalog.specs.Records.{FitsKept}
+use Rattle.spool_catalog.specs.Records.{FitsCatalog}
 use Rattle.spool_catalog.specs.Holding.{AreDistinct}
 use Rattle.spool_blocks.specs.Chains.{OwnsOneEach}
 use Rattle.spool_catalog.specs.Shows.{IsValid, IsValidRecord, IsOwned}
@@ -34,23 +34,23 @@ is_less a b h = grind (arith, nat_tests)
 
 -- WHERE IT STANDS, for n blocks
 
-module _ (bytes : ℕ → ℕ) (v : View) (n : ℕ) (blocks : v.blocks ≡ n) (says : Says bytes v) where
-  pub said_area : (i : ℕ) → i < 90112 → bytes (index_place n + i) ≡ area_byte v.indexes i
-  said_area i lt = subst (λ (m : ℕ). bytes (index_place m + i) ≡ area_byte v.indexes i) blocks (says.area i lt)
+module _ (bytes : ℕ → ℕ) (v : View) (n : ℕ) (blocks : v.blocks ≡ n) (encodes : Encodes bytes v) where
+  pub area_passes : (i : ℕ) → i < 90112 → bytes (index_place n + i) ≡ area_byte v.indexes i
+  area_passes i lt = subst (λ (m : ℕ). bytes (index_place m + i) ≡ area_byte v.indexes i) blocks (encodes.area i lt)
 
-  pub said_slot : (s : ℕ) → s < SLOTS → Stands bytes (slot_place n s) 2048 (slot_bytes v.version (slot_at v s))
-  said_slot s lt = rw blocks at (says.slots s lt)
+  pub slot_passes : (s : ℕ) → s < SLOTS → AreAt bytes (slot_place n s) 2048 (slot_bytes v.version (slot_at v s))
+  slot_passes s lt = rw blocks at (encodes.slots s lt)
 
-  pub said_row : (b : ℕ) → b < ROWS * (journal_pages n - 257) → Stands bytes (row_place n b) 8
+  pub row_passes : (b : ℕ) → b < ROWS * (journal_pages n - 257) → AreAt bytes (row_place n b) 8
       (row_bytes (get_or v.rows b None))
-  said_row b lt =
-      let P : ℕ → Type 0 = λ m. b < ROWS * (journal_pages m - 257) → Stands bytes (row_place m b) 8
+  row_passes b lt =
+      let P : ℕ → Type 0 = λ m. b < ROWS * (journal_pages m - 257) → AreAt bytes (row_place m b) 8
       (row_bytes (get_or v.rows b None)) in
-      subst P blocks (says.rows b) lt
+      subst P blocks (encodes.rows b) lt
 
 -- WHAT FITS
 
-slot_from : (o : Option SlotRecord) → ((r : SlotRecord) → o ≡ Some r → FitsKept (Some r)) → FitsKept o
+slot_from : (o : Option SlotRecord) → ((r : SlotRecord) → o ≡ Some r → FitsCatalog (Some r)) → FitsCatalog o
 slot_from None fits = tt
 slot_from (Some r) fits = fits r refl
 
@@ -58,14 +58,14 @@ row_from : (o : Option (ℕ × ℕ)) → ((p : ℕ × ℕ) → o ≡ Some p → 
 row_from None fits = tt
 row_from (Some p) fits = fits p refl
 
-pub fits_slot : (o : Option SlotRecord) → FitsKept o → FitsSlotOf o
+pub fits_slot : (o : Option SlotRecord) → FitsCatalog o → FitsSlotOf o
 fits_slot None fits = tt
 fits_slot (Some r) fits = fits.0
 
-record_fits : (next : ℕ) → next ≤ 10 ^ 18 → (r : SlotRecord) → IsValidRecord next r → FitsKept (Some r)
+record_fits : (next : ℕ) → next ≤ 10 ^ 18 → (r : SlotRecord) → IsValidRecord next r → FitsCatalog (Some r)
 record_fits next most r is = search (arith, common_steps)
 
-pub slots_fit : (v : View) → IsValid v → (s : ℕ) → FitsKept (slot_at v s)
+pub slots_fit : (v : View) → IsValid v → (s : ℕ) → FitsCatalog (slot_at v s)
 slots_fit v valid s = slot_from (slot_at v s) (λ r e. record_fits v.next valid.next_most r (valid.records s r e))
 
 pub in_use : {A : Type 0} (xs : List (Option A)) (s : ℕ) (r : A) → get_or xs s None ≡ Some r → s < length xs

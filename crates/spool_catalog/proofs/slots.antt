@@ -1,8 +1,8 @@
 pub mod ChangedSlots
 pub mod Freed
 pub mod HandedOver
-pub mod Keeps
-pub mod LongerKept
+pub mod HasViews
+pub mod LongerInCatalog
 pub mod Members
 pub mod OwnedOnce
 pub mod SlotCounts

@@ -5,6 +5,6 @@ use Rattle.spool_journal.specs.declared.error.RecoverError.TheVariants as recove
 use Rattle.spool_catalog.specs.declared.error.OpenFault.{OpenFault}
 use Rattle.spool_catalog.specs.declared.error.OpenFault.TheVariants.{Damaged, Stop}
 
-abbrev pub fault_of : RecoverError → OpenFault
-fault_of recover.DiskFault = Stop DiskFault
-fault_of recover.Damaged = Damaged
+abbrev pub open_fault_of : RecoverError → OpenFault
+open_fault_of recover.DiskFault = Stop DiskFault
+open_fault_of recover.Damaged = Damaged

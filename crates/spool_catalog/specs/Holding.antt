@@ -8,7 +8,7 @@ use Rattle.upload_rules.specs.Room.{blocks_of}
 use Rattle.spool_pages.specs.Fits.{FitsRow}
 use Rattle.spool_pages.specs.View.{SlotRecord}
 use Rattle.spool_pages.specs.declared.version.Version.{Version}
-use Rattle.spool_catalog.specs.declared.kept.Kept.TheInside.{Inside}
+use Rattle.spool_catalog.specs.declared.catalog.Catalog.TheInside.{Inside}
 use Rattle.spool_catalog.specs.declared.order.NumberedSlot.{NumberedSlot}
 use Rattle.spool_blocks.specs.Chains.{Owns}
 
@@ -25,7 +25,7 @@ abbrev pub Rises : List NumberedSlot → Type 0
 Rises order = (i k : ℕ) → i < k → k < length order → number_at order i < number_at order k
 
 -- the number stands there with this slot
-pub record Lists (order : List NumberedSlot) (number slot : ℕ) : Type 0 where
+pub record IsListedAt (order : List NumberedSlot) (number slot : ℕ) : Type 0 where
   pub place : ℕ
   pub below : place < length order
   pub here : get_or order place (numbered 0 0) ≡ numbered number slot
@@ -45,9 +45,9 @@ pub record IsOwnedBy (slots : List (Option SlotRecord)) (rows : List Row) (numbe
 -- these are the slots in use below this one, by ascending numbers
 pub record Orders (slots : List (Option SlotRecord)) (order : List NumberedSlot) (end : ℕ) : Type 0 where
   pub rises : Rises order
-  pub below : (n s : ℕ) → Lists order n s → s < end
-  pub names : (n s : ℕ) → Lists order n s → IsUsedBy slots s n
-  pub all : (s : ℕ) (r : SlotRecord) → s < end → get_or slots s None ≡ Some r → Lists order r.number s
+  pub below : (n s : ℕ) → IsListedAt order n s → s < end
+  pub names : (n s : ℕ) → IsListedAt order n s → IsUsedBy slots s n
+  pub all : (s : ℕ) (r : SlotRecord) → s < end → get_or slots s None ≡ Some r → IsListedAt order r.number s
 
 -- each number is below the next one
 abbrev pub AreBelow : ℕ → List (Option SlotRecord) → Type 0
@@ -68,9 +68,9 @@ pub record IsPlaceFor (order : List NumberedSlot) (number place : ℕ) : Type 0 
 -- the number came to the others, with this slot
 pub record IsAdded (old : List NumberedSlot) (number slot : ℕ) (new : List NumberedSlot) : Type 0 where
   pub rises : Rises new
-  pub there : Lists new number slot
-  pub kept : (n s : ℕ) → Lists old n s → Lists new n s
-  pub only : (n s : ℕ) → Lists new n s → Lists old n s ⊎ ((n ≡ number) × (s ≡ slot))
+  pub there : IsListedAt new number slot
+  pub preserved : (n s : ℕ) → IsListedAt old n s → IsListedAt new n s
+  pub only : (n s : ℕ) → IsListedAt new n s → IsListedAt old n s ⊎ ((n ≡ number) × (s ≡ slot))
 
 -- THE LISTS: each slot's blocks by ordinal
 

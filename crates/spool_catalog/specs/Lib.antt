@@ -3,7 +3,7 @@ pub mod Loads
 pub mod Faults
 pub mod Checks
 pub mod Holding
-pub mod Kept
+pub mod Catalog
 pub mod Records
 pub mod Rows
 pub mod TakenIn

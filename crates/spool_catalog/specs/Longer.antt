@@ -31,7 +31,7 @@ pub record HandsOn (old new : List Bool) (list : List ℕ) : Type 0 where
   pub others : (b : ℕ) → ((i : ℕ) → i < length list → get_or list i 0 ≢ b) → get_or new b false ≡ get_or old b false
 
 -- what is kept has the longer upload, of which `used` was the record
-pub record IsLonger (h : Holding) (used : SlotRecord) (longer : Longer) (more : List ℕ) (new : Holding) : Type 0 where
+pub record HasLonger (h : Holding) (used : SlotRecord) (longer : Longer) (more : List ℕ) (new : Holding) : Type 0 where
   pub layout : new.layout ≡ h.layout
   pub version : new.version ≡ h.version
   pub next : new.next ≡ h.next

@@ -2,9 +2,9 @@
 use Rattle.std.specs.Prelude.{◌≡◌, ◌≤◌, ℕ, All, List, Option, Some, None}
 use Rattle.enc_model.specs.Indexes.{IndexSet}
 use Rattle.enc_model.specs.Transcode.{Transcoder}
-use Rattle.enc_stream.specs.StateBytes.{IsValid, state_bytes}
+use Rattle.enc_stream.specs.StateBytes.{IsValidState, state_bytes}
 use Rattle.upload_rules.specs.declared.records.Record.{Record}
-use Rattle.upload_rules.specs.Records.{IsShort, Keeps}
+use Rattle.upload_rules.specs.Records.{IsShort, RepresentsValid}
 use Rattle.upload_rules.specs.Store.{Upload, Store, upload_of, text_of}
 use Rattle.spool_texts.specs.TextOn.{text_on}
 use Rattle.spool_pages.specs.Fits.{FitsSlotOf}
@@ -13,8 +13,8 @@ use Rattle.spool_catalog.specs.Shows.{HasState}
 use Rattle.std.specs.Prelude.{get_or}
 
 -- what its slot says
-abbrev pub said_of : Record → SlotRecord
-said_of r = record {
+abbrev pub slot_record_of : Record → SlotRecord
+slot_record_of r = record {
   number = r.number;
   declared = r.declared;
   accepted = r.accepted;
@@ -26,7 +26,7 @@ said_of r = record {
 -- the encodings and the mode are those of its state
 pub record IsUnpacked (r : Record) : Type 0 where
   pub transcoder : Transcoder
-  pub valid : IsValid transcoder
+  pub valid : IsValidState transcoder
   pub is : r.state ≡ state_bytes transcoder
   pub from : r.from ≡ transcoder.from
   pub to : r.to ≡ transcoder.to
@@ -38,28 +38,28 @@ pub record FitsMemory (r : Record) : Type 0 where
   pub short : IsShort r
 
 -- a free slot, or a record that fits its bytes, with the state of a transcoder
-abbrev pub FitsKept : Option SlotRecord → Type 0
-FitsKept None = Unit {0}
-FitsKept (Some r) = FitsSlotOf (Some r) × HasState r
+abbrev pub FitsCatalog : Option SlotRecord → Type 0
+FitsCatalog None = Unit {0}
+FitsCatalog (Some r) = FitsSlotOf (Some r) × HasState r
 
 -- its state is a transcoder's, and its metadata is printable
 pub record IsReadable (r : SlotRecord) : Type 0 where
   pub transcoder : Transcoder
-  pub valid : IsValid transcoder
+  pub valid : IsValidState transcoder
   pub is : r.state ≡ state_bytes transcoder
   pub printable : All (λ b. (0x20 ≤ b) × (b ≤ 0x7E)) r.metadata
 
 -- the record of an upload, none where there is none
-abbrev pub KeepsOf : IndexSet → ℕ → Option Upload → Option Record → Type 0
-KeepsOf x n None None = Unit {0}
-KeepsOf x n (Some u) (Some r) = Keeps x n r u
-KeepsOf x n _ _ = ⊥
+abbrev pub RepresentsValidOf : IndexSet → ℕ → Option Upload → Option Record → Type 0
+RepresentsValidOf x n None None = Unit {0}
+RepresentsValidOf x n (Some u) (Some r) = RepresentsValid x n r u
+RepresentsValidOf x n _ _ = ⊥
 
 -- the record is the upload's
 pub record IsUploadOf (m : Store) (number : ℕ) (r : Record) : Type 0 where
   pub upload : Upload
   pub there : upload_of m number ≡ Some upload
-  pub keeps : Keeps m.indexes number r upload
+  pub valid : RepresentsValid m.indexes number r upload
 
 -- the upload's text is on the listed blocks
 abbrev pub HasTextOn : Store → ℕ → (ℕ → ℕ) → ℕ → Record → List ℕ → Type 0
@@ -67,7 +67,7 @@ HasTextOn m number current first r list =
     (u : Upload) → upload_of m number ≡ Some u → text_on current first list r.text_len ≡ text_of m.indexes u
 
 -- the record is that of a slot, and of each slot with its number
-pub record IsKept (slots : List (Option SlotRecord)) (r : Record) : Type 0 where
+pub record IsInSlot (slots : List (Option SlotRecord)) (r : Record) : Type 0 where
   pub slot : ℕ
-  pub there : get_or slots slot None ≡ Some (said_of r)
-  pub only : (s : ℕ) (q : SlotRecord) → get_or slots s None ≡ Some q → q.number ≡ r.number → q ≡ said_of r
+  pub there : get_or slots slot None ≡ Some (slot_record_of r)
+  pub only : (s : ℕ) (q : SlotRecord) → get_or slots s None ≡ Some q → q.number ≡ r.number → q ≡ slot_record_of r

@@ -4,7 +4,7 @@ use Rattle.common.specs.declared.limits.TheConstants.{LEAST_BLOCKS, MOST_BLOCKS,
 use Rattle.enc_model.specs.Indexes.{IndexSet}
 use Rattle.enc_model.specs.Transcode.{Transcoder, Phase, Before, During, Over}
 use Rattle.enc_index.specs.Sets.{IsIndexSet}
-use Rattle.enc_stream.specs.StateBytes.{IsValid as IsValidState, state_bytes}
+use Rattle.enc_stream.specs.StateBytes.{IsValidState, state_bytes}
 use Rattle.spool_blocks.specs.Chains.{Owns, OwnsOneEach}
 use Rattle.upload_rules.specs.Lengths.{is_length, longest}
 use Rattle.upload_rules.specs.Store.{Origin, Upload, Store, find, is_complete, text_with, text_of, accepted_count}
@@ -80,10 +80,10 @@ pub record IsRecordOf (x : IndexSet) (r : SlotRecord) (shown : List ℕ) (u : Up
   pub state : r.state ≡ state_of x u
 
 -- the upload that a record tells of
-pub record IsTold (m : Store) (r : SlotRecord) (shown : List ℕ) : Type 0 where
+pub record IsRecorded (m : Store) (r : SlotRecord) (shown : List ℕ) : Type 0 where
   pub upload : Upload
   pub there : find r.number m.uploads ≡ Some upload
-  pub tells : IsRecordOf m.indexes r shown upload
+  pub represents : IsRecordOf m.indexes r shown upload
 
 -- the slot that tells of a number
 pub record HasSlot (v : View) (n : ℕ) : Type 0 where
@@ -97,7 +97,7 @@ pub record Shows (v : View) (m : Store) : Type 0 where
   pub next : v.next ≡ m.next
   pub indexes : v.indexes ≡ m.indexes
   pub rising : IsRising (map (λ e. e.0) m.uploads)
-  pub told : (s : ℕ) (r : SlotRecord) → slot_at v s ≡ Some r → IsTold m r (v.texts s)
+  pub recorded : (s : ℕ) (r : SlotRecord) → slot_at v s ≡ Some r → IsRecorded m r (v.texts s)
   pub all : (n : ℕ) (u : Upload) → find n m.uploads ≡ Some u → HasSlot v n
 
 -- the image, read plainly, shows the uploads, and so many text blocks

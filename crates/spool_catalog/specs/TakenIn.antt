@@ -29,6 +29,6 @@ pub record IsTakenIn (old : Holding) (slot : ℕ) (r : SlotRecord) (new : Holdin
 -- the record of a new upload, whatever the index set
 pub record IsNewRecord (number : ℕ) (new : New) (r : SlotRecord) : Type 0 where
   pub number_is : r.number ≡ number
-  pub tells : (x : IndexSet) → IsRecordOf x r [] (new_upload new)
+  pub represents : (x : IndexSet) → IsRecordOf x r [] (new_upload new)
   pub no_text : r.text_len ≡ 0
   pub valid : 1 ≤ number → is_too_large new.declared ≡ false → IsValidRecord (number + 1) r

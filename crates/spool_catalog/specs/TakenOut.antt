@@ -1,14 +1,14 @@
 -- An upload goes out of what is kept.
 use Rattle.std.specs.Prelude.{◌≡◌, ◌≢◌, ℕ, List, None, slice_set}
-use Rattle.spool_catalog.specs.Holding.{Holding, Lists, Rises}
+use Rattle.spool_catalog.specs.Holding.{Holding, IsListedAt, Rises}
 use Rattle.spool_catalog.specs.Rows.{FreesRows}
 use Rattle.spool_catalog.specs.declared.order.NumberedSlot.{NumberedSlot}
 
 -- the number isn't listed, and each other number is with its slot
 pub record IsWithout (old : List NumberedSlot) (number : ℕ) (new : List NumberedSlot) : Type 0 where
   pub rises : Rises new
-  pub kept : (n s : ℕ) → n ≢ number → Lists old n s → Lists new n s
-  pub only : (n s : ℕ) → Lists new n s → (n ≢ number) × Lists old n s
+  pub preserved : (n s : ℕ) → n ≢ number → IsListedAt old n s → IsListedAt new n s
+  pub only : (n s : ℕ) → IsListedAt new n s → (n ≢ number) × IsListedAt old n s
 
 -- the slot is free, and so are its blocks; nothing else is another
 pub record IsTakenOut (old : Holding) (slot : ℕ) (new : Holding) : Type 0 where

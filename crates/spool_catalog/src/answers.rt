@@ -1,23 +1,23 @@
 //! What is told of the uploads.
 ghost use Rattle.std.specs.Prelude.{◌≡◌, ◌<◌, ◌≤◌, ◌↔◌, ◌-◌, ◌*◌, ℕ, None, length, min};
 ghost use Rattle.std.specs.Prelude.{IsErrOf, MatchOption, IfSome, option_copied};
-ghost use Rattle.spool_disk.specs.Disk.{Counts, IsImage, Keeps};
+ghost use Rattle.spool_disk.specs.Disk.{Counts, IsImage, Preserves};
 ghost use Rattle.spool_disk.specs.Views.{Lasts};
 ghost use Rattle.spool_journal.specs.Image.{all_pages, text_page};
 ghost use Rattle.spool_texts.specs.TextOn.{AllBelow};
 ghost use Rattle.upload_rules.specs.Answers.{Answers};
 ghost use Rattle.upload_rules.specs.Reading.{no_such, text_at, IsRead};
-ghost use Rattle.upload_rules.specs.Records.{IsShort, TellsOf, above, with_number};
+ghost use Rattle.upload_rules.specs.Records.{IsShort, RepresentsOf, above, with_number};
 ghost use Rattle.upload_rules.specs.Store.{Store, upload_of};
-ghost use Rattle.spool_catalog.specs.Records.{IsKept};
+ghost use Rattle.spool_catalog.specs.Records.{IsInSlot};
 ghost use Rattle.spool_catalog.specs.Holding.{IsOwnedBy};
 ghost use Rattle.spool_catalog.specs.Holding.{IsUsedBy};
-ghost use Rattle.spool_catalog.specs.Kept.{KeepsView};
-ghost use Rattle.spool_catalog.specs.Records.{HasTextOn, IsUploadOf, KeepsOf};
+ghost use Rattle.spool_catalog.specs.Catalog.{HasView};
+ghost use Rattle.spool_catalog.specs.Records.{HasTextOn, IsUploadOf, RepresentsValidOf};
 ghost use Rattle.spool_catalog.specs.Shows.{Shows};
-ghost use Rattle.spool_pages.specs.View.{View, Says};
+ghost use Rattle.spool_pages.specs.View.{View, Encodes};
 
-use crate::kept::Kept;
+use crate::catalog::Catalog;
 use crate::order::{NumberedSlot, places_to, slot_of};
 use common::{MOST_BLOCKS, SLOTS, Stop};
 use enc_index::IndexSet;
@@ -29,14 +29,14 @@ use upload_rules::{Record, UploadError, UploadRefusal};
 
 /// An upload as it is kept.
 #[derive(Clone, Copy)]
-pub struct KeptUpload<'a> {
+pub struct CatalogUpload<'a> {
     /// Its record.
     pub upload: &'a Record,
     /// The blocks of its text by ordinal.
     pub list: &'a [BlockNo],
 }
 
-impl Kept {
+impl Catalog {
     /// The slot of a number.
     pub fn slot_of(&self, number: u64) -> Option<u32>
         ensures used { MatchOption result ((s : ℕ) → IsUsedBy self.now.slots s number → ⊥)
@@ -50,34 +50,34 @@ impl Kept {
     /// The upload of a number.
     pub fn record(&self, number: u64) -> Option<&Record>
         ensures short { IfSome (option_copied result) IsShort }
-        ensures kept { (v : View) (m : Store) → KeepsView self.now v → Shows v m
-            → KeepsOf m.indexes number (upload_of m number) (option_copied result) }
-        ensures told { (v : View) (m : Store) → KeepsView self.now v → Shows v m
-            → TellsOf m.indexes (with_number number (upload_of m number)) (option_copied result) }
+        ensures valid { (v : View) (m : Store) → HasView self.now v → Shows v m
+            → RepresentsValidOf m.indexes number (upload_of m number) (option_copied result) }
+        ensures recorded { (v : View) (m : Store) → HasView self.now v → Shows v m
+            → RepresentsOf m.indexes (with_number number (upload_of m number)) (option_copied result) }
     {
         let slot = self.slot_of(number)?;
-        let kept = self.in_slot(slot)?;
-        Some(kept.record())
+        let catalog = self.in_slot(slot)?;
+        Some(catalog.record())
     }
 
     /// The upload of a number, with the blocks of its text.
-    pub fn upload(&self, number: u64) -> Option<KeptUpload<'_>>
+    pub fn upload(&self, number: u64) -> Option<CatalogUpload<'_>>
         ensures below { IfSome result (λ u. AllBelow self.now.layout u.list.now) }
         ensures long { IfSome result (λ u. u.upload.now.text_len ≤ PAGE * length u.list.now) }
         ensures few { IfSome result (λ u. length u.list.now ≤ MOST_BLOCKS) }
         ensures owned { IfSome result (λ u. IsOwnedBy self.now.slots self.now.blocks.rows number u.list.now) }
         ensures numbered { IfSome result (λ u. u.upload.now.number < self.now.next) }
-        ensures kept { IfSome result (λ u. IsKept self.now.slots u.upload.now) }
-        ensures told { (v : View) (m : Store) → KeepsView self.now v → Shows v m
+        ensures in_slot { IfSome result (λ u. IsInSlot self.now.slots u.upload.now) }
+        ensures recorded { (v : View) (m : Store) → HasView self.now v → Shows v m
             → MatchOption result (upload_of m number ≡ None) (λ u. IsUploadOf m number u.upload.now) }
-        ensures text { (v : View) (m : Store) (bytes : ℕ → ℕ) → KeepsView self.now v → Shows v m → Says bytes v
+        ensures text { (v : View) (m : Store) (bytes : ℕ → ℕ) → HasView self.now v → Shows v m → Encodes bytes v
             → IfSome result (λ u. HasTextOn m number bytes (text_page self.now.layout) u.upload.now u.list.now) }
     {
         let slot = self.slot_of(number)?;
         let used = self.in_slot(slot)?;
         let list = self.list(slot);
         let _few = self.layout.blocks();
-        Some(KeptUpload {
+        Some(CatalogUpload {
             upload: used.record(),
             list,
         })
@@ -98,15 +98,15 @@ impl Kept {
             (D.failures disk.new) }
         ensures later { D.moment disk.old ≤ D.moment disk.new }
         ensures no_memory { IsErrOf result (UploadError.Stop Stop.NoMemory) → ⊥ }
-        ensures count { (m : Store) (v : View) → KeepsView self.now v → Shows v m
+        ensures count { (m : Store) (v : View) → HasView self.now v → Shows v m
             → Answers (no_such (upload_of m number)) result
             (λ n. n ≡ min (length (text_at m (upload_of m number)) - at) (length buf.old)) (Unit {0}) }
-        ensures answer { D.honest disk.old → (m : Store) (v : View) → KeepsView self.now v → Shows v m
-            → Says (D.current disk.old) v
+        ensures answer { D.honest disk.old → (m : Store) (v : View) → HasView self.now v → Shows v m
+            → Encodes (D.current disk.old) v
             → Answers (no_such (upload_of m number)) result
             (λ n. IsRead (text_at m (upload_of m number)) at n buf.old buf.new) (Unit {0}) }
-        ensures keeps { D.honest disk.old
-            → Keeps (D.current disk.old) (D.current disk.new) (D.unsynced disk.old) (D.unsynced disk.new) }
+        ensures preserves { D.honest disk.old
+            → Preserves (D.current disk.old) (D.current disk.new) (D.unsynced disk.old) (D.unsynced disk.new) }
         ensures lasts { D.honest disk.old
             → Lasts D.Disk disk.old disk.new (IsImage (D.current disk.old) (D.unsynced disk.old)) }
     {
@@ -128,26 +128,26 @@ impl Kept {
 
     /// The upload of the least number above this one.
     pub fn record_after(&self, number: u64) -> Option<&Record>
-        ensures { (v : View) (m : Store) → KeepsView self.now v → Shows v m
-            → TellsOf m.indexes (above number m.uploads) (option_copied result) }
+        ensures { (v : View) (m : Store) → HasView self.now v → Shows v m
+            → RepresentsOf m.indexes (above number m.uploads) (option_copied result) }
     {
         let place = places_to(&self.order, number);
         let NumberedSlot { slot, .. } = *self.order.get(place)?;
-        let kept = self.in_slot(slot)?;
-        Some(kept.record())
+        let catalog = self.in_slot(slot)?;
+        Some(catalog.record())
     }
 
     /// The number that the next upload gets.
     pub fn next_number(&self) -> u64
         ensures same { result ≡ self.now.next }
-        ensures told { (v : View) (m : Store) → KeepsView self.now v → Shows v m → result ≡ m.next }
+        ensures recorded { (v : View) (m : Store) → HasView self.now v → Shows v m → result ≡ m.next }
     {
         self.next
     }
 
     /// The index files.
     pub fn indexes(&self) -> &IndexSet
-        ensures { (v : View) (m : Store) → KeepsView self.now v → Shows v m → result.now ≡ m.indexes }
+        ensures { (v : View) (m : Store) → HasView self.now v → Shows v m → result.now ≡ m.indexes }
     {
         &self.indexes
     }

@@ -38,9 +38,9 @@ impl From<DiskFault> for OpenFault {
 }
 
 impl From<RecoverError> for OpenFault {
-    ghost use Rattle.spool_catalog.specs.Faults.{fault_of};
+    ghost use Rattle.spool_catalog.specs.Faults.{open_fault_of};
 
-    ghost from_gives = { λ error fault. fault ≡ fault_of error };
+    ghost from_gives = { λ error fault. fault ≡ open_fault_of error };
 
     fn from(error: RecoverError) -> OpenFault {
         match error {

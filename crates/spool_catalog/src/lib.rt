@@ -5,9 +5,9 @@
 #![tactic(auto)]
 
 mod answers;
+mod catalog;
 mod checks;
 mod error;
-mod kept;
 mod lists;
 mod longer;
 mod order;
@@ -16,11 +16,11 @@ mod taking_in;
 mod taking_out;
 mod upgrading;
 
-pub use answers::KeptUpload;
+pub use answers::CatalogUpload;
+pub use catalog::Catalog;
 pub use checks::{are_rows_valid, are_valid};
 pub use error::{CheckError, OpenFault};
-pub use kept::Kept;
 pub use lists::blocks_of;
 pub use longer::Longer;
-pub use records::{KeptRecord, record_at};
+pub use records::{CatalogRecord, record_at};
 pub use upgrading::upgraded_shows;

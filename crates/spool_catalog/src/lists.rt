@@ -1,7 +1,7 @@
 //! Each slot's blocks by ordinal.
 ghost use Rattle.std.specs.Prelude.{◌≡◌, ◌≤◌, ◌<◌, ◌+◌, ◌++◌, ℕ, List, [], Some, None, true, IfOk, OnOk, OnErr};
 ghost use Rattle.std.specs.Prelude.{IsOkUnless, length, get_or, take, drop};
-ghost use Rattle.spool_blocks.specs.Blocks.{Row, slot_count, IsWhole};
+ghost use Rattle.spool_blocks.specs.Blocks.{Row, slot_count, IsWholeText};
 ghost use Rattle.spool_blocks.specs.Chains.{OwnsOneEach};
 ghost use Rattle.upload_rules.specs.Room.{blocks_of};
 ghost use Rattle.spool_catalog.specs.Holding.{HasBlocks, AreListsTo, OwnsText};
@@ -9,7 +9,7 @@ ghost use Rattle.spool_catalog.specs.Shows.{IsValid};
 ghost use Rattle.spool_pages.specs.View.{View};
 
 use crate::CheckError;
-use crate::records::{KeptRecord, record_at};
+use crate::records::{CatalogRecord, record_at};
 use common::SLOTS;
 use spool_blocks::{BlockNo, Blocks, Row};
 use spool_journal::PAGE;
@@ -107,7 +107,7 @@ fn checked_list(
     requires { slot < SLOTS }
     ensures blocks { IfOk result (λ list. HasBlocks blocks.now.rows slot len list) }
     ensures whole { OnOk result (OwnsOneEach blocks.now.rows slot (blocks_of len)) }
-    ensures passes { slot_count slot blocks.now.rows ≡ blocks_of len → IsWhole slot blocks.now.rows
+    ensures passes { slot_count slot blocks.now.rows ≡ blocks_of len → IsWholeText slot blocks.now.rows
         → IsOkUnless result CheckError.NoMemory }
 {
     let list = blocks.list_of(alloc, slot)?;
@@ -122,7 +122,7 @@ fn push_list(
     alloc: Global,
     lists: &mut Vec<BlockList>,
     blocks: &Blocks,
-    slots: &[Option<KeptRecord>],
+    slots: &[Option<CatalogRecord>],
     slot: u32,
 ) -> Result<(), CheckError>
     requires { slot < SLOTS }
@@ -134,7 +134,7 @@ fn push_list(
         → IsOkUnless result CheckError.NoMemory }
 {
     let list = match record_at(slots, slot as usize) {
-        Some(kept) => checked_list(alloc, blocks, slot, kept.record().text_len)?,
+        Some(slot_used) => checked_list(alloc, blocks, slot, slot_used.record().text_len)?,
         None => BlockList {
             blocks: Vec::new(alloc),
         },
@@ -149,7 +149,7 @@ fn push_list(
 pub(crate) fn lists_of(
     alloc: Global,
     blocks: &Blocks,
-    slots: &[Option<KeptRecord>],
+    slots: &[Option<CatalogRecord>],
 ) -> Result<Vec<BlockList>, CheckError>
     ensures long { IfOk result (λ lists. length lists.items ≡ SLOTS) }
     ensures lists { IfOk result (λ lists. AreListsTo blocks.now.rows slots.now lists.items SLOTS) }

@@ -4,19 +4,19 @@ ghost use Rattle.std.specs.Prelude.{IfOk, OnOk, OnErr, IsSome};
 ghost use Rattle.spool_blocks.specs.Blocks.{Row as HeldRow};
 ghost use Rattle.spool_journal.specs.Image.{journal_pages, InArea};
 ghost use Rattle.spool_pages.specs.Changes.{ChangesButRows, with_record, SameRowsBut};
-ghost use Rattle.spool_pages.specs.View.{SlotRecord as Said, View};
+ghost use Rattle.spool_pages.specs.View.{SlotRecord as SlotRecord, View};
 ghost use Rattle.spool_texts.specs.Drafts.{IsReserved};
 ghost use Rattle.spool_texts.specs.TextOn.{AllBelow};
 ghost use Rattle.upload_rules.specs.States.{SameEncodings};
-ghost use Rattle.spool_catalog.specs.Longer.{MayExtend, HandsOn, IsLonger, longer_record};
+ghost use Rattle.spool_catalog.specs.Longer.{MayExtend, HandsOn, HasLonger, longer_record};
 
-use crate::kept::Kept;
+use crate::catalog::Catalog;
 use crate::lists::blocks_from;
-use crate::records::KeptRecord;
+use crate::records::CatalogRecord;
 use common::MOST_BLOCKS;
 use spool_blocks::BlockNo;
 use spool_journal::{PAGE, Pages};
-use spool_pages::{SlotRecord, pages_of_change};
+use spool_pages::{BorrowedRecord, pages_of_change};
 use std::alloc::{AllocError, Global};
 
 /// What an upload becomes.
@@ -35,29 +35,29 @@ pub struct Longer {
 }
 
 // The slot's upload gets longer.
-fn set_record(slots: &mut Vec<Option<KeptRecord>>, longer: &Longer)
+fn set_record(slots: &mut Vec<Option<CatalogRecord>>, longer: &Longer)
     requires used { IsSome (get_or slots.old.items longer.now.slot None) }
-    requires state { (r : Said) → get_or slots.old.items longer.now.slot None ≡ Some r
+    requires state { (r : SlotRecord) → get_or slots.old.items longer.now.slot None ≡ Some r
         → SameEncodings r.state longer.now.state }
-    ensures { (r : Said) → get_or slots.old.items longer.now.slot None ≡ Some r
+    ensures { (r : SlotRecord) → get_or slots.old.items longer.now.slot None ≡ Some r
         → slots.new.items ≡ slice_set slots.old.items longer.now.slot (Some (longer_record r longer.now)) }
 {
-    if let Some(kept) = &mut slots[longer.slot as usize] {
-        kept.extend(longer);
+    if let Some(slot_used) = &mut slots[longer.slot as usize] {
+        slot_used.extend(longer);
     }
 }
 
-impl Kept {
+impl Catalog {
     // How many full blocks a slot's text has.
     fn full_blocks(&self, slot: u32) -> u32
         requires { IsSome (get_or self.now.slots slot None) }
-        ensures full { (r : Said) → get_or self.now.slots slot None ≡ Some r → result ≡ r.text_len / PAGE }
+        ensures full { (r : SlotRecord) → get_or self.now.slots slot None ≡ Some r → result ≡ r.text_len / PAGE }
         ensures few { length self.now.blocks.rows ≤ MOST_BLOCKS }
         ensures listed { result ≤ length (get_or self.now.lists slot []) }
     {
         let _few = self.blocks.rows();
-        let kept = self.in_slot(slot).unwrap();
-        (kept.record().text_len / PAGE as u64) as u32
+        let slot_used = self.in_slot(slot).unwrap();
+        (slot_used.record().text_len / PAGE as u64) as u32
     }
 
     // The blocks whose rows change: the new ones, and the slot's last ones, which they replace. None where there are no
@@ -70,9 +70,9 @@ impl Kept {
     ) -> Result<Vec<BlockNo>, AllocError>
         requires used { IsSome (get_or self.now.slots slot None) }
         requires reserved { IsReserved self.now.blocks more.now }
-        ensures below { (r : Said) → get_or self.now.slots slot None ≡ Some r
+        ensures below { (r : SlotRecord) → get_or self.now.slots slot None ≡ Some r
             → IfOk result (λ blocks. AllBelow self.now.layout blocks.items) }
-        ensures differ { (r : Said) → get_or self.now.slots slot None ≡ Some r → (old new : List HeldRow)
+        ensures differ { (r : SlotRecord) → get_or self.now.slots slot None ≡ Some r → (old new : List HeldRow)
             → (length more.now ≡ 0 → SameRowsBut [] old new)
             → (0 < length more.now
             → SameRowsBut (more.now ++ drop (r.text_len / PAGE) (get_or self.now.lists slot [])) old new)
@@ -100,7 +100,7 @@ impl Kept {
         ensures area { IfOk result (λ pages. InArea (journal_pages self.now.layout) pages) }
         ensures some { IfOk result (λ pages. 1 ≤ length pages) }
         ensures changes { (v : View) → v.blocks ≡ self.now.layout → v.version ≡ self.now.version
-            → v.slots ≡ self.now.slots → (r : Said) → get_or self.now.slots longer.now.slot None ≡ Some r
+            → v.slots ≡ self.now.slots → (r : SlotRecord) → get_or self.now.slots longer.now.slot None ≡ Some r
             → (rows : List HeldRow) → (length more.now ≡ 0 → SameRowsBut [] v.rows rows)
             → (0 < length more.now
             → SameRowsBut (more.now ++ drop (r.text_len / PAGE) (get_or self.now.lists longer.now.slot [])) v.rows rows)
@@ -109,13 +109,13 @@ impl Kept {
     {
         let slot = longer.slot;
         let blocks = self.changed_blocks(alloc, slot, more)?;
-        let kept = self.in_slot(slot).unwrap();
-        let next = SlotRecord {
+        let slot_used = self.in_slot(slot).unwrap();
+        let next = BorrowedRecord {
             declared: longer.declared,
             accepted: longer.accepted,
             text_len: longer.text_len,
             state: longer.state,
-            ..kept.slot_record()
+            ..slot_used.slot_record()
         };
         let beside = self.beside(slot);
         pages_of_change(
@@ -135,8 +135,8 @@ impl Kept {
         requires reserved { IsReserved self.old.blocks more.now }
         ensures layout { self.new.layout ≡ self.old.layout }
         ensures version { self.new.version ≡ self.old.version }
-        ensures longer { OnOk result ((r : Said) → get_or self.old.slots longer.now.slot None ≡ Some r
-            → IsLonger self.old r longer.now more.now self.new) }
+        ensures longer { OnOk result ((r : SlotRecord) → get_or self.old.slots longer.now.slot None ≡ Some r
+            → HasLonger self.old r longer.now more.now self.new) }
         ensures reserved { OnOk result (HandsOn self.old.blocks.reserved self.new.blocks.reserved more.now) }
         ensures unmade { OnErr result (self.new ≡ self.old) }
     {

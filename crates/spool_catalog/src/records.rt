@@ -4,54 +4,54 @@ ghost use Rattle.std.specs.Prelude.{IsOkUnless, IsTrue, ◌↔◌};
 ghost use Rattle.upload_rules.specs.Records.{IsShort};
 ghost use Rattle.upload_rules.specs.States.{SameEncodings};
 ghost use Rattle.spool_catalog.specs.Longer.{longer_record};
-ghost use Rattle.spool_catalog.specs.Records.{FitsKept, FitsMemory, IsReadable, IsUnpacked, said_of};
-ghost use Rattle.spool_pages.specs.View.{SlotRecord as Said};
+ghost use Rattle.spool_catalog.specs.Records.{FitsCatalog, FitsMemory, IsReadable, IsUnpacked, slot_record_of};
+ghost use Rattle.spool_pages.specs.View.{SlotRecord as SlotRecord};
 
 use crate::CheckError;
 use crate::longer::Longer;
 use common::MOST_METADATA;
 use enc_stream::Transcoder;
-use spool_pages::SlotRecord;
+use spool_pages::BorrowedRecord;
 use std::alloc::Global;
 use std::marker::Model;
 use upload_rules::Record;
 
 /// The record of an upload, with the encodings and the mode that its state says.
 #[derive(Drop)]
-pub struct KeptRecord {
+pub struct CatalogRecord {
     record: Record,
 }
 
-impl Model for KeptRecord {
-    ghost use Rattle.spool_pages.specs.View.{SlotRecord as Said};
+impl Model for CatalogRecord {
+    ghost use Rattle.spool_pages.specs.View.{SlotRecord as SlotRecord};
 
-    ghost Value = { Said };
+    ghost Value = { SlotRecord };
 
-    ghost use Rattle.spool_catalog.specs.Records.{FitsMemory, said_of};
+    ghost use Rattle.spool_catalog.specs.Records.{FitsMemory, slot_record_of};
 
-    ghost view = { λ k. said_of k.record };
+    ghost view = { λ k. slot_record_of k.record };
 
     ghost invariant = { λ k. FitsMemory k.record };
 }
 
-impl KeptRecord {
+impl CatalogRecord {
     /// The record, with metadata of its own.
     ///
     /// # Errors
     ///
     /// `Damaged` where the state is none of a transcoder, or the metadata isn't printable ASCII; `NoMemory` where an
     /// allocation was refused.
-    pub fn of(alloc: Global, record: &SlotRecord<'_>) -> Result<KeptRecord, CheckError>
+    pub fn of(alloc: Global, record: &BorrowedRecord<'_>) -> Result<CatalogRecord, CheckError>
         requires { length «record».now.metadata ≤ MOST_METADATA }
-        ensures passes { FitsKept (Some «record».now) → IsOkUnless result CheckError.NoMemory }
-        ensures same { IfOk result (λ kept. kept ≡ «record».now) }
+        ensures passes { FitsCatalog (Some «record».now) → IsOkUnless result CheckError.NoMemory }
+        ensures same { IfOk result (λ slot_used. slot_used ≡ «record».now) }
         ensures valid { OnOk result (IsReadable «record».now) }
     {
         let Some(transcoder) = Transcoder::unpack(&record.state) else {
             return Err(CheckError::Damaged);
         };
         let metadata = text_of(alloc, record.metadata)?;
-        Ok(KeptRecord {
+        Ok(CatalogRecord {
             record: Record {
                 number: record.number,
                 declared: record.declared,
@@ -68,7 +68,7 @@ impl KeptRecord {
 
     /// What is told of the upload.
     pub fn record(&self) -> &Record
-        ensures said { said_of result.now ≡ self.now }
+        ensures slot_record { slot_record_of result.now ≡ self.now }
         ensures unpacked { IsUnpacked result.now }
         ensures short { IsShort result.now }
     {
@@ -76,11 +76,11 @@ impl KeptRecord {
     }
 
     /// A record that is kept.
-    pub(crate) fn new(upload: Record) -> KeptRecord
+    pub(crate) fn new(upload: Record) -> CatalogRecord
         requires { FitsMemory upload }
-        ensures { result ≡ said_of upload }
+        ensures { result ≡ slot_record_of upload }
     {
-        KeptRecord { record: upload }
+        CatalogRecord { record: upload }
     }
 
     /// The upload gets longer, or its length.
@@ -95,11 +95,11 @@ impl KeptRecord {
     }
 
     /// The record as its slot's bytes say it.
-    pub fn slot_record(&self) -> SlotRecord<'_>
-        ensures said { result ≡ self.now }
+    pub fn slot_record(&self) -> BorrowedRecord<'_>
+        ensures slot_record { result ≡ self.now }
         ensures short { length result.metadata ≤ MOST_METADATA }
     {
-        SlotRecord {
+        BorrowedRecord {
             number: self.record.number,
             declared: self.record.declared,
             accepted: self.record.accepted,
@@ -111,7 +111,7 @@ impl KeptRecord {
 }
 
 /// The record of a slot, none where the slot is free or isn't there.
-pub fn record_at(slots: &[Option<KeptRecord>], slot: usize) -> Option<&KeptRecord>
+pub fn record_at(slots: &[Option<CatalogRecord>], slot: usize) -> Option<&CatalogRecord>
     ensures { option_copied result ≡ get_or slots.now slot None }
 {
     match slots.get(slot) {
@@ -121,8 +121,11 @@ pub fn record_at(slots: &[Option<KeptRecord>], slot: usize) -> Option<&KeptRecor
 }
 
 /// The record of a slot as its bytes say it, none where the slot is free or isn't there.
-pub(crate) fn slot_record_at(slots: &[Option<KeptRecord>], slot: usize) -> Option<SlotRecord<'_>>
-    ensures said { result ≡ get_or slots.now slot None }
+pub(crate) fn slot_record_at(
+    slots: &[Option<CatalogRecord>],
+    slot: usize,
+) -> Option<BorrowedRecord<'_>>
+    ensures slot_record { result ≡ get_or slots.now slot None }
     ensures short { IfSome result (λ r. length r.metadata ≤ MOST_METADATA) }
 {
     Some(record_at(slots, slot)?.slot_record())

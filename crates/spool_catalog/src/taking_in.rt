@@ -4,15 +4,15 @@ ghost use Rattle.std.specs.Prelude.{OnOk, IfSome, MatchOption};
 ghost use Rattle.spool_journal.specs.Image.{journal_pages, InArea};
 ghost use Rattle.spool_pages.specs.Changes.{Changes, with_record};
 ghost use Rattle.spool_pages.specs.View.{View};
-ghost use Rattle.upload_rules.specs.Records.{IsWellFormed};
+ghost use Rattle.upload_rules.specs.Records.{IsValidNew};
 ghost use Rattle.upload_rules.specs.Store.{Store};
-ghost use Rattle.spool_catalog.specs.Kept.{KeepsView};
+ghost use Rattle.spool_catalog.specs.Catalog.{HasView};
 ghost use Rattle.spool_catalog.specs.Shows.{Shows};
 ghost use Rattle.spool_catalog.specs.TakenIn.{HasRoomAt, IsTakenIn, IsNewRecord};
 
-use crate::kept::Kept;
+use crate::catalog::Catalog;
 use crate::order::put;
-use crate::records::{KeptRecord, record_at};
+use crate::records::{CatalogRecord, record_at};
 use common::SLOTS;
 use spool_journal::Pages;
 use spool_pages::pages_of_new;
@@ -20,7 +20,7 @@ use std::alloc::{AllocError, Global};
 use upload_rules::{NUMBERS_END, New, Record};
 
 // The first free slot.
-fn free_slot(slots: &[Option<KeptRecord>]) -> Option<u32>
+fn free_slot(slots: &[Option<CatalogRecord>]) -> Option<u32>
     ensures { MatchOption result ((s : ℕ) → s < SLOTS → IsSome (get_or slots.now s None))
         (λ s. (s < SLOTS) × (get_or slots.now s None ≡ None)) }
 {
@@ -32,11 +32,11 @@ fn free_slot(slots: &[Option<KeptRecord>]) -> Option<u32>
     None
 }
 
-impl Kept {
+impl Catalog {
     /// A slot for a new upload: none where 512 are in use, or the next number is the last one.
     pub fn slot_for_new(&self) -> Option<u32>
         ensures room { IfSome result (HasRoomAt self.now) }
-        ensures few { (v : View) (m : Store) → KeepsView self.now v → Shows v m
+        ensures few { (v : View) (m : Store) → HasView self.now v → Shows v m
             → MatchOption result ((SLOTS ≤ length m.uploads) ⊎ (10 ^ 18 ≤ m.next)) (λ s. length m.uploads < SLOTS) }
     {
         if self.order.len() >= SLOTS as usize || self.next >= NUMBERS_END {
@@ -46,15 +46,20 @@ impl Kept {
     }
 
     /// The record of a new upload, without bytes, under the next number.
-    pub fn new_record(&self, new: New) -> KeptRecord
-        requires { IsWellFormed new }
+    pub fn new_record(&self, new: New) -> CatalogRecord
+        requires { IsValidNew new }
         ensures { IsNewRecord self.now.next new result }
     {
-        KeptRecord::new(Record::first(self.next, new))
+        CatalogRecord::new(Record::first(self.next, new))
     }
 
     // The pages that a new record in a slot makes.
-    fn pages_with(&self, alloc: Global, slot: u32, record: &KeptRecord) -> Result<Pages, AllocError>
+    fn pages_with(
+        &self,
+        alloc: Global,
+        slot: u32,
+        record: &CatalogRecord,
+    ) -> Result<Pages, AllocError>
         requires { HasRoomAt self.now slot }
         ensures area { IfOk result (λ pages. InArea (journal_pages self.now.layout) pages) }
         ensures some { IfOk result (λ pages. 1 ≤ length pages) }
@@ -62,7 +67,7 @@ impl Kept {
             → v.slots ≡ self.now.slots → IfOk result (λ pages. Changes pages v (record (with_record v slot «record».now)
             { next = self.now.next + 1 })) }
     {
-        let kept = record.slot_record();
+        let slot_used = record.slot_record();
         let beside = self.beside(slot);
         let next = self.next + 1;
         pages_of_new(
@@ -71,13 +76,13 @@ impl Kept {
             self.version,
             next,
             slot,
-            &kept,
+            &slot_used,
             beside.as_ref(),
         )
     }
 
     // Takes a new upload's record in. When out of memory all is as it was.
-    fn take_in(&mut self, slot: u32, record: KeptRecord) -> Result<(), AllocError>
+    fn take_in(&mut self, slot: u32, record: CatalogRecord) -> Result<(), AllocError>
         requires room { HasRoomAt self.old slot }
         requires number { «record».number ≡ self.old.next }
         requires no_text { «record».text_len ≡ 0 }
@@ -95,7 +100,7 @@ impl Kept {
         &mut self,
         alloc: Global,
         slot: u32,
-        record: KeptRecord,
+        record: CatalogRecord,
     ) -> Result<Pages, AllocError>
         requires room { HasRoomAt self.old slot }
         requires number { «record».number ≡ self.old.next }

@@ -4,10 +4,10 @@ ghost use Rattle.spool_blocks.specs.Blocks.{Row as HeldRow};
 ghost use Rattle.spool_journal.specs.Image.{journal_pages, InArea};
 ghost use Rattle.spool_pages.specs.Changes.{ChangesButRows, with_slot, SameRowsBut};
 ghost use Rattle.spool_pages.specs.View.{View};
-ghost use Rattle.spool_catalog.specs.Holding.{IsUsedBy, Lists, Rises};
+ghost use Rattle.spool_catalog.specs.Holding.{IsUsedBy, IsListedAt, Rises};
 ghost use Rattle.spool_catalog.specs.TakenOut.{IsTakenOut, IsWithout};
 
-use crate::kept::Kept;
+use crate::catalog::Catalog;
 use crate::order::{NumberedSlot, places_to};
 use spool_journal::Pages;
 use spool_pages::pages_of_change;
@@ -16,14 +16,14 @@ use std::alloc::{AllocError, Global};
 // Takes a number that is listed out of the order.
 fn take_number(order: &mut Vec<NumberedSlot>, number: u64)
     requires rises { Rises order.old.items }
-    requires listed { (s : ℕ) × Lists order.old.items number s }
+    requires listed { (s : ℕ) × IsListedAt order.old.items number s }
     ensures { IsWithout order.old.items number order.new.items }
 {
     let place = places_to(order, number) - 1;
     order.remove(place);
 }
 
-impl Kept {
+impl Catalog {
     /// The pages that change where a slot becomes free. Those with rows are blank.
     pub fn pages_without(&self, alloc: Global, slot: u32) -> Result<Pages, AllocError>
         requires used { (n : ℕ) × IsUsedBy self.now.slots slot n }

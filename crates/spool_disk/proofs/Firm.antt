@@ -2,7 +2,7 @@
 use Rattle.std.proofs.Common.{◌≡◌, ℕ, List, length, inl, inr, refl, ◌∙◌, arith, ⊎_elim, Result, Ok, Err, IsOk, IsErr}
 use Rattle.std.proofs.Common.{OnOk, subst, sym, ◌↔◌}
 use Rattle.std.proofs.lemmas.Bool.{cases_lt}
-use Rattle.spool_disk.specs.Disk.{span, In, IsImage, Elapses, Writes, Syncs, Keeps, Firm, Apart, Reads, Counts}
+use Rattle.spool_disk.specs.Disk.{span, In, IsImage, Elapses, Writes, Syncs, Preserves, Firm, Apart, Reads, Counts}
 use Rattle.spool_disk.specs.Views.{Lasts}
 use Rattle.spool_disk.specs.declared.disk.Disk.{Ghosts}
 use Rattle.spool_disk.proofs.Span.{span_same}
@@ -111,11 +111,11 @@ reads_synced {current = current} {current' = current'} {at = at} {xs = xs} gives
   is_synced = λ p here. syncs.is_synced done p;
 }
 
-pub reads_keeps : {current current' : ℕ → ℕ} {unsynced unsynced' : ℕ → Type 0} {at : ℕ} {xs : List ℕ}
+pub reads_preserve : {current current' : ℕ → ℕ} {unsynced unsynced' : ℕ → Type 0} {at : ℕ} {xs : List ℕ}
     → Reads current at xs
-    → Keeps current current' unsynced unsynced' → Reads current' at xs
-reads_keeps {current = current} {current' = current'} {at = at} {xs = xs} gives keeps = record {
-  reads = span_same current' current at (length xs) (λ p here. keeps.same p) ∙ gives.reads;
+    → Preserves current current' unsynced unsynced' → Reads current' at xs
+reads_preserve {current = current} {current' = current'} {at = at} {xs = xs} gives preserves = record {
+  reads = span_same current' current at (length xs) (λ p here. preserves.same p) ∙ gives.reads;
 }
 
 -- a read of as many bytes gives them

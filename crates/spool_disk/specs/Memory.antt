@@ -8,8 +8,8 @@ abbrev pub size_of : MemoryDisk → ℕ
 size_of disk = length disk.written.items
 
 -- What a read gives.
-abbrev pub bytes_of : MemoryDisk → ℕ → ℕ
-bytes_of disk p = get_or disk.written.items p 0
+abbrev pub memory_bytes : MemoryDisk → ℕ → ℕ
+memory_bytes disk p = get_or disk.written.items p 0
 
 -- The bytes of the last sync.
 abbrev pub synced_of : MemoryDisk → ℕ → ℕ

@@ -25,8 +25,8 @@ lengthened found len =
     ++ made (Len found) [] true ∷ []
 
 -- The calls that open or make a file of at least this length, and last a sync of its folder.
-abbrev pub created : (found len : ℕ) → List Made
-created found len = made SyncFolder [] true ∷ lengthened found len ++ opened true
+abbrev pub calls_to_make : (found len : ℕ) → List Made
+calls_to_make found len = made SyncFolder [] true ∷ lengthened found len ++ opened true
 
 -- What a call with these bytes gave: the bytes if it is a read that succeeded, and otherwise nothing.
 abbrev pub read_by : FileCall → List ℕ → Bool → List Given

@@ -14,5 +14,5 @@ pub record Lasts {D : Type 0} (disk : Ghosts D) (old new : D) (P : (ℕ → ℕ)
       → disk.left_since old t image ⊎ P image
 
 -- A read gives these bytes from the place on.
-abbrev pub Gives : {D : Type 0} (disk : Ghosts D) → D → ℕ → List ℕ → Type 0
-Gives disk d at bytes = Reads (disk.current d) at bytes
+abbrev pub GivesBytes : {D : Type 0} (disk : Ghosts D) → D → ℕ → List ℕ → Type 0
+GivesBytes disk d at bytes = Reads (disk.current d) at bytes

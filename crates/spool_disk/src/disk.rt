@@ -1,6 +1,6 @@
 //! The trait of disks.
 ghost use Rattle.std.specs.Prelude.{◌≡◌, ◌≤◌, ◌+◌, ◌↔◌, ℕ, length, IsErr, IsOk, List, ◌∷◌, OnOk, OnErr};
-ghost use Rattle.spool_disk.specs.Disk.{Counts, span, IsImage, Elapses, Writes, Syncs, Keeps};
+ghost use Rattle.spool_disk.specs.Disk.{Counts, span, IsImage, Elapses, Writes, Syncs, Preserves};
 ghost use Rattle.spool_disk.specs.Given.{given};
 
 use common::DiskFault;
@@ -35,7 +35,7 @@ pub trait Disk {
 
     /// Which calls fail, as far as this kind of disk specifies it: whether the call failed, the disk before it and
     /// after it.
-    ghost tells: { Type 0 → Self → Self → Type 0 };
+    ghost fails_by: { Type 0 → Self → Self → Type 0 };
 
     /// The number of bytes.
     fn len(&self) -> u64
@@ -48,7 +48,7 @@ pub trait Disk {
         ensures size { size self.new ≡ size self.old }
         ensures honest { honest self.old ↔ honest self.new }
         ensures bytes { honest self.old → IsOk result → buf.new ≡ span (current self.old) at (length buf.old) }
-        ensures keeps { honest self.old → Keeps (current self.old) (current self.new) (unsynced self.old)
+        ensures preserves { honest self.old → Preserves (current self.old) (current self.new) (unsynced self.old)
             (unsynced self.new) }
         ensures later { moment self.old ≤ moment self.new }
         ensures time { honest self.old → Elapses (moment self.old) (moment self.new) (left_since self.old)
@@ -56,7 +56,7 @@ pub trait Disk {
         ensures counts { Counts (IsErr result) (failures self.old) (failures self.new) }
         ensures given { OnOk result (reads self.new ≡ given at buf.new ∷ reads self.old) }
         ensures none { OnErr result (reads self.new ≡ reads self.old) }
-        ensures tells { tells (IsErr result) self.old self.new };
+        ensures fails_by { fails_by (IsErr result) self.old self.new };
 
     /// Writes the bytes from `at` on. The range has to lie within the disk. Until a sync succeeds, and also if this
     /// call fails, a crash may leave any bytes there.
@@ -71,7 +71,7 @@ pub trait Disk {
             (left_since self.new) (current self.new) (unsynced self.new) }
         ensures counts { Counts (IsErr result) (failures self.old) (failures self.new) }
         ensures reads { reads self.new ≡ reads self.old }
-        ensures tells { tells (IsErr result) self.old self.new };
+        ensures fails_by { fails_by (IsErr result) self.old self.new };
 
     /// Makes all writes so far durable: after a sync that succeeds, the only crash image is what a read gives. After
     /// one that fails, a read may give any of the crash images.
@@ -85,7 +85,7 @@ pub trait Disk {
             (left_since self.new) (current self.new) (unsynced self.new) }
         ensures counts { Counts (IsErr result) (failures self.old) (failures self.new) }
         ensures reads { reads self.new ≡ reads self.old }
-        ensures tells { tells (IsErr result) self.old self.new };
+        ensures fails_by { fails_by (IsErr result) self.old self.new };
 
     /// The current crash images are among those since any earlier moment.
     ghost counts_now: { (disk : Self) (t : ℕ) (image : ℕ → ℕ) → t ≤ moment disk

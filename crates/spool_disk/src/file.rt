@@ -1,7 +1,7 @@
 //! A file as a disk.
 ghost use Rattle.std.specs.Prelude.{◌≡◌, ◌↔◌, ◌++◌, ℕ, [], ◌∷◌, true, false, is_ok, IfOk, IfErr, IsErr, OnOk, Some};
 ghost use Rattle.spool_disk.specs.Disk.{Counts, IsImage};
-ghost use Rattle.spool_disk.specs.Positioned.{made, opened, lengthened, created};
+ghost use Rattle.spool_disk.specs.Positioned.{made, opened, lengthened, calls_to_make};
 
 use crate::{Disk, DiskFault, FileCall, Positioned, SystemFile};
 use std::fs::{File, Files};
@@ -39,7 +39,7 @@ impl PositionedDisk<SystemFile> {
     pub fn create<R: Files<File = File>>(rt: &R, path: &str, len: u64) -> Result<Self, DiskFault>
         ensures len { IfOk result (λ disk. length_of disk ≡ len) }
         ensures none { IfOk result (λ disk. failed_in disk ≡ 0) }
-        ensures made { IfOk result (λ disk. (found : ℕ) × (calls_in disk ≡ created found len)) }
+        ensures made { IfOk result (λ disk. (found : ℕ) × (calls_in disk ≡ calls_to_make found len)) }
     {
         FileDisk::try_create(rt, path, len).map_err(DiskFault::from)
     }
@@ -61,7 +61,7 @@ impl PositionedDisk<SystemFile> {
     pub fn try_create<R: Files<File = File>>(rt: &R, path: &str, len: u64) -> io::Result<Self>
         ensures len { IfOk result (λ disk. length_of disk ≡ len) }
         ensures none { IfOk result (λ disk. failed_in disk ≡ 0) }
-        ensures made { IfOk result (λ disk. (found : ℕ) × (calls_in disk ≡ created found len)) }
+        ensures made { IfOk result (λ disk. (found : ℕ) × (calls_in disk ≡ calls_to_make found len)) }
     {
         let mut file = SystemFile::create(rt, path)?;
         lengthen(&mut file, len)?;
@@ -109,7 +109,7 @@ impl<F> PositionedDisk<F> {
     fn note(&mut self, outcome: io::Result<()>) -> Result<(), DiskFault>
         ensures file { file_of self.new ≡ file_of self.old }
         ensures len { length_of self.new ≡ length_of self.old }
-        ensures told { is_ok result ≡ is_ok outcome }
+        ensures same { is_ok result ≡ is_ok outcome }
         ensures counts { Counts (IsErr result) (failed_in self.old) (failed_in self.new) }
         ensures why { IfErr outcome (λ error. latest_error self.new ≡ Some error) }
     {
@@ -157,7 +157,7 @@ impl<F: Positioned> Disk for PositionedDisk<F> {
     // The calls of the file say which reads there were.
     ghost reads = { λ d. reads_in (F.calls (file_of d)) };
 
-    ghost tells = { λ failed old new. Unit {0} };
+    ghost fails_by = { λ failed old new. Unit {0} };
 
     ghost counts_now = { λ d t image le now. now };
 

@@ -112,7 +112,7 @@ impl<D: Disk> Disk for HiccupDisk<D> {
 
     ghost reads = { λ d. D.reads (within_of d) };
 
-    ghost tells = { λ failed old new. Waits (D.tells failed) failed old new };
+    ghost fails_by = { λ failed old new. Waits (D.fails_by failed) failed old new };
 
     ghost counts_now = { λ d. D.counts_now (within_of d) };
 

@@ -23,7 +23,7 @@ pub struct MemoryDisk {
 }
 
 impl MemoryDisk {
-    ghost use Rattle.spool_disk.specs.Memory.{size_of, bytes_of, synced_of, unsynced_of, reads_of};
+    ghost use Rattle.spool_disk.specs.Memory.{size_of, memory_bytes, synced_of, unsynced_of, reads_of};
 
     /// A disk of zeros, all synced. Later calls need no memory.
     ///
@@ -32,7 +32,7 @@ impl MemoryDisk {
     /// `AllocError`.
     pub fn new(alloc: Global, len: usize) -> Result<Self, AllocError>
         ensures size { IfOk result (λ disk. size_of disk ≡ len) }
-        ensures zeros { IfOk result (λ disk. (p : ℕ) → bytes_of disk p ≡ 0) }
+        ensures zeros { IfOk result (λ disk. (p : ℕ) → memory_bytes disk p ≡ 0) }
         ensures synced { IfOk result (λ disk. (p : ℕ) → synced_of disk p ≡ 0) }
         ensures is_synced { IfOk result (λ disk. (p : ℕ) → unsynced_of disk p → ⊥) }
     {
@@ -50,11 +50,11 @@ impl MemoryDisk {
     /// The disk after a crash of this kind: one of its crash images, all synced.
     pub fn crash(self, kind: Crash) -> Self
         ensures size { size_of result ≡ size_of self }
-        ensures image { IsImage (bytes_of self) (unsynced_of self) (bytes_of result) }
-        ensures left { (p : ℕ) → unsynced_of self p → bytes_of result p
-            ≡ left_by kind (synced_of self p) (bytes_of self p) }
-        ensures old { kind ≡ Crash.Old → (p : ℕ) → bytes_of result p ≡ synced_of self p }
-        ensures synced { (p : ℕ) → synced_of result p ≡ bytes_of result p }
+        ensures image { IsImage (memory_bytes self) (unsynced_of self) (memory_bytes result) }
+        ensures left { (p : ℕ) → unsynced_of self p → memory_bytes result p
+            ≡ left_by kind (synced_of self p) (memory_bytes self p) }
+        ensures old { kind ≡ Crash.Old → (p : ℕ) → memory_bytes result p ≡ synced_of self p }
+        ensures synced { (p : ℕ) → synced_of result p ≡ memory_bytes result p }
         ensures is_synced { (p : ℕ) → unsynced_of result p → ⊥ }
         ensures reads { reads_of result ≡ reads_of self }
     {
@@ -80,7 +80,7 @@ impl MemoryDisk {
 fn tear(written: &mut [u8], synced: &[u8], unsynced: &[bool], kind: Crash)
     requires same { length synced.now ≡ length written.old }
     requires marked { length unsynced.now ≡ length written.old }
-    ensures kept { (p : ℕ) → (get_or unsynced.now p false ≡ true → ⊥) → get_or written.new p 0
+    ensures unchanged { (p : ℕ) → (get_or unsynced.now p false ≡ true → ⊥) → get_or written.new p 0
         ≡ get_or written.old p 0 }
     ensures left { (p : ℕ) → get_or unsynced.now p false ≡ true → get_or written.new p 0 ≡ left_by kind
         (get_or synced.now p 0) (get_or written.old p 0) }
@@ -128,25 +128,25 @@ fn mark(marks: &mut [bool], at: usize, n: usize)
 }
 
 impl Disk for MemoryDisk {
-    ghost use Rattle.spool_disk.specs.Memory.{size_of, bytes_of, unsynced_of, reads_of};
+    ghost use Rattle.spool_disk.specs.Memory.{size_of, memory_bytes, unsynced_of, reads_of};
 
     ghost size = { size_of };
 
     ghost honest = { λ d. Unit {0} };
 
-    ghost current = { bytes_of };
+    ghost current = { memory_bytes };
 
     ghost unsynced = { unsynced_of };
 
     ghost moment = { λ d. 0 };
 
-    ghost left_since = { λ d t image. IsImage (bytes_of d) (unsynced_of d) image };
+    ghost left_since = { λ d t image. IsImage (memory_bytes d) (unsynced_of d) image };
 
     ghost failures = { λ d. 0 };
 
     ghost reads = { reads_of };
 
-    ghost tells = { λ failed old new. failed → ⊥ };
+    ghost fails_by = { λ failed old new. failed → ⊥ };
 
     ghost counts_now = { λ d t image le now. now };
 
@@ -179,12 +179,12 @@ impl Disk for MemoryDisk {
 }
 
 impl CrashDisk for MemoryDisk {
-    ghost use Rattle.spool_disk.specs.Memory.{bytes_of, synced_of, unsynced_of};
+    ghost use Rattle.spool_disk.specs.Memory.{memory_bytes, synced_of, unsynced_of};
 
     type How = Crash;
 
-    ghost chosen = { λ how old new. (p : ℕ) → unsynced_of old p → bytes_of new p ≡ left_by how (synced_of old p)
-        (bytes_of old p) };
+    ghost chosen = { λ how old new. (p : ℕ) → unsynced_of old p → memory_bytes new p ≡ left_by how (synced_of old p)
+        (memory_bytes old p) };
 
     fn restart(self, how: &Crash) -> Self {
         self.crash(*how)

@@ -8,17 +8,17 @@ use Rattle.spool_journal.specs.declared.TheConstants.{PAGE}
 use Rattle.enc_model.specs.Indexes.{IndexSet, tables}
 use Rattle.upload_rules.specs.Calls.{first_patch}
 use Rattle.upload_rules.specs.Lengths.{is_length, is_too_large, known_or, longest}
-use Rattle.upload_rules.specs.Records.{Keeps}
+use Rattle.upload_rules.specs.Records.{RepresentsValid}
 use Rattle.upload_rules.specs.Room.{need_of, need}
 use Rattle.upload_rules.specs.Store.{Upload, text_of, text_with, is_complete}
 use Rattle.upload_rules.specs.World.{Patch, patch_text}
 use Rattle.upload_rules.specs.declared.records.Record.{Record}
 use Rattle.upload_rules.proofs.TextGrows.{text_after}
-use Rattle.spool_texts.specs.Drafts.{bytes_of}
+use Rattle.spool_texts.specs.Drafts.{draft_bytes}
 use Rattle.spool_texts.specs.TextOn.{blocks_on, text_on}
 use Rattle.spool_texts.proofs.Shown.{length-blocks_on}
 use Rattle.spool_drafts.specs.Drafts.{Holds, open_text}
-use Rattle.spool_drafts.specs.Progress.{HasBytes, IsGrowing, IsStored, StandsAt, Starts, blocks_in, transcoder_in}
+use Rattle.spool_drafts.specs.Progress.{HasBytes, IsGrowing, IsStored, IsStateAfter, Starts, blocks_in, transcoder_in}
 use Rattle.spool_drafts.specs.declared.progress.Progress.{Progress}
 use Rattle.spool_drafts.specs.declared.progress.Progress.TheVariants.{Text, OutOfRoom, Unencodable, Complete}
 use Rattle.spool_drafts.proofs.Patches.{fault_cases, need_fault, need_roomy, patch_text_is, wants_is}
@@ -84,15 +84,15 @@ module _ (x : IndexSet) (u : Upload) (n count : ℕ) (declare : Option ℕ) wher
         (patch_text x first false).bytes,
   )
 
-  pub open_still : (r : Record) → Keeps x n r u → is_length r.declared r.accepted ≡ false → is_complete u ≡ false
-  open_still r keeps still =
-      sym (ap (λ (known : Option ℕ). is_length known r.accepted) keeps.tells.declared
-      ∙ ap (is_length u.declared) keeps.tells.accepted) ∙ still
+  pub open_still : (r : Record) → RepresentsValid x n r u → is_length r.declared r.accepted ≡ false → is_complete u ≡ false
+  open_still r valid_record still =
+      sym (ap (λ (known : Option ℕ). is_length known r.accepted) valid_record.represents.declared
+      ∙ ap (is_length u.declared) valid_record.represents.accepted) ∙ still
 
-  pub begins : (r : Record) (list : List ℕ) (offset : ℕ) (s : Progress) → Keeps x n r u
+  pub begins : (r : Record) (list : List ℕ) (offset : ℕ) (s : Progress) → RepresentsValid x n r u
       → (r.accepted ≡ offset) × (offset + count ≤ longest (known_or r.declared declare))
       × (longest (known_or r.declared declare) < 2 ^ 64) → is_too_large declare ≡ false
-      → StandsAt x u [] (transcoder_in s) → (IsGrowing (transcoder_in s) → is_complete u ≡ false)
+      → IsStateAfter x u [] (transcoder_in s) → (IsGrowing (transcoder_in s) → is_complete u ≡ false)
       → Starts r.text_len list s → Holds x first (record {
         number = r.number;
         offset = offset;
@@ -102,20 +102,20 @@ module _ (x : IndexSet) (u : Upload) (n count : ℕ) (declare : Option ℕ) wher
         progress = s;
         spare = tt;
       })
-  begins r list offset s keeps room small stands is_open starts =
-      let committed = keeps.tells.text_len in
-      let same_longest = ap (λ (known : Option ℕ). longest (known_or known declare)) keeps.tells.declared in
+  begins r list offset s valid_record room small state_after is_open starts =
+      let committed = valid_record.represents.text_len in
+      let same_longest = ap (λ (known : Option ℕ). longest (known_or known declare)) valid_record.represents.declared in
       record {
-        number = keeps.tells.number_is;
-        offset = sym room.0 ∙ keeps.tells.accepted;
+        number = valid_record.represents.number_is;
+        offset = sym room.0 ∙ valid_record.represents.accepted;
         came = refl;
         held = omega arith;
         declare = refl;
         small = small;
-        within = omega (arith, room.0, room.1, keeps.tells.accepted, same_longest);
+        within = omega (arith, room.0, room.1, valid_record.represents.accepted, same_longest);
         fits = omega (arith, room.2, same_longest);
         committed = committed;
-        stands = stands;
+        state_after = state_after;
         needs = ap length (starts_none r.text_len list s starts) ∙ sym first_need;
         stored = stored s is_open starts;
       }
@@ -124,7 +124,7 @@ module _ (x : IndexSet) (u : Upload) (n count : ℕ) (declare : Option ℕ) wher
           → IsStored false r.text_len (length (open_text x first false)) s
       stored (Text t text) is_open starts =
           let size : length (open_text x first false) ≡ r.text_len % PAGE =
-          first_len (is_open tt) ∙ ap (λ (k : ℕ). k % PAGE) (sym keeps.tells.text_len) in
+          first_len (is_open tt) ∙ ap (λ (k : ℕ). k % PAGE) (sym valid_record.represents.text_len) in
           let rest : length (open_text x first false) - r.text_len % PAGE ≡ 0 = omega (arith, size) in (
             refl,
             record {
@@ -160,7 +160,7 @@ module _ (x : IndexSet) (u : Upload) (n count : ℕ) (declare : Option ℕ) wher
       → Starts len list s → text_on current page list len ≡ text_of x u → len ≡ length (text_of x u)
       → (IsGrowing (transcoder_in s) → is_complete u ≡ false) → HasBytes current page (open_text x first false) s
   begins_carries current page len list (Text t text) long starts is size is_open =
-      begins_bytes current page len list (bytes_of current page text) long (starts.bytes current page) is size
+      begins_bytes current page len list (draft_bytes current page text) long (starts.bytes current page) is size
       (is_open tt)
   begins_carries current page len list (OutOfRoom t) long starts is size is_open = tt
   begins_carries current page len list Unencodable long starts is size is_open = tt

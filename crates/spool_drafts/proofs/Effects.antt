@@ -2,17 +2,17 @@
 use Rattle.std.proofs.Common.{◌≡◌, inl, inr, ℕ, ◌++◌, List, [], refl, sym, ◌∙◌, subst, arith}
 use Rattle.std.proofs.Common.{append-nil, ⊎_elim}
 use Rattle.spool_blocks.specs.Blocks.{Held}
-use Rattle.spool_disk.specs.Disk.{IsImage, Keeps}
+use Rattle.spool_disk.specs.Disk.{IsImage, Preserves}
 use Rattle.spool_disk.specs.Views.{Lasts}
 use Rattle.spool_disk.specs.declared.disk.Disk.{Ghosts}
 use Rattle.spool_disk.proofs.Firm.{lasts_on, lasts_more}
 use Rattle.spool_texts.specs.Drafts.{Draft, IsReserved, Takes, GivesBack}
 use Rattle.spool_texts.specs.Written.{WritesIn, IsImageBut, aside_blocks}
 use Rattle.spool_texts.proofs.Asides.{aside_blocks_else, image_aside}
-use Rattle.spool_texts.proofs.Prefixes.{writes_keeps, writes_none, writes_on, idle_in, image_in, but_image}
+use Rattle.spool_texts.proofs.Prefixes.{writes_preserve, writes_none, writes_on, idle_in, image_in, but_image}
 use Rattle.spool_texts.proofs.Prefixes.{but_more, but_on}
 use Rattle.spool_texts.proofs.Reserves.{takes_none}
-use Rattle.enc_stream.specs.Standing.{Standing}
+use Rattle.enc_stream.specs.TranscoderState.{TranscoderState}
 use Rattle.spool_drafts.specs.Progress.{blocks_in}
 use Rattle.spool_drafts.specs.declared.progress.Progress.{Progress}
 use Rattle.spool_drafts.specs.declared.progress.Progress.TheVariants.{Text}
@@ -38,7 +38,7 @@ grasp_takes {new = new} takes reserved = record {
 }
 
 -- a draft that stores a text has its blocks
-pub takes_in : {old new : Held} {s : Progress} {t : Standing} {text : Draft} {own : List ℕ} → s ≡ Text t text
+pub takes_in : {old new : Held} {s : Progress} {t : TranscoderState} {text : Draft} {own : List ℕ} → s ≡ Text t text
     → Takes old new text.blocks own → Takes old new (blocks_in s) own
 takes_in {old = old} {new = new} {own = own} is =
     subst (λ (s : Progress). Takes old new (blocks_in s) own) (sym is)
@@ -76,10 +76,10 @@ module _ {D : Type 0} {disk : Ghosts D} {j : ℕ} where
 
   -- only read
   pub only_read : (own : List ℕ) {old new : D}
-      → Keeps (disk.current old) (disk.current new) (disk.unsynced old) (disk.unsynced new)
+      → Preserves (disk.current old) (disk.current new) (disk.unsynced old) (disk.unsynced new)
       → Lasts disk old new (IsImage (disk.current old) (disk.unsynced old)) → OnlyWrites disk j own old new
-  only_read own keeps lasts =
-      only (writes_keeps _ _ keeps) (lasts_more lasts (λ image is. but_image is))
+  only_read own preserves lasts =
+      only (writes_preserve _ _ preserves) (lasts_more lasts (λ image is. but_image is))
 
   -- one call and then another
   pub only_on : {own own' : List ℕ} {old mid new : D} (more : List ℕ) → own' ≡ own ++ more
@@ -116,11 +116,11 @@ module _ {D : Type 0} {disk : Ghosts D} {j : ℕ} where
   -- blocks, and the disk is only read
   pub effect_read : {blocks blocks' : Held} {list list' own : List ℕ} {old new : D}
       → Regrasps blocks blocks' list list' own
-      → (disk.honest old → Keeps (disk.current old) (disk.current new) (disk.unsynced old) (disk.unsynced new))
+      → (disk.honest old → Preserves (disk.current old) (disk.current new) (disk.unsynced old) (disk.unsynced new))
       → (disk.honest old → Lasts disk old new (IsImage (disk.current old) (disk.unsynced old)))
       → Effect disk j list list' old new blocks blocks'
-  effect_read {own = own} grasp keeps lasts = record {
+  effect_read {own = own} grasp preserves lasts = record {
     own = own;
     grasp = grasp;
-    writes = λ honest. only_read own (keeps honest) (lasts honest);
+    writes = λ honest. only_read own (preserves honest) (lasts honest);
   }

@@ -14,11 +14,11 @@ use Rattle.spool_texts.specs.Drafts.{Draft, count_with, len_of}
 use Rattle.upload_rules.specs.Room.{need_of, wants}
 use Rattle.upload_rules.specs.Store.{text_of, text_with, is_complete}
 use Rattle.upload_rules.specs.World.{Patch, is_there, patch_text}
-use Rattle.spool_drafts.specs.Drafts.{Holds, IsWhole, EndsAs, open_text, list_of}
+use Rattle.spool_drafts.specs.Drafts.{Holds, IsWholeDraft, EndsAs, open_text, list_of}
 use Rattle.spool_drafts.specs.Effect.{RunsShort}
 use Rattle.spool_drafts.specs.Progress.{IsFinished, FinishesAs, HoldsLen, IsStored}
 use Rattle.spool_drafts.specs.declared.progress.Progress.TheVariants.{Text}
-use Rattle.enc_stream.specs.Standing.{Standing}
+use Rattle.enc_stream.specs.TranscoderState.{TranscoderState}
 use Rattle.spool_drafts.specs.declared.draft.DraftEnd.{DraftEnd}
 use Rattle.spool_drafts.specs.declared.draft.SpoolDraft.{SpoolDraft}
 use Rattle.spool_drafts.proofs.Lengths.{need_more, need_some, need_some_more}
@@ -71,7 +71,7 @@ module _ {x : IndexSet} {p : Patch} {d : SpoolDraft} (held : Holds x p d) (still
         → EndsAs x p done d new blocks blocks' (Err (Refused refusals.Full))
     full blocks blocks' new room = (encodable_end, room)
 
-    module _ {was : Standing} {old : Draft} (in_text : d.progress ≡ Text was old) where
+    module _ {was : TranscoderState} {old : Draft} (in_text : d.progress ≡ Text was old) where
       stored : (p.short ≡ false) × HoldsLen d.committed_len old (length (open_text x p false))
       stored = subst (IsStored p.short d.committed_len (length (open_text x p false))) in_text held.stored
 
@@ -88,7 +88,7 @@ module _ {x : IndexSet} {p : Patch} {d : SpoolDraft} (held : Holds x p d) (still
           → (1 ≤ length text → length list ≡ (len_of old + length text + 4095) / PAGE)
           → (length list ≡ 0 → e.text_len ≡ d.committed_len)
           → (0 < length list → e.text_len ≡ PAGE * (d.committed_len / PAGE) + count_with list last)
-          → (1 ≤ length list → count_with list last ≡ len_of old + length text) → IsWhole x p done new e
+          → (1 ≤ length list → count_with list last ≡ len_of old + length text) → IsWholeDraft x p done new e
       whole new e list last is here same listed nothing more count =
           let holds = stored.1 in
           let t = length (text_of x p.began) in

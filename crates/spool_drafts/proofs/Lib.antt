@@ -1,6 +1,6 @@
 pub mod Effects
 pub mod Lengths
-pub mod Standings
+pub mod TranscoderStates
 pub mod Patches
 pub mod Appends
 pub mod Begins

@@ -4,8 +4,8 @@ use Rattle.std.specs.Prelude.{Some, [], length, drop, Result, Ok, Err}
 use Rattle.common.specs.declared.limits.TheConstants.{MOST_BLOCKS}
 use Rattle.spool_journal.specs.declared.TheConstants.{PAGE}
 use Rattle.enc_model.specs.Indexes.{IndexSet}
-use Rattle.enc_stream.specs.Standing.{Standing}
-use Rattle.enc_stream.specs.StateBytes.{IsValid}
+use Rattle.enc_stream.specs.TranscoderState.{TranscoderState}
+use Rattle.enc_stream.specs.StateBytes.{IsValidState}
 use Rattle.spool_blocks.specs.Blocks.{Held}
 use Rattle.spool_texts.specs.TextOn.{AllBelow}
 use Rattle.upload_rules.specs.Calls.{begin_refusal_at, first_patch}
@@ -19,22 +19,22 @@ use Rattle.upload_rules.specs.States.{SameEncodings, state_with, transcoder_with
 use Rattle.upload_rules.specs.Store.{Upload, text_of, accepted_count}
 use Rattle.upload_rules.specs.World.{Patch, is_there, patch_text}
 use Rattle.spool_drafts.specs.Effect.{RunsShort}
-use Rattle.spool_drafts.specs.Progress.{StandsAt, GoesOn, IsGrowing, IsStored, HasBytes, blocks_in, tail_in}
+use Rattle.spool_drafts.specs.Progress.{IsStateAfter, IsStateOf, IsGrowing, IsStored, HasBytes, blocks_in, tail_in}
 use Rattle.spool_drafts.specs.Progress.{NeedsNoTail, transcoder_in, without_tail}
 use Rattle.spool_drafts.specs.declared.draft.DraftEnd.{DraftEnd}
 use Rattle.spool_drafts.specs.declared.draft.SpoolDraft.{SpoolDraft}
 
 -- The upload's number.
-abbrev pub number_of : SpoolDraft → ℕ
-number_of d = d.number
+abbrev pub upload_number_of : SpoolDraft → ℕ
+upload_number_of d = d.number
 
 -- The upload's offset when the draft began.
 abbrev pub offset_of : SpoolDraft → ℕ
 offset_of d = d.offset
 
 -- How many bytes were appended since.
-abbrev pub came_of : SpoolDraft → ℕ
-came_of d = d.came
+abbrev pub appended_count : SpoolDraft → ℕ
+appended_count d = d.came
 
 -- The length that the draft declares.
 abbrev pub declare_of : SpoolDraft → Option ℕ
@@ -50,8 +50,8 @@ abbrev pub tail_of : SpoolDraft → List ℕ
 tail_of d = tail_in d.progress
 
 -- That block isn't forgotten: it is as it was, or it isn't needed any more.
-abbrev pub KeepsTail : SpoolDraft → SpoolDraft → Type 0
-KeepsTail old new = (tail_of new ≡ tail_of old) ⊎ ((tail_of new ≡ []) × NeedsNoTail new.progress)
+abbrev pub PreservesTail : SpoolDraft → SpoolDraft → Type 0
+PreservesTail old new = (tail_of new ≡ tail_of old) ⊎ ((tail_of new ≡ []) × NeedsNoTail new.progress)
 
 -- The draft without that block, and else as it was.
 abbrev pub forgetting_tail : SpoolDraft → SpoolDraft
@@ -62,13 +62,13 @@ abbrev pub committed_len_of : SpoolDraft → ℕ
 committed_len_of d = d.committed_len
 
 -- The transcoder, if bytes may come.
-abbrev pub transcoder_of : SpoolDraft → Option Standing
+abbrev pub transcoder_of : SpoolDraft → Option TranscoderState
 transcoder_of d = transcoder_in d.progress
 
 -- Properties that hold whatever the disk answers.
 
 -- The committed text's unfinished block, if the draft needs it, is one of this many.
-pub record IsPlaced (blocks : ℕ) (d : SpoolDraft) : Type 0 where
+pub record IsTailPlaced (blocks : ℕ) (d : SpoolDraft) : Type 0 where
   pub below : AllBelow blocks (tail_of d)
   pub few : committed_len_of d ≤ PAGE * MOST_BLOCKS
 
@@ -76,7 +76,7 @@ pub record IsPlaced (blocks : ℕ) (d : SpoolDraft) : Type 0 where
 -- mode are unchanged, and the offset isn't the greatest number.
 pub record IsAfter (len : ℕ) (state : List ℕ) (d : SpoolDraft) : Type 0 where
   pub committed : committed_len_of d ≡ len
-  pub goes_on : GoesOn state (transcoder_of d)
+  pub goes_on : IsStateOf state (transcoder_of d)
   pub room : IsGrowing (transcoder_of d) → offset_of d + 1 < 2 ^ 64
 
 -- The end extends that text: on these blocks, or without blocks if nothing was added, and with the same encodings.
@@ -93,16 +93,16 @@ open_text x p done = drop (PAGE * (length (text_of x p.began) / PAGE)) (patch_te
 
 -- The draft represents the patch, whatever the disk has.
 pub record Holds (x : IndexSet) (p : Patch) (d : SpoolDraft) : Type 0 where
-  pub number : number_of d ≡ p.number
+  pub number : upload_number_of d ≡ p.number
   pub offset : offset_of d ≡ accepted_count p.began
-  pub came : came_of d ≡ length p.body
+  pub came : appended_count d ≡ length p.body
   pub held : length p.body ≤ p.count
   pub declare : declare_of d ≡ p.declare
   pub small : is_too_large p.declare ≡ false
   pub within : accepted_count p.began + p.count ≤ longest (known_or p.began.declared p.declare)
   pub fits : longest (known_or p.began.declared p.declare) < 2 ^ 64
   pub committed : committed_len_of d ≡ length (text_of x p.began)
-  pub stands : StandsAt x p.began p.body (transcoder_of d)
+  pub state_after : IsStateAfter x p.began p.body (transcoder_of d)
   pub needs : length (list_of d) ≡ need x p false
   pub stored : IsStored p.short (committed_len_of d) (length (open_text x p false)) d.progress
 
@@ -130,9 +130,9 @@ IsLonger x q old new blocks blocks' =
     Holds x q new ⊎ (Holds x (shortened q) new × RunsShort blocks blocks' (list_of old) (wants x q false))
 
 -- The draft has the whole text after the full blocks of the committed one.
-pub record IsWhole (x : IndexSet) (p : Patch) (done : Bool) (d : SpoolDraft) (e : DraftEnd) : Type 0 where
+pub record IsWholeDraft (x : IndexSet) (p : Patch) (done : Bool) (d : SpoolDraft) (e : DraftEnd) : Type 0 where
   pub state_is : e.state ≡ state_with x p.began p.body done
-  pub valid : IsValid (transcoder_with x p.began p.body done)
+  pub valid : IsValidState (transcoder_with x p.began p.body done)
   pub encodable : (patch_text x p done).fault ≡ None
   pub roomy : p.short ≡ false
   pub listed : length (list_of d) ≡ wants x p done
@@ -141,7 +141,7 @@ pub record IsWhole (x : IndexSet) (p : Patch) (done : Bool) (d : SpoolDraft) (e 
 -- The result of a text's end, for an upload that wasn't complete.
 abbrev pub EndsAs : IndexSet → Patch → Bool → SpoolDraft → SpoolDraft → Held → Held → Result DraftEnd UploadError
     → Type 0
-EndsAs x p done old new blocks blocks' (Ok e) = IsWhole x p done new e
+EndsAs x p done old new blocks blocks' (Ok e) = IsWholeDraft x p done new e
 EndsAs x p done old new blocks blocks' (Err (Stop stop)) = Unit {0}
 EndsAs x p done old new blocks blocks' (Err (Refused refusals.Unencodable)) =
     is_there (patch_text x p done).fault ≡ true

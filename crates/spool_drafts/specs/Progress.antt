@@ -5,9 +5,9 @@ use Rattle.std.specs.declared.alloc.Global.{Global}
 use Rattle.common.specs.declared.stop.Stop.TheVariants.{NoMemory, DiskFault}
 use Rattle.spool_journal.specs.declared.TheConstants.{PAGE}
 use Rattle.enc_model.specs.Indexes.{IndexSet}
-use Rattle.enc_stream.specs.Standing.{Standing}
-use Rattle.enc_stream.specs.StateBytes.{IsValid}
-use Rattle.spool_texts.specs.Drafts.{Draft, IsNothingAfter, bytes_of, len_of, tail_on, without_block}
+use Rattle.enc_stream.specs.TranscoderState.{TranscoderState}
+use Rattle.enc_stream.specs.StateBytes.{IsValidState}
+use Rattle.spool_texts.specs.Drafts.{Draft, IsNothingAfter, draft_bytes, len_of, tail_on, without_block}
 use Rattle.upload_rules.specs.Room.{need_of}
 use Rattle.upload_rules.specs.States.{IsStateLike, state_with, transcoder_with}
 use Rattle.upload_rules.specs.Store.{Upload, text_with, is_complete}
@@ -40,7 +40,7 @@ without_tail (Text t text) = Text t (record text { unread = without_block text.u
 without_tail s = s
 
 -- The transcoder, if bytes may come.
-abbrev pub transcoder_in : Progress → Option Standing
+abbrev pub transcoder_in : Progress → Option TranscoderState
 transcoder_in (Text t text) = Some t
 transcoder_in (OutOfRoom t) = Some t
 transcoder_in _ = None
@@ -49,36 +49,36 @@ transcoder_in _ = None
 
 -- The state after the accepted bytes and these. Without a transcoder, a character is unmappable, or the upload is
 -- complete.
-abbrev pub StandsAt : IndexSet → Upload → List ℕ → Option Standing → Type 0
-StandsAt x u bytes (Some t) = IsReading x u bytes t
-StandsAt x u bytes None = is_complete u ≡ false → is_there (text_with x u bytes false).fault ≡ true
+abbrev pub IsStateAfter : IndexSet → Upload → List ℕ → Option TranscoderState → Type 0
+IsStateAfter x u bytes (Some t) = IsReading x u bytes t
+IsStateAfter x u bytes None = is_complete u ≡ false → is_there (text_with x u bytes false).fault ≡ true
 
 -- The text that a piece after these bytes adds, unless a character is unmappable.
-abbrev pub Adds : IndexSet → Upload → List ℕ → List ℕ → Option Standing → List ℕ → Type 0
-Adds x u bytes piece (Some t) text =
+abbrev pub AddsText : IndexSet → Upload → List ℕ → List ℕ → Option TranscoderState → List ℕ → Type 0
+AddsText x u bytes piece (Some t) text =
     (text_with x u bytes false).bytes ++ text ≡ (text_with x u (bytes ++ piece) false).bytes
-Adds x u bytes piece None text = Unit {0}
+AddsText x u bytes piece None text = Unit {0}
 
 -- The state after a piece that follows these bytes, and what the piece adds.
-pub record Reads (x : IndexSet) (u : Upload) (bytes piece : List ℕ) (next : Option Standing) (text : List ℕ)
+pub record ReadsOn (x : IndexSet) (u : Upload) (bytes piece : List ℕ) (next : Option TranscoderState) (text : List ℕ)
     : Type 0 where
-  pub stands : StandsAt x u (bytes ++ piece) next
-  pub adds : Adds x u bytes piece next text
+  pub state_after : IsStateAfter x u (bytes ++ piece) next
+  pub adds : AddsText x u bytes piece next text
 
 -- If bytes may come, the encodings and the mode are those of these state bytes.
-abbrev pub GoesOn : List ℕ → Option Standing → Type 0
-GoesOn state (Some t) = IsStateLike state t.transcoder
-GoesOn state None = Unit {0}
+abbrev pub IsStateOf : List ℕ → Option TranscoderState → Type 0
+IsStateOf state (Some t) = IsStateLike state t.transcoder
+IsStateOf state None = Unit {0}
 
 -- Bytes may come.
-abbrev pub IsGrowing : Option Standing → Type 0
+abbrev pub IsGrowing : Option TranscoderState → Type 0
 IsGrowing (Some t) = Unit {0}
 IsGrowing None = ⊥
 
 -- The end of the text over these bytes: its state, and what the end adds.
 pub record IsFinished (x : IndexSet) (u : Upload) (bytes : List ℕ) (done : Bool) (state text : List ℕ) : Type 0 where
   pub state_is : state ≡ state_with x u bytes done
-  pub valid : IsValid (transcoder_with x u bytes done)
+  pub valid : IsValidState (transcoder_with x u bytes done)
   pub encodable : (text_with x u bytes done).fault ≡ None
   pub adds : (text_with x u bytes false).bytes ++ text ≡ (text_with x u bytes done).bytes
 
@@ -112,5 +112,5 @@ IsStored short len n _ = Unit {0}
 
 -- The text that is stored has these bytes.
 abbrev pub HasBytes : (ℕ → ℕ) → ℕ → List ℕ → Progress → Type 0
-HasBytes current first bytes (Text t text) = bytes_of current first text ≡ bytes
+HasBytes current first bytes (Text t text) = draft_bytes current first text ≡ bytes
 HasBytes current first bytes _ = Unit {0}

@@ -2,20 +2,20 @@
 ghost use Rattle.std.specs.Prelude.{◌≡◌, ◌⊎◌, get_or, ◌≤◌, ◌*◌, ◌+◌, ◌<◌, ◌/◌, ◌-◌, ◌↔◌, ◌^◌, ℕ, List, []};
 ghost use Rattle.std.specs.Prelude.{false, min, length, IsOk, IsErrOf, OnOk, IfOk};
 ghost use Rattle.enc_model.specs.Indexes.{IndexSet as Indexes};
-ghost use Rattle.spool_disk.specs.Disk.{Counts, IsImage, Keeps as OnlyRead};
+ghost use Rattle.spool_disk.specs.Disk.{Counts, IsImage, Preserves};
 ghost use Rattle.spool_disk.specs.Views.{Lasts};
 ghost use Rattle.spool_journal.specs.Image.{journal_pages, all_pages, text_page};
 ghost use Rattle.spool_texts.specs.Drafts.{IsReserved, GivesBack, bytes_with};
 ghost use Rattle.spool_texts.specs.TextOn.{AllBelow, text_on};
 ghost use Rattle.upload_rules.specs.Calls.{first_patch};
-ghost use Rattle.upload_rules.specs.Records.{Keeps};
+ghost use Rattle.upload_rules.specs.Records.{RepresentsValid};
 ghost use Rattle.upload_rules.specs.States.{IsState};
 ghost use Rattle.upload_rules.specs.Store.{Upload, text_of, is_complete};
 ghost use Rattle.upload_rules.specs.World.{Patch};
 ghost use Rattle.upload_rules.specs.declared.errors.UploadRefusal.{UploadRefusal as Refusal};
 ghost use Rattle.spool_drafts.specs.Effect.{Effect};
-ghost use Rattle.spool_drafts.specs.Drafts.{Holds, Carries, EndsAs, EndsAfter, IsBegun, IsAfter, IsLonger, IsPlaced};
-ghost use Rattle.spool_drafts.specs.Drafts.{KeepsTail, with_piece, open_text, number_of, offset_of, came_of, list_of};
+ghost use Rattle.spool_drafts.specs.Drafts.{Holds, Carries, EndsAs, EndsAfter, IsBegun, IsAfter, IsLonger, IsTailPlaced};
+ghost use Rattle.spool_drafts.specs.Drafts.{PreservesTail, with_piece, open_text, upload_number_of, offset_of, appended_count, list_of};
 ghost use Rattle.spool_drafts.specs.Drafts.{declare_of, committed_len_of, forgetting_tail, transcoder_of, tail_of};
 
 use crate::progress::Progress;
@@ -71,9 +71,9 @@ impl SpoolDraft {
     ) -> Result<Self, UploadRefusal>
         requires long { upload.now.text_len ≤ PAGE * length list.now }
         requires few { length list.now ≤ MOST_BLOCKS }
-        ensures begun { (x : Indexes) (n : ℕ) (u : Upload) → Keeps x n upload.now u
+        ensures begun { (x : Indexes) (n : ℕ) (u : Upload) → RepresentsValid x n upload.now u
             → IsBegun x n offset count declare u result }
-        ensures content { (x : Indexes) (n : ℕ) (u : Upload) (current : ℕ → ℕ) (first : ℕ) → Keeps x n upload.now u
+        ensures content { (x : Indexes) (n : ℕ) (u : Upload) (current : ℕ → ℕ) (first : ℕ) → RepresentsValid x n upload.now u
             → text_on current first list.now upload.now.text_len ≡ text_of x u
             → IfOk result (λ d. Carries x current first (first_patch n count declare u) d) }
         ensures none { IfOk result (λ d. list_of d ≡ []) }
@@ -81,9 +81,9 @@ impl SpoolDraft {
             (λ d. (i : ℕ) → i < length (tail_of d)
             → (upload.now.text_len / PAGE < length list.now)
             × (get_or (tail_of d) i 0 ≡ get_or list.now (upload.now.text_len / PAGE) 0)) }
-        ensures placed { (blocks : ℕ) → AllBelow blocks list.now → IfOk result (λ d. IsPlaced blocks d) }
+        ensures placed { (blocks : ℕ) → AllBelow blocks list.now → IfOk result (λ d. IsTailPlaced blocks d) }
         ensures named { IfOk result
-            (λ d. (number_of d ≡ upload.now.number) × (offset_of d ≡ upload.now.accepted) × (declare_of d ≡ declare)) }
+            (λ d. (upload_number_of d ≡ upload.now.number) × (offset_of d ≡ upload.now.accepted) × (declare_of d ≡ declare)) }
         ensures after { IfOk result (IsAfter upload.now.text_len upload.now.state) }
     {
         upload.admits(offset, count, declare)?;
@@ -103,7 +103,7 @@ impl SpoolDraft {
 
     /// The upload's number.
     pub fn number(&self) -> u64
-        ensures { result ≡ number_of self.now }
+        ensures { result ≡ upload_number_of self.now }
     {
         self.number
     }
@@ -117,7 +117,7 @@ impl SpoolDraft {
 
     /// How many bytes were appended since.
     pub fn came(&self) -> u64
-        ensures { result ≡ came_of self.now }
+        ensures { result ≡ appended_count self.now }
     {
         self.came
     }
@@ -166,7 +166,7 @@ impl SpoolDraft {
         requires room { PAGE * all_pages layout.now ≤ D.size disk.old }
         requires blocks { length blocks.old.rows ≡ layout.now }
         requires reserved { IsReserved blocks.old (list_of self.old) }
-        requires placed { IsPlaced layout.now self.old }
+        requires placed { IsTailPlaced layout.now self.old }
         ensures size { D.size disk.new ≡ D.size disk.old }
         ensures honest { D.honest disk.old ↔ D.honest disk.new }
         ensures counts { Counts (IsErrOf result Stop.DiskFault) (D.failures disk.old) (D.failures disk.new) }
@@ -174,11 +174,11 @@ impl SpoolDraft {
             → (self.new ≡ self.old) × (disk.new ≡ disk.old) × (blocks.new ≡ blocks.old) × IsOk result }
 
         // The draft's fields, blocks and writes, whatever the result.
-        ensures same { (number_of self.new ≡ number_of self.old) × (offset_of self.new ≡ offset_of self.old)
+        ensures same { (upload_number_of self.new ≡ upload_number_of self.old) × (offset_of self.new ≡ offset_of self.old)
             × (declare_of self.new ≡ declare_of self.old) × (committed_len_of self.new ≡ committed_len_of self.old)
-            × KeepsTail self.old self.new }
+            × PreservesTail self.old self.new }
         ensures after { (len : ℕ) (state : List ℕ) → IsAfter len state self.old → IsAfter len state self.new }
-        ensures placed { IsPlaced layout.now self.new }
+        ensures placed { IsTailPlaced layout.now self.new }
         ensures rows { blocks.new.rows ≡ blocks.old.rows }
         ensures reserved { IsReserved blocks.new (list_of self.new) }
         ensures effect { Effect D.Disk (journal_pages layout.now) (list_of self.old) (list_of self.new) disk.old
@@ -269,17 +269,17 @@ impl SpoolDraft {
     ) -> Result<DraftEnd, UploadError>
         requires room { PAGE * all_pages layout.now ≤ D.size disk.old }
         requires reserved { IsReserved blocks.old (list_of self.old) }
-        requires placed { IsPlaced layout.now self.old }
+        requires placed { IsTailPlaced layout.now self.old }
         ensures size { D.size disk.new ≡ D.size disk.old }
         ensures honest { D.honest disk.old ↔ D.honest disk.new }
         ensures counts { Counts (IsErrOf result (UploadError.Stop Stop.DiskFault)) (D.failures disk.old)
             (D.failures disk.new) }
 
         // The draft's fields, blocks and writes, whatever the result.
-        ensures same { (number_of self.new ≡ number_of self.old) × (offset_of self.new ≡ offset_of self.old)
-            × (came_of self.new ≡ came_of self.old) × (declare_of self.new ≡ declare_of self.old)
+        ensures same { (upload_number_of self.new ≡ upload_number_of self.old) × (offset_of self.new ≡ offset_of self.old)
+            × (appended_count self.new ≡ appended_count self.old) × (declare_of self.new ≡ declare_of self.old)
             × (committed_len_of self.new ≡ committed_len_of self.old)
-            × KeepsTail self.old self.new }
+            × PreservesTail self.old self.new }
         ensures rows { blocks.new.rows ≡ blocks.old.rows }
         ensures reserved { IsReserved blocks.new (list_of self.new) }
         ensures effect { Effect D.Disk (journal_pages layout.now) (list_of self.old) (list_of self.new) disk.old
@@ -295,8 +295,8 @@ impl SpoolDraft {
 
         // Nothing is written. Nothing is read either if the committed text has no unfinished block.
         ensures unread { tail_of self.old ≡ [] → disk.new ≡ disk.old }
-        ensures keeps { D.honest disk.old
-            → OnlyRead (D.current disk.old) (D.current disk.new) (D.unsynced disk.old) (D.unsynced disk.new) }
+        ensures preserves { D.honest disk.old
+            → Preserves (D.current disk.old) (D.current disk.new) (D.unsynced disk.old) (D.unsynced disk.new) }
         ensures lasts { D.honest disk.old
             → Lasts D.Disk disk.old disk.new (IsImage (D.current disk.old) (D.unsynced disk.old)) }
 
@@ -341,11 +341,11 @@ impl SpoolDraft {
         ensures forgets { self.new ≡ forgetting_tail self.old }
         ensures tail { tail_of self.new ≡ [] }
         ensures nothing { tail_of self.old ≡ [] → self.new ≡ self.old }
-        ensures same { (number_of self.new ≡ number_of self.old) × (offset_of self.new ≡ offset_of self.old)
-            × (came_of self.new ≡ came_of self.old) × (declare_of self.new ≡ declare_of self.old)
+        ensures same { (upload_number_of self.new ≡ upload_number_of self.old) × (offset_of self.new ≡ offset_of self.old)
+            × (appended_count self.new ≡ appended_count self.old) × (declare_of self.new ≡ declare_of self.old)
             × (committed_len_of self.new ≡ committed_len_of self.old) × (list_of self.new ≡ list_of self.old)
             × (transcoder_of self.new ≡ transcoder_of self.old) }
-        ensures placed { (blocks : ℕ) → IsPlaced blocks self.old → IsPlaced blocks self.new }
+        ensures placed { (blocks : ℕ) → IsTailPlaced blocks self.old → IsTailPlaced blocks self.new }
         ensures after { (len : ℕ) (state : List ℕ) → IsAfter len state self.old → IsAfter len state self.new }
         ensures holds { (x : Indexes) (p : Patch) → Holds x p self.old → Holds x p self.new }
 

@@ -8,7 +8,7 @@ ghost use Rattle.spool_drafts.specs.declared.draft.SpoolDraft.{SpoolDraft};
 
 /// A draft still represents its patch after writes to other blocks: neither those that it reserved nor the one with its
 /// upload's last bytes.
-pub fn kept_drafts()
+pub fn drafts_unchanged()
     ensures { (x : IndexSet) (current current' : ℕ → ℕ) (first : ℕ) (blocks : List ℕ) (p : Patch) (d : SpoolDraft)
         → SameOutside first blocks current current' → NoneOf (list_of d) blocks → NoneOf (tail_of d) blocks
         → Carries x current first p d → Carries x current' first p d }

@@ -10,4 +10,4 @@ mod progress;
 mod spare;
 
 pub use draft::{DraftEnd, SpoolDraft};
-pub use laws::kept_drafts;
+pub use laws::drafts_unchanged;

@@ -2,14 +2,14 @@
 ghost use Rattle.std.specs.Prelude.{◌≡◌, ◌≤◌, ◌*◌, ◌++◌, ℕ, false, None, List, [], length, MatchOption, IfOk, IfSome};
 ghost use Rattle.std.specs.Prelude.{IsErrOf, IsOk};
 ghost use Rattle.enc_model.specs.Indexes.{IndexSet as Indexes};
-ghost use Rattle.enc_stream.specs.StateBytes.{IsValid};
+ghost use Rattle.enc_stream.specs.StateBytes.{IsValidState};
 ghost use Rattle.spool_texts.specs.Drafts.{IsReserved, GivesBack};
 ghost use Rattle.upload_rules.specs.Lengths.{is_length};
-ghost use Rattle.upload_rules.specs.Records.{Tells};
+ghost use Rattle.upload_rules.specs.Records.{Represents};
 ghost use Rattle.upload_rules.specs.Store.{Upload, text_with, is_complete};
 ghost use Rattle.upload_rules.specs.States.{IsState, SameEncodings, transcoder_with};
 ghost use Rattle.upload_rules.specs.declared.errors.UploadRefusal.{UploadRefusal as Refusal};
-ghost use Rattle.spool_drafts.specs.Progress.{StandsAt, Reads, GoesOn, IsGrowing, FinishesAs, Starts};
+ghost use Rattle.spool_drafts.specs.Progress.{IsStateAfter, ReadsOn, IsStateOf, IsGrowing, FinishesAs, Starts};
 ghost use Rattle.spool_drafts.specs.Progress.{blocks_in, transcoder_in};
 ghost use Rattle.common.specs.declared.stop.Stop.{Stop};
 
@@ -45,11 +45,11 @@ impl Progress {
     /// record's state bytes aren't a state.
     pub(crate) fn after(alloc: Global, upload: &Record, list: &[BlockNo]) -> Option<Self>
         requires { upload.now.text_len ≤ PAGE * length list.now }
-        ensures stands { (x : Indexes) (n : ℕ) (u : Upload) → Tells x n upload.now u
+        ensures state_after { (x : Indexes) (n : ℕ) (u : Upload) → Represents x n upload.now u
             → (text_with x u [] (is_complete u)).fault ≡ None
-            → IsValid (transcoder_with x u [] (is_complete u))
-            → MatchOption result ⊥ (λ p. StandsAt x u [] (transcoder_in p)) }
-        ensures goes_on { IfSome result (λ p. GoesOn upload.now.state (transcoder_in p)) }
+            → IsValidState (transcoder_with x u [] (is_complete u))
+            → MatchOption result ⊥ (λ p. IsStateAfter x u [] (transcoder_in p)) }
+        ensures goes_on { IfSome result (λ p. IsStateOf upload.now.state (transcoder_in p)) }
         ensures room { IfSome result (λ p. IsGrowing (transcoder_in p)
             → is_length upload.now.declared upload.now.accepted ≡ false) }
         ensures starts { IfSome result (Starts upload.now.text_len list.now) }
@@ -88,9 +88,9 @@ impl Progress {
     ) -> Result<Option<Transcoder>, AllocError>
         requires { out.old.items ≡ [] }
         ensures reads { (u : Upload) (bytes : List ℕ) → is_complete u ≡ false
-            → StandsAt indexes.now u bytes (transcoder_in self.now)
-            → IfOk result (λ next. Reads indexes.now u bytes piece.now next out.new.items) }
-        ensures goes_on { (state : List ℕ) → GoesOn state (transcoder_in self.now) → IfOk result (GoesOn state) }
+            → IsStateAfter indexes.now u bytes (transcoder_in self.now)
+            → IfOk result (λ next. ReadsOn indexes.now u bytes piece.now next out.new.items) }
+        ensures goes_on { (state : List ℕ) → IsStateOf state (transcoder_in self.now) → IfOk result (IsStateOf state) }
         ensures growing { IfOk result (λ next. IsGrowing next → IsGrowing (transcoder_in self.now)) }
     {
         let Some(mut next) = self.transcoder() else {
@@ -111,8 +111,8 @@ impl Progress {
         completes: bool,
     ) -> Result<([u8; 32], Vec<u8>), UploadError>
         ensures finished { (u : Upload) (bytes : List ℕ) → is_complete u ≡ false
-            → StandsAt indexes.now u bytes (transcoder_in self.now) → FinishesAs indexes.now u bytes completes result }
-        ensures same { (state : List ℕ) → IsState state → GoesOn state (transcoder_in self.now)
+            → IsStateAfter indexes.now u bytes (transcoder_in self.now) → FinishesAs indexes.now u bytes completes result }
+        ensures same { (state : List ℕ) → IsState state → IsStateOf state (transcoder_in self.now)
             → IfOk result (λ end. SameEncodings state end.0) }
         ensures growing { IsOk result → IsGrowing (transcoder_in self.now) }
         ensures no_disk_fault { IsErrOf result (UploadError.Stop Stop.DiskFault) → ⊥ }

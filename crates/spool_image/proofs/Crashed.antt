@@ -19,10 +19,10 @@ synced_shows disk d n m is is_synced = record {
 }
 
 -- the upload that a slot tells of is that of its number
-told_of : (m : Store) (k number : ℕ) (u told : Upload) → number ≡ k → upload_of m number ≡ Some told
-    → upload_of m k ≡ Some u → told ≡ u
-told_of m k number u told same there is =
-    let there' : upload_of m k ≡ Some told = subst (λ (j : ℕ). upload_of m j ≡ Some told) same there in cc
+recorded_upload : (m : Store) (k number : ℕ) (u recorded : Upload) → number ≡ k → upload_of m number ≡ Some recorded
+    → upload_of m k ≡ Some u → recorded ≡ u
+recorded_upload m k number u recorded same there is =
+    let there' : upload_of m k ≡ Some recorded = subst (λ (j : ℕ). upload_of m j ≡ Some recorded) same there in cc
 
 -- the text of each upload stands in an image that shows it
 pub text_shown : (n : ℕ) (image : ℕ → ℕ) (m : Store) (k : ℕ) (u : Upload) → ImageShows n image m
@@ -30,9 +30,9 @@ pub text_shown : (n : ℕ) (image : ℕ → ℕ) (m : Store) (k : ℕ) (u : Uplo
     → HasText image m.indexes k u
 text_shown n image m k u shows is =
     let has = shows.shows.all k u is in
-    let told = shows.shows.told has.slot has.used has.there in
-    let tells = subst (IsRecordOf m.indexes has.used (shows.view.texts has.slot))
-    (told_of m k has.used.number u told.upload has.number told.there is) told.tells in
+    let recorded = shows.shows.recorded has.slot has.used has.there in
+    let represents = subst (IsRecordOf m.indexes has.used (shows.view.texts has.slot))
+    (recorded_upload m k has.used.number u recorded.upload has.number recorded.there is) recorded.represents in
     record {
       view = shows.view;
       is = shows.is;
@@ -40,7 +40,7 @@ text_shown n image m k u shows is =
       used = has.used;
       there = has.there;
       number = has.number;
-      accepted = tells.accepted;
-      text = tells.text;
-      encodable = tells.encodable;
+      accepted = represents.accepted;
+      text = represents.text;
+      encodable = represents.encodable;
     }

@@ -4,14 +4,14 @@ use Rattle.spool_journal.specs.declared.TheConstants.{PAGE}
 use Rattle.common.specs.declared.limits.TheConstants.{LEAST_BLOCKS, MOST_BLOCKS}
 use Rattle.enc_model.specs.Indexes.{IndexSet}
 use Rattle.enc_index.specs.Sets.{IsIndexSet}
-use Rattle.spool_disk.specs.Disk.{In, IsImage, Keeps, Syncs, Writes}
+use Rattle.spool_disk.specs.Disk.{In, IsImage, Preserves, Syncs, Writes}
 use Rattle.spool_disk.specs.Views.{Lasts}
 use Rattle.spool_disk.specs.declared.disk.Disk.{Ghosts}
 use Rattle.spool_disk.proofs.Firm.{lasts_more, lasts_on}
 use Rattle.spool_journal.specs.Image.{all_pages}
 use Rattle.spool_journal.specs.Phases.{Still}
 use Rattle.spool_image.specs.Format.{FormatsTo, PrefixStays, LeftByFormat}
-use Rattle.spool_image.specs.Fresh.{IsFreshTo, KeepsPrefix}
+use Rattle.spool_image.specs.Fresh.{IsFreshTo, PreservesFirstPage}
 use Rattle.spool_image.proofs.NoUploads.{fresh_shows}
 
 -- PAGE 0
@@ -22,13 +22,13 @@ pub read_only : {D : Type 0} (disk : Ghosts D) (a b : D) (n : ℕ) (x : IndexSet
 read_only disk a b n x lasts = lasts_more lasts (λ image is. inl
     (record { same = λ p lt is_synced. is.same p is_synced }))
 
-pub prefix_kept : (current : ℕ → ℕ) (unsynced : ℕ → Type 0) → KeepsPrefix current current unsynced unsynced
-prefix_kept current unsynced = record { same = λ p lt is_synced. refl; unsyncs = λ p lt l. l }
+pub prefix_unchanged : (current : ℕ → ℕ) (unsynced : ℕ → Type 0) → PreservesFirstPage current current unsynced unsynced
+prefix_unchanged current unsynced = record { same = λ p lt is_synced. refl; unsyncs = λ p lt l. l }
 
 module _ {current current' : ℕ → ℕ} {unsynced unsynced' : ℕ → Type 0} where
   -- after page 0 anything may be written
   pub prefix_written : {at : ℕ} {bytes : List ℕ} {done : Type 0} → PAGE ≤ at
-      → Writes at bytes done current current' unsynced unsynced' → KeepsPrefix current current' unsynced unsynced'
+      → Writes at bytes done current current' unsynced unsynced' → PreservesFirstPage current current' unsynced unsynced'
   prefix_written from writes = record {
     same = λ p lt is_synced. writes.outside p (λ within. omega (arith, within.from, from, lt));
     unsyncs = λ p lt l. ⊎_elim (λ was. was) (λ within. absurd (omega (arith, within.from, from, lt)))
@@ -36,48 +36,48 @@ module _ {current current' : ℕ → ℕ} {unsynced unsynced' : ℕ → Type 0} 
   }
 
   pub prefix_synced : {done : Type 0} → Syncs done current current' unsynced unsynced'
-      → KeepsPrefix current current' unsynced unsynced'
+      → PreservesFirstPage current current' unsynced unsynced'
   prefix_synced syncs = record {
     same = λ p lt is_synced. syncs.outside p is_synced;
     unsyncs = λ p lt l.
         syncs.unsyncs p l;
   }
 
-  pub prefix_image : KeepsPrefix current current' unsynced unsynced' → (image : ℕ → ℕ)
+  pub prefix_image : PreservesFirstPage current current' unsynced unsynced' → (image : ℕ → ℕ)
       → IsImage current' unsynced' image
       → PrefixStays current unsynced image
-  prefix_image keeps image is = record {
-    same = λ p lt is_synced. is.same p (λ l. is_synced (keeps.unsyncs p lt l)) ∙ keeps.same p lt is_synced;
+  prefix_image preserves image is = record {
+    same = λ p lt is_synced. is.same p (λ l. is_synced (preserves.unsyncs p lt l)) ∙ preserves.same p lt is_synced;
   }
 
-pub prefix_on : {a b c : ℕ → ℕ} {la lb lc : ℕ → Type 0} → KeepsPrefix a b la lb → KeepsPrefix b c lb lc
-    → KeepsPrefix a c la lc
+pub prefix_on : {a b c : ℕ → ℕ} {la lb lc : ℕ → Type 0} → PreservesFirstPage a b la lb → PreservesFirstPage b c lb lc
+    → PreservesFirstPage a c la lc
 prefix_on first then = record {
   same = λ p lt is_synced. then.same p lt (λ l. is_synced (first.unsyncs p lt l)) ∙ first.same p lt is_synced;
   unsyncs = λ p lt l. first.unsyncs p lt (then.unsyncs p lt l);
 }
 
 pub prefix_stays : {current current' : ℕ → ℕ} {unsynced unsynced' : ℕ → Type 0}
-    → KeepsPrefix current current' unsynced unsynced'
+    → PreservesFirstPage current current' unsynced unsynced'
     → (image : ℕ → ℕ) → PrefixStays current' unsynced' image → PrefixStays current unsynced image
-prefix_stays keeps image stays = record {
-  same = λ p lt is_synced. stays.same p lt (λ l. is_synced (keeps.unsyncs p lt l)) ∙ keeps.same p lt is_synced;
+prefix_stays preserves image stays = record {
+  same = λ p lt is_synced. stays.same p lt (λ l. is_synced (preserves.unsyncs p lt l)) ∙ preserves.same p lt is_synced;
 }
 
 pub prefix_read : {current current' : ℕ → ℕ} {unsynced unsynced' : ℕ → Type 0}
-    → Keeps current current' unsynced unsynced'
-    → KeepsPrefix current current' unsynced unsynced'
-prefix_read keeps = record { same = λ p lt is_synced. keeps.same p; unsyncs = λ p lt l. keeps.unsyncs p l }
+    → Preserves current current' unsynced unsynced'
+    → PreservesFirstPage current current' unsynced unsynced'
+prefix_read preserves = record { same = λ p lt is_synced. preserves.same p; unsyncs = λ p lt l. preserves.unsyncs p l }
 
 -- a call that only reads, and then what is made
 pub read_then : {D : Type 0} (disk : Ghosts D) (a b c : D) (n : ℕ) (x : IndexSet)
     → Lasts disk a b (IsImage (disk.current a) (disk.unsynced a))
-    → Keeps (disk.current a) (disk.current b) (disk.unsynced a) (disk.unsynced b)
+    → Preserves (disk.current a) (disk.current b) (disk.unsynced a) (disk.unsynced b)
     → Lasts disk b c (LeftByFormat n x (disk.current b) (disk.unsynced b))
     → Lasts disk a c (LeftByFormat n x (disk.current a) (disk.unsynced a))
-read_then disk a b c n x lasts keeps then =
+read_then disk a b c n x lasts preserves then =
     lasts_on (read_only disk a b n x lasts)
-    (lasts_more then (λ image one. ⊎_elim (λ stays. inl (prefix_stays (prefix_read keeps) image stays))
+    (lasts_more then (λ image one. ⊎_elim (λ stays. inl (prefix_stays (prefix_read preserves) image stays))
     (λ made. inr made)
     one))
 

@@ -47,7 +47,7 @@ module _ {D : Type 0} (disk : Ghosts D) (old new : D) (honest : disk.honest old 
       → Quiet (disk.moment old) (disk.moment new) (SpoolLeft disk old n) (SpoolLeft disk new n')
   quiet_shown now lasts = record {
     later = lasts.later;
-    keeps = λ blocks t ms le left.
+    limits = λ blocks t ms le left.
         let one = left.1.each (disk.current old) (now t
         (disk.current old) le record { same = λ p is_synced. refl }) in (
           left.0 ∙ ap Some (sym size),
@@ -68,7 +68,7 @@ pub quiet_read : {D : Type 0} (disk : Ghosts D) (old new : D) (honest : disk.hon
     → Quiet (disk.moment old) (disk.moment new) (SpoolLeft disk old n) (SpoolLeft disk new n)
 quiet_read disk old new honest long n later now lasts = record {
   later = later;
-  keeps = λ blocks t ms le left. (
+  limits = λ blocks t ms le left. (
     left.0,
     record {
       honest = honest.0 left.1.honest;
@@ -85,5 +85,5 @@ pub quiet_still : {D : Type 0} (disk : Ghosts D) (d : D) (n n' : ℕ) → n' ≡
     → Quiet (disk.moment d) (disk.moment d) (SpoolLeft disk d n) (SpoolLeft disk d n')
 quiet_still disk d n n' size = record {
   later = omega arith;
-  keeps = λ blocks t ms le left. subst (λ (k : ℕ). SpoolLeft disk d k blocks t ms) (sym size) left;
+  limits = λ blocks t ms le left. subst (λ (k : ℕ). SpoolLeft disk d k blocks t ms) (sym size) left;
 }

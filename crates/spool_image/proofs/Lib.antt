@@ -5,7 +5,7 @@ pub mod Opens
 pub mod Opening
 pub mod LeftImages
 pub mod AnswersMore
-pub mod StandsOn
+pub mod RepresentsOn
 pub mod Crashed
 pub mod Refused
 pub mod Upgraded

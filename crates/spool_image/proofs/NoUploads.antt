@@ -12,7 +12,7 @@ use Rattle.enc_index.specs.Sets.{IsIndexSet}
 use Rattle.spool_journal.specs.Image.{journal_pages, all_pages, byte_of, overlaid}
 use Rattle.spool_journal.proofs.Gate.{shut_view}
 use Rattle.upload_rules.specs.Store.{no_uploads}
-use Rattle.spool_pages.specs.View.{SlotRecord, View, IsViewOf, Says, Stands, slot_bytes, row_bytes, index_place}
+use Rattle.spool_pages.specs.View.{SlotRecord, View, IsViewOf, Encodes, AreAt, slot_bytes, row_bytes, index_place}
 use Rattle.spool_pages.specs.View.{state_place}
 use Rattle.spool_pages.specs.declared.version.Version.TheVariants.{Two}
 use Rattle.spool_pages.specs.View.{slot_place, row_place, state_page, first_page}
@@ -20,7 +20,7 @@ use Rattle.spool_catalog.specs.Shows.{IsValid, ImageShows}
 use Rattle.spool_image.specs.Format.{IsNewest}
 use Rattle.spool_image.specs.Fresh.{IsFresh}
 use Rattle.spool_image.proofs.Fresh.{fresh_prefix, fresh_area, fresh_state, fresh_zeros}
-use Rattle.spool_pages.proofs.Says.{some_journal, all_is, says_same}
+use Rattle.spool_pages.proofs.Encodes.{some_journal, all_is, encodes_same}
 
 abbrev nothing : (A : Type 0) → Option A
 nothing A = None
@@ -47,25 +47,25 @@ fresh_view n x = record {
 }
 
 module _ (n : ℕ) (x : IndexSet) (image : ℕ → ℕ) (fresh : IsFresh n x image) where
-  zeros : (place size : ℕ) → state_place n + 12 ≤ place → place + size ≤ PAGE * all_pages n → Stands image place size []
+  zeros : (place size : ℕ) → state_place n + 12 ≤ place → place + size ≤ PAGE * all_pages n → AreAt image place size []
   zeros place size from below = record {
     each = λ i lt. fresh.after.each (place + i) (omega (arith, from)) (omega (arith, below, lt))
         ∙ fresh_zeros n x (place + i) (omega (arith, from));
   }
 
-  slot : (s : ℕ) → s < SLOTS → Stands image (slot_place n s) 2048 []
+  slot : (s : ℕ) → s < SLOTS → AreAt image (slot_place n s) 2048 []
   slot s lt = zeros (slot_place n s) 2048 (omega arith) (omega (arith, all_is n, some_journal n, lt))
 
-  row : (b : ℕ) → b < ROWS * (journal_pages n - 257) → Stands image (row_place n b) 8 []
+  row : (b : ℕ) → b < ROWS * (journal_pages n - 257) → AreAt image (row_place n b) 8 []
   row b lt = zeros (row_place n b) 8 (omega arith) (omega (arith, all_is n, some_journal n, lt))
 
-  row_none : (b : ℕ) → b < ROWS * (journal_pages n - 257) → Stands image (row_place n b) 8 (row_bytes None)
+  row_none : (b : ℕ) → b < ROWS * (journal_pages n - 257) → AreAt image (row_place n b) 8 (row_bytes None)
   unfolding row_bytes
   row_none b lt = row b lt
 
-  fresh_says : Says image (fresh_view n x)
+  fresh_encodes : Encodes image (fresh_view n x)
   unfolding fresh_view
-  fresh_says =
+  fresh_encodes =
       let j = some_journal n in
       let all = all_is n in
       record {
@@ -85,9 +85,9 @@ module _ (n : ℕ) (x : IndexSet) (image : ℕ → ℕ) (fresh : IsFresh n x ima
               fresh.after.each (state_place n + i) (omega arith) (omega (arith, lt, all, j))
               ∙ fresh_state n x (state_place n + i) (omega arith) ∙ ap (λ (p : ℕ). byte_of (state_page Two 1) p) at;
         };
-        slots = λ s lt. subst (λ (o : Option SlotRecord). Stands image (slot_place n s) 2048 (slot_bytes Two o))
+        slots = λ s lt. subst (λ (o : Option SlotRecord). AreAt image (slot_place n s) 2048 (slot_bytes Two o))
             (sym (none_at SLOTS s)) (slot s lt);
-        rows = λ b lt. subst (λ (o : Option (ℕ × ℕ)). Stands image (row_place n b) 8 (row_bytes o)) (sym (none_at n b))
+        rows = λ b lt. subst (λ (o : Option (ℕ × ℕ)). AreAt image (row_place n b) 8 (row_bytes o)) (sym (none_at n b))
             (row_none b lt);
         texts = λ s r e. never (none_at SLOTS s) e;
       }
@@ -118,7 +118,7 @@ module _ (n : ℕ) (x : IndexSet) (image : ℕ → ℕ) (fresh : IsFresh n x ima
   unfolding fresh_view
   fresh_is = record {
     form = λ ajar. absurd (gate_shut ajar);
-    says = says_same (overlaid image) image (fresh_view n x) (λ p outside. shut_view image p gate_shut) fresh_says;
+    encodes = encodes_same (overlaid image) image (fresh_view n x) (λ p outside. shut_view image p gate_shut) fresh_encodes;
   }
 
   pub fresh_shows : LEAST_BLOCKS ≤ n → n ≤ MOST_BLOCKS → IsIndexSet x → ImageShows n image (no_uploads x)
@@ -132,7 +132,7 @@ module _ (n : ℕ) (x : IndexSet) (image : ℕ → ℕ) (fresh : IsFresh n x ima
       next = refl;
       indexes = refl;
       rising = λ i k lt below. omega (arith, below);
-      told = λ s r e. never (none_at SLOTS s) e;
+      recorded = λ s r e. never (none_at SLOTS s) e;
       all = λ k u e. never refl e;
     };
   }

@@ -10,7 +10,7 @@ use Rattle.spool_load.specs.Loaded.{OpenedFrom, ReadsView}
 use Rattle.spool_load.specs.Refusals.{RefusedBy}
 use Rattle.spool_pages.specs.View.{View}
 use Rattle.spool_image.specs.Opening.{AnswersBy}
-use Rattle.spool_image.proofs.Refused.{opened_encodes, told_damaged, told_no_spool, told_version, view_is_known}
+use Rattle.spool_image.proofs.Refused.{opened_encodes, refused_damaged, refused_no_spool, refused_version, view_is_known}
 use Rattle.spool_image.proofs.Refused.{view_is_spool, view_is_whole}
 
 module _ (size : ℕ) (before after : ℕ → ℕ) where
@@ -30,18 +30,18 @@ module _ (size : ℕ) (before after : ℕ → ℕ) where
   refused_exactly fault reason = record {
     valid = λ opened. absurd (cc);
     refused = reason;
-    not_a_spool = told_no_spool size before after fault reason;
-    version = told_version size before after fault reason;
-    damaged = told_damaged size before after fault reason;
+    not_a_spool = refused_no_spool size before after fault reason;
+    version = refused_version size before after fault reason;
+    damaged = refused_damaged size before after fault reason;
   }
 
 -- the same of what a read gives
-pub opened_reads : {size : ℕ} {current : ℕ → ℕ} (kept : Holding) (opened : OpenedFrom size current kept)
+pub opened_reads : {size : ℕ} {current : ℕ → ℕ} (catalog : Holding) (opened : OpenedFrom size current catalog)
     → ReadsView size current (overlaid current) (λ v. Unit {0})
-opened_reads kept opened = record {
+opened_reads catalog opened = record {
   view = opened.view;
   valid = opened.valid;
-  encodes = opened_encodes _ _ kept opened;
+  encodes = opened_encodes _ _ catalog opened;
   so = tt;
 }
 

@@ -9,7 +9,7 @@ use Rattle.spool_journal.specs.Image.{journal_pages, all_pages, overlaid}
 use Rattle.spool_journal.specs.Phases.{ReadsAs}
 use Rattle.upload_rules.specs.Store.{Store}
 use Rattle.spool_pages.specs.View.{View, IsViewOf}
-use Rattle.spool_pages.proofs.Says.{says_same}
+use Rattle.spool_pages.proofs.Encodes.{encodes_same}
 use Rattle.spool_catalog.specs.Shows.{ImageShows, IsValid}
 use Rattle.spool_image.specs.LeftOnly.{IsSpool, LeftOrShows}
 
@@ -18,7 +18,7 @@ pub reads_shows : (image was : ℕ → ℕ) (v : View) → IsViewOf was v
     → ReadsAs (journal_pages v.blocks) image (overlaid was) → IsViewOf image v
 reads_shows image was v is reads = record {
   form = reads.form;
-  says = says_same (overlaid image) (overlaid was) v reads.same is.says;
+  encodes = encodes_same (overlaid image) (overlaid was) v reads.same is.encodes;
 }
 
 pub image_shows : (n : ℕ) (m : Store) (image was : ℕ → ℕ) (shown : ImageShows n was m)

@@ -16,7 +16,7 @@ use Rattle.spool_journal.proofs.Over.{over_same}
 use Rattle.upload_rules.specs.Store.{Store}
 use Rattle.spool_pages.specs.Changes.{upgraded}
 use Rattle.spool_pages.specs.Rests.{Rests}
-use Rattle.spool_pages.specs.View.{View, IsViewOf, Stands, state_page, state_place, version_number}
+use Rattle.spool_pages.specs.View.{View, IsViewOf, AreAt, state_page, state_place, version_number}
 use Rattle.spool_pages.specs.declared.version.Version.{Version}
 use Rattle.spool_pages.specs.declared.version.Version.TheVariants.{One, Two}
 use Rattle.spool_pages.proofs.Resting.{rests_image, shut_is}
@@ -30,8 +30,8 @@ use Rattle.spool_catalog.proofs.Upgraded.{upgraded_shows}
 use Rattle.spool_load.specs.Loaded.{FoundBy, LoadsBy, ReadsView}
 use Rattle.spool_load.specs.declared.finding.Found.{Found}
 use Rattle.spool_load.specs.Refusals.{HasJournal, NamesVersion, NotFoundBy, NotFoundFor, RefusedBy}
-use Rattle.spool_load.proofs.Opens.{settled_says}
-use Rattle.spool_load.proofs.Refused.{says_one, unfound_reason, version_one, version_stands}
+use Rattle.spool_load.proofs.Opens.{settled_encodes}
+use Rattle.spool_load.proofs.Refused.{encodes_one, unfound_reason, version_one, version_at}
 use Rattle.spool_image.specs.LeftOnly.{AllShow, IsSpool, LeftOrShows}
 use Rattle.spool_image.specs.Upgrade.{CommitOfUpgrade, IsLateRefusal, ReadsNew, UpgradeRefusedBy}
 use Rattle.spool_image.specs.Upgrade.{UpgradesBy, UpgradesOf}
@@ -49,7 +49,7 @@ settled_rests {was = was} {current = current} {unsynced = unsynced} v n same set
     record {
       closed = here.closed;
       is_synced = λ p l. absurd (here.is_synced p l);
-      is = shut_is current v here.closed (settled_says v here is.says);
+      is = shut_is current v here.closed (settled_encodes v here is.encodes);
     }
 
 -- ANSWERS
@@ -74,8 +74,8 @@ untouched_on P fault mid new (Ok t) p same = tt
 untouched_on P fault mid new (Err e) p same = λ fine. subst P (sym (same fine)) p
 
 pub if_err : {T E : Type 0} (r : Result T E) (P Q : E → Type 0) → IsErrAnd r P → ((e : E) → P e → Q e) → IfErr r Q
-if_err (Ok t) P Q told more = tt
-if_err (Err e) P Q told more = more e told
+if_err (Ok t) P Q recorded more = tt
+if_err (Err e) P Q recorded more = more e recorded
 
 pub other_err : {T E : Type 0} (r : Result T E) (e fault : E) → r ≡ Err e → (e ≡ fault → ⊥) → r ≡ Err fault → ⊥
 other_err r e fault is fine bad = fine (same_Some _ _ (ap result_err (sym is ∙ bad)))
@@ -120,10 +120,10 @@ module _ (size : ℕ) (before after : ℕ → ℕ) where
   pub found_new : (found : Found) → FoundBy size before after found → found.version ≡ Two → ReadsNew size before after
   found_new found is new = record {
     blocks = found.layout;
-    says = is.says;
+    encodes = is.encodes;
     journal = is.journal;
-    new = version_stands after _ 12 Two found.next (omega arith)
-        (subst (λ (w : Version). Stands after (state_place found.layout) 12 (state_page w found.next)) new
+    new = version_at after _ 12 Two found.next (omega arith)
+        (subst (λ (w : Version). AreAt after (state_place found.layout) 12 (state_page w found.next)) new
         is.state.fields);
   }
 
@@ -133,9 +133,9 @@ module _ (size : ℕ) (before after : ℕ → ℕ) where
   found_old found is old new =
       let n = found.layout in
       let N : ℕ → Type 0 = λ k. NamesVersion k after Two in
-      let there = subst N (says_one size before new.blocks n new.says is.says) new.new in
-      let said = version_stands after (state_place n) 12 found.version found.next (omega arith) is.state.fields in
-      let same : version_number found.version ≡ 2 = version_one after (state_place n) found.version Two said there in
+      let there = subst N (encodes_one size before new.blocks n new.encodes is.encodes) new.new in
+      let decoded = version_at after (state_place n) 12 found.version found.next (omega arith) is.state.fields in
+      let same : version_number found.version ≡ 2 = version_one after (state_place n) found.version Two decoded there in
       let one : version_number found.version ≡ 1 = ap version_number old in
       omega (arith, same, one)
 
@@ -154,7 +154,7 @@ module _ (size : ℕ) (before after : ℕ → ℕ) where
   unfound_upgrade Damaged why = (
     unfound_reason size before after Damaged why,
     λ new. why.bad (subst (λ (k : ℕ). HasJournal k before)
-        (says_one size before new.blocks why.blocks new.says why.says) new.journal),
+        (encodes_one size before new.blocks why.blocks new.encodes why.encodes) new.journal),
   )
   unfound_upgrade (Stop NoMemory) why = absurd why
   unfound_upgrade (Stop DiskFault) why = tt
@@ -171,10 +171,10 @@ module _ (size : ℕ) (before after : ℕ → ℕ) where
   late_by {T = T} (Err e) late view = refused_late {T = T} (Err e) late
 
   -- what was found of version 1 and read is upgraded
-  pub upgrades_by : {T : Type 0} (found : Found) (kept : Holding) → found.version ≡ One → kept.version ≡ found.version
-      → LoadsBy size before after (Ok kept) → (done : T) → UpgradesBy size (Ok done) before after
-  upgrades_by found kept old same is done =
-      view_more (λ v keeps. sym keeps.0.version ∙ same ∙ old) is.answer
+  pub upgrades_by : {T : Type 0} (found : Found) (catalog : Holding) → found.version ≡ One → catalog.version ≡ found.version
+      → LoadsBy size before after (Ok catalog) → (done : T) → UpgradesBy size (Ok done) before after
+  upgrades_by found catalog old same is done =
+      view_more (λ v has_view. sym has_view.0.version ∙ same ∙ old) is.answer
 
 -- a spool that a read shows is found, unless the disk fails
 pub unfound_disk_fault : {T : Type 0} (size : ℕ) (current : ℕ → ℕ) (e : OpenFault) (P : T → Type 0)

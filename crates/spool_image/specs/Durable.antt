@@ -21,7 +21,7 @@ pub stored_shows : {D : Type 0} (disk : Ghosts D) (d : D) (h : Holding) (m : Sto
     → Stored true disk d h m → IsImage (disk.current d) (disk.unsynced d) image → ImageShows h.layout image m
 stored_shows disk d h m image stored is = record {
   view = stored.view;
-  blocks = sym stored.keeps.blocks;
+  blocks = sym stored.has_view.blocks;
   is = rests_image image (stored.rests refl) is;
   shows = stored.shows;
 }
@@ -31,11 +31,11 @@ pub durable_left : {D : Type 0} {disk : Ghosts D} (d : D) (h : Holding) (drafts 
     (ms : List Store) → PAGE * all_pages h.layout ≤ disk.size d
     → ((image : ℕ → ℕ) → disk.left_since d (disk.moment d) image → IsImage (disk.current d) (disk.unsynced d) image)
     → StandsFor true disk d h drafts w → Among w.store ms → SpoolLeft disk d h.layout w.blocks (disk.moment d) ms
-durable_left {disk = disk} d h drafts w ms room only stands among =
-    let stored = stands.stored in
+durable_left {disk = disk} d h drafts w ms room only represents among =
+    let stored = represents.stored in
     let rows : length h.blocks.rows ≡ h.layout =
-    ap length stored.keeps.rows ∙ stored.shows.valid.row_count ∙ sym stored.keeps.blocks in (
-      stands.stands.limit ∙ ap Some rows,
+    ap length stored.has_view.rows ∙ stored.shows.valid.row_count ∙ sym stored.has_view.blocks in (
+      represents.represents.limit ∙ ap Some rows,
       record {
         honest = stored.honest refl;
         room = room;

@@ -19,7 +19,7 @@ pub record IsFreshTo (n : ℕ) (x : IndexSet) (end : ℕ) (image : ℕ → ℕ) 
   pub each : (p : ℕ) → PAGE ≤ p → p < end → image p ≡ fresh_byte n x p
 
 -- Page 0 is as before; some of it may have been synced.
-pub record KeepsPrefix (current current' : ℕ → ℕ) (unsynced unsynced' : ℕ → Type 0) : Type 0 where
+pub record PreservesFirstPage (current current' : ℕ → ℕ) (unsynced unsynced' : ℕ → Type 0) : Type 0 where
   pub same : (p : ℕ) → p < PAGE → (unsynced p → ⊥) → current' p ≡ current p
   pub unsyncs : (p : ℕ) → p < PAGE → unsynced' p → unsynced p
 

@@ -16,9 +16,9 @@ use Rattle.spool_pages.specs.View.{View}
 -- The results.
 
 -- The error of an opening, if it failed.
-abbrev pub refusal_of : {D S : Type 0} → Result S (D × OpenFault) → Option OpenFault
-refusal_of (Ok s) = None
-refusal_of (Err e) = Some e.1
+abbrev pub open_refusal_of : {D S : Type 0} → Result S (D × OpenFault) → Option OpenFault
+open_refusal_of (Ok s) = None
+open_refusal_of (Err e) = Some e.1
 
 -- It is opened, or refused when out of memory or at a disk fault.
 abbrev pub OpensAs : {D S : Type 0} → Result S (D × OpenFault) → (S → Type 0) → Type 0
@@ -48,7 +48,7 @@ OpensExactly size current = AnswersBy size current (overlaid current)
 pub record OpensBy {D S : Type 0} (Has : S → View → Type 0) (size : ℕ) (result : Result S (D × OpenFault))
     (before after : ℕ → ℕ) : Type 0
   where
-    pub exact : AnswersBy size before after (refusal_of result)
+    pub exact : AnswersBy size before after (open_refusal_of result)
     pub memory : IfOk result (λ s. ReadsView size before after (Has s))
     pub opened : (v : View) → IsValid v → EncodesBy size before after v → OpensAs result (λ s. Has s v)
 

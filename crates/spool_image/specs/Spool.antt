@@ -7,7 +7,7 @@ use Rattle.spool_catalog.specs.declared.error.OpenFault.TheVariants.{Stop}
 use Rattle.spool_image.specs.declared.spool.Spool.{Spool}
 use Rattle.spool_load.specs.Loaded.{OpenedFrom}
 use Rattle.spool_pages.specs.View.{View}
-use Rattle.spool_catalog.specs.Kept.{KeepsAlone}
+use Rattle.spool_catalog.specs.Catalog.{HasViewAlone}
 pub use Rattle.spool_image.specs.Opening.{OpensAs}
 use Rattle.spool_kept.specs.Drafting.{StandsFor}
 use Rattle.upload_rules.specs.World.{World}
@@ -17,20 +17,20 @@ abbrev pub disk_of : {D : Type 0} {disk : Ghosts D} → Spool D disk → D
 disk_of s = s.disk
 
 -- The number of its text blocks.
-abbrev pub size_of : {D : Type 0} {disk : Ghosts D} → Spool D disk → ℕ
-size_of s = s.kept.layout
+abbrev pub block_count_of : {D : Type 0} {disk : Ghosts D} → Spool D disk → ℕ
+block_count_of s = s.catalog.layout
 
 -- Its memory has this view, with no block reserved.
-abbrev pub Keeps : {D : Type 0} {disk : Ghosts D} → Spool D disk → View → Type 0
-Keeps s v = KeepsAlone s.kept v
+abbrev pub SpoolHasView : {D : Type 0} {disk : Ghosts D} → Spool D disk → View → Type 0
+SpoolHasView s v = HasViewAlone s.catalog v
 
 -- Its memory has a valid view, the one that a read of a disk of this size gave.
 abbrev pub OpensFrom : {D : Type 0} {disk : Ghosts D} → ℕ → (ℕ → ℕ) → Spool D disk → Type 0
-OpensFrom size current s = OpenedFrom size current s.kept
+OpensFrom size current s = OpenedFrom size current s.catalog
 
 -- Its memory and its drafts stand for the world. If that is sure, the disk does too.
-abbrev pub SpoolStands : {D : Type 0} {disk : Ghosts D} → Spool D disk → Bool → World → Type 0
-SpoolStands {disk = disk} s sure w = StandsFor sure disk s.disk s.kept s.drafts.items w
+abbrev pub SpoolRepresents : {D : Type 0} {disk : Ghosts D} → Spool D disk → Bool → World → Type 0
+SpoolRepresents {disk = disk} s sure w = StandsFor sure disk s.disk s.catalog s.drafts.items w
 
 -- The disk, opened or returned.
 abbrev pub disk_after : {D : Type 0} {disk : Ghosts D} → Result (Spool D disk) (D × OpenFault) → D
@@ -38,9 +38,9 @@ disk_after (Ok s) = s.disk
 disk_after (Err e) = e.0
 
 -- There was a disk fault.
-abbrev pub IsFault : {D S : Type 0} → Result S (D × OpenFault) → Type 0
-IsFault (Ok s) = ⊥
-IsFault (Err e) = e.1 ≡ Stop DiskFault
+abbrev pub IsOpenFault : {D S : Type 0} → Result S (D × OpenFault) → Type 0
+IsOpenFault (Ok s) = ⊥
+IsOpenFault (Err e) = e.1 ≡ Stop DiskFault
 
 -- It is refused with this error, or when out of memory, or at a disk fault.
 abbrev pub RefusesAs : {D S : Type 0} → Result S (D × OpenFault) → OpenFault → Type 0

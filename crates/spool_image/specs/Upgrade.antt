@@ -6,7 +6,7 @@ use Rattle.spool_journal.specs.Image.{all_pages, journal_pages, laid, overlaid, 
 use Rattle.spool_journal.specs.Phases.{Settled}
 use Rattle.spool_catalog.specs.Shows.{IsValid}
 use Rattle.spool_catalog.specs.declared.error.OpenFault.TheVariants.{Damaged, Stop}
-use Rattle.spool_load.specs.Reads.{SaysBlocks}
+use Rattle.spool_load.specs.Reads.{EncodesBlocks}
 use Rattle.spool_load.specs.Loaded.{ReadsView}
 use Rattle.spool_load.specs.Refusals.{HasJournal, IsDamaged, NamesVersion, ReadsDamage, RefusedBy}
 use Rattle.spool_pages.specs.Changes.{Changes, upgraded}
@@ -41,7 +41,7 @@ pub record UpgradedFrom (size : ℕ) (before current : ℕ → ℕ) (unsynced : 
 -- A spool with a valid journal and version 2.
 pub record ReadsNew (size : ℕ) (before after : ℕ → ℕ) : Type 0 where
   pub blocks : ℕ
-  pub says : SaysBlocks size before blocks
+  pub encodes : EncodesBlocks size before blocks
   pub journal : HasJournal blocks before
   pub new : NamesVersion blocks after Two
 

@@ -2,13 +2,13 @@
 ghost use Rattle.std.specs.Prelude.{◌≡◌, ◌≤◌, ◌<◌, ◌*◌, ◌+◌, ◌↔◌, ℕ, true, false, IsErr, IsOk, IfOk, OnOk, Err, get_or};
 ghost use Rattle.enc_model.specs.Indexes.{IndexSet as Indexes};
 ghost use Rattle.enc_index.specs.Sets.{IsIndexSet};
-ghost use Rattle.spool_disk.specs.Disk.{IsImage, Counts, Keeps};
+ghost use Rattle.spool_disk.specs.Disk.{IsImage, Counts, Preserves};
 ghost use Rattle.spool_disk.specs.Views.{Lasts};
 ghost use Rattle.spool_journal.specs.Image.{all_pages};
 ghost use Rattle.upload_rules.specs.Store.{no_uploads};
 ghost use Rattle.spool_pages.specs.View.{index_place, state_place};
 ghost use Rattle.spool_image.specs.Format.{FitsSpool, PrefixStays, HasMagic, IsNewest, IsRefusal, LeftByFormat};
-ghost use Rattle.spool_image.specs.Fresh.{fresh_byte, IsFreshTo, IsFresh, KeepsPrefix};
+ghost use Rattle.spool_image.specs.Fresh.{fresh_byte, IsFreshTo, IsFresh, PreservesFirstPage};
 ghost use Rattle.spool_image.specs.LeftOnly.{AllShow};
 
 use crate::FormatError;
@@ -48,7 +48,7 @@ fn write_pages<D: Disk>(disk: &mut D, layout: &Layout, indexes: &IndexSet) -> Re
         (IsFreshTo layout.now indexes.now (PAGE * all_pages layout.now) (D.current disk.new)) }
     ensures valid { OnOk result (IsIndexSet indexes.now) }
     ensures prefix { D.honest disk.old
-        → KeepsPrefix (D.current disk.old) (D.current disk.new) (D.unsynced disk.old) (D.unsynced disk.new) }
+        → PreservesFirstPage (D.current disk.old) (D.current disk.new) (D.unsynced disk.old) (D.unsynced disk.new) }
     ensures crash { D.honest disk.old
         → Lasts D.Disk disk.old disk.new (PrefixStays (D.current disk.old) (D.unsynced disk.old)) }
 {
@@ -92,8 +92,8 @@ pub fn is_spool<D: Disk>(disk: &mut D) -> Result<bool, DiskFault>
     ensures size { D.size disk.new ≡ D.size disk.old }
     ensures honest { D.honest disk.old ↔ D.honest disk.new }
     ensures counts { Counts (IsErr result) (D.failures disk.old) (D.failures disk.new) }
-    ensures keeps { D.honest disk.old
-        → Keeps (D.current disk.old) (D.current disk.new) (D.unsynced disk.old) (D.unsynced disk.new) }
+    ensures preserves { D.honest disk.old
+        → Preserves (D.current disk.old) (D.current disk.new) (D.unsynced disk.old) (D.unsynced disk.new) }
     ensures lasts { D.honest disk.old → Lasts D.Disk disk.old disk.new
         (IsImage (D.current disk.old) (D.unsynced disk.old)) }
     ensures yes { D.honest disk.old → IfOk result (λ is. is ≡ true → HasMagic (D.size disk.old) (D.current disk.old)) }
@@ -130,7 +130,7 @@ pub fn format<D: Disk>(disk: &mut D, blocks: u32, indexes: &IndexSet) -> Result<
 
     // After a refusal every crash image is one of before.
     ensures same { D.honest disk.old → IsRefusal result
-        → Keeps (D.current disk.old) (D.current disk.new) (D.unsynced disk.old) (D.unsynced disk.new) }
+        → Preserves (D.current disk.old) (D.current disk.new) (D.unsynced disk.old) (D.unsynced disk.new) }
     ensures lasts { D.honest disk.old → IsRefusal result
         → Lasts D.Disk disk.old disk.new (IsImage (D.current disk.old) (D.unsynced disk.old)) }
 

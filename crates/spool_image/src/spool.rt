@@ -16,7 +16,7 @@ ghost use Rattle.spool_image.specs.LeftOnly.{AllShow, IsSpool, LeftOrShows};
 ghost use Rattle.spool_image.specs.Opening.{OpensBy, ReadsBy, ReadsSame, Unwritten};
 
 use enc_index::IndexSet;
-use spool_catalog::{Kept, OpenFault};
+use spool_catalog::{Catalog, OpenFault};
 use spool_disk::Disk;
 use spool_drafts::SpoolDraft;
 use spool_journal::PAGE;
@@ -44,11 +44,11 @@ use upload_rules::{New, Record, UploadError, Uploads};
 pub struct Spool<D: Disk> {
     alloc: Global,
     disk: D,
-    kept: Kept,
+    catalog: Catalog,
     /// By their numbers.
     drafts: Vec<Option<SpoolDraft>>,
-    ghost room: { PAGE * all_pages kept.layout ≤ D.size disk },
-    ghost fits: { DraftsFit kept drafts.items } by { fits_prop kept drafts.items },
+    ghost room: { PAGE * all_pages catalog.layout ≤ D.size disk },
+    ghost fits: { DraftsFit catalog drafts.items } by { fits_prop catalog drafts.items },
 }
 
 /// A draft of a spool: the number of its append.
@@ -57,8 +57,8 @@ pub struct SpoolAppend {
 }
 
 impl<D: Disk> Spool<D> {
-    ghost use Rattle.spool_image.specs.Spool.{disk_of, size_of, disk_after, Keeps, SpoolStands};
-    ghost use Rattle.spool_image.specs.Spool.{IsFault, OpensAs, OpensFrom, RefusesAs};
+    ghost use Rattle.spool_image.specs.Spool.{disk_of, block_count_of, disk_after, SpoolHasView, SpoolRepresents};
+    ghost use Rattle.spool_image.specs.Spool.{IsOpenFault, OpensAs, OpensFrom, RefusesAs};
 
     /// Opens a spool, and recovers it if a crash interrupted a commit. A crash during it does no harm: it may be called
     /// again.
@@ -74,18 +74,18 @@ impl<D: Disk> Spool<D> {
     pub fn open(alloc: Global, disk: D) -> Result<Spool<D>, (D, OpenFault)>
         ensures size { D.size (disk_after result) ≡ D.size disk }
         ensures honest { D.honest disk ↔ D.honest (disk_after result) }
-        ensures counts { Counts (IsFault result) (D.failures disk) (D.failures (disk_after result)) }
+        ensures counts { Counts (IsOpenFault result) (D.failures disk) (D.failures (disk_after result)) }
 
         // If a read gives a valid spool, that one is opened, unless memory or the disk refuses.
         ensures opened { D.honest disk → (v : View) → IsValid v → IsViewOf (D.current disk) v
-            → PAGE * all_pages v.blocks ≤ D.size disk → OpensAs result (λ s. Keeps s v) }
+            → PAGE * all_pages v.blocks ≤ D.size disk → OpensAs result (λ s. SpoolHasView s v) }
 
         // What is opened is a valid spool, and it is what a read gives. Each error has its reason.
         ensures valid { D.honest disk → IfOk result (OpensFrom (D.size disk) (D.current disk)) }
         ensures refused { D.honest disk → IfErr result (λ e. RefusedFor (D.size disk) (D.current disk) e.1) }
 
         // On any disk the answer follows from the bytes that the reads gave, in the same way.
-        ensures given { ReadsBy (D.reads disk) (D.reads (disk_after result)) (OpensBy Keeps (D.size disk) result) }
+        ensures given { ReadsBy (D.reads disk) (D.reads (disk_after result)) (OpensBy SpoolHasView (D.size disk) result) }
 
         // Each reason leads to its error, unless memory or the disk refuses. No two reasons hold, and none of a valid
         // spool.
@@ -99,11 +99,11 @@ impl<D: Disk> Spool<D> {
         // Without a journal to replay nothing is written: every crash image is one of before, and a read gives the
         // same.
         ensures unwritten { D.honest disk → Unwritten D.Disk disk (disk_after result) }
-        ensures same { D.honest disk → ReadsSame D.Disk disk (disk_after result) (IsFault result) }
+        ensures same { D.honest disk → ReadsSame D.Disk disk (disk_after result) (IsOpenFault result) }
 
         // A commit may follow.
         ensures idle { D.honest disk → IfOk result
-            (λ s. Idle (journal_pages (size_of s)) (D.current (disk_of s)) (D.unsynced (disk_of s))) }
+            (λ s. Idle (journal_pages (block_count_of s)) (D.current (disk_of s)) (D.unsynced (disk_of s))) }
 
         // A crash leaves an image of before, or one that shows the same uploads and block count.
         ensures lasts { (n : ℕ) (m : Store) → IsSpool D.Disk disk n m
@@ -114,20 +114,20 @@ impl<D: Disk> Spool<D> {
             → IfOk result (λ s. AllShow D.Disk (disk_of s) n m) }
 
         // It stands for these uploads, with no append under way.
-        ensures stands { (n : ℕ) (m : Store) → IsSpool D.Disk disk n m
-            → IfOk result (λ s. SpoolStands s true (at_rest m (Some n))) }
+        ensures represents { (n : ℕ) (m : Store) → IsSpool D.Disk disk n m
+            → IfOk result (λ s. SpoolRepresents s true (at_rest m (Some n))) }
 
         // On any disk what it has in memory is a view, which shows uploads, and it stands for these.
-        ensures view { IfOk result (λ s. (v : View) × (m : Store) × Keeps s v × Shows v m) }
-        ensures kept { (v : View) (m : Store) → Shows v m
-            → IfOk result (λ s. Keeps s v → SpoolStands s false (at_rest m (Some v.blocks))) }
+        ensures view { IfOk result (λ s. (v : View) × (m : Store) × SpoolHasView s v × Shows v m) }
+        ensures represents_view { (v : View) (m : Store) → Shows v m
+            → IfOk result (λ s. SpoolHasView s v → SpoolRepresents s false (at_rest m (Some v.blocks))) }
     {
         let mut disk = disk;
         match load(alloc, &mut disk) {
-            Ok(kept) => Ok(Spool {
+            Ok(catalog) => Ok(Spool {
                 alloc,
                 disk,
-                kept,
+                catalog,
                 drafts: Vec::new(alloc),
             }),
             Err(fault) => Err((disk, fault)),
@@ -136,27 +136,27 @@ impl<D: Disk> Spool<D> {
 
     /// How many text blocks it has.
     pub fn blocks(&self) -> u32
-        ensures { result ≡ size_of self.now }
+        ensures { result ≡ block_count_of self.now }
     {
-        self.kept.layout().blocks()
+        self.catalog.layout().blocks()
     }
 
     /// The version of its format.
     pub fn version(&self) -> Version
-        ensures { (v : View) → Keeps self.now v → result ≡ v.version }
+        ensures { (v : View) → SpoolHasView self.now v → result ≡ v.version }
     {
-        self.kept.version()
+        self.catalog.version()
     }
 
     /// The disk, which has room for the spool's blocks.
     pub fn into_disk(self) -> D
         ensures same { result ≡ disk_of self }
-        ensures room { PAGE * all_pages (size_of self) ≤ D.size result }
+        ensures room { PAGE * all_pages (block_count_of self) ≤ D.size result }
     {
         let Spool {
             alloc: _,
             disk,
-            kept: _,
+            catalog: _,
             drafts: _,
         } = self;
         disk
@@ -165,13 +165,13 @@ impl<D: Disk> Spool<D> {
 
 impl<D: Disk> Uploads for Spool<D> {
     ghost use Rattle.spool_image.specs.LeftOnly.{SpoolLeft};
-    ghost use Rattle.spool_image.specs.Spool.{SpoolStands};
+    ghost use Rattle.spool_image.specs.Spool.{SpoolRepresents};
     ghost use Rattle.spool_image.specs.Durable.{durable_left};
     ghost use Rattle.spool_image.specs.Numbers.{upload_below};
 
     type Draft = SpoolAppend;
 
-    ghost stands = { SpoolStands };
+    ghost represents = { SpoolRepresents };
 
     ghost number_of = { λ d. d.number };
 
@@ -179,41 +179,41 @@ impl<D: Disk> Uploads for Spool<D> {
 
     ghost moment = { λ s. D.moment s.disk };
 
-    ghost left_only = { λ s blocks t ms. SpoolLeft D.Disk s.disk s.kept.layout blocks t ms };
+    ghost left_only = { λ s blocks t ms. SpoolLeft D.Disk s.disk s.catalog.layout blocks t ms };
 
     ghost failures = { λ s. D.failures s.disk };
 
-    ghost below = { λ s sure w number u stands there.
-        upload_below s.disk s.kept s.drafts.items w number u stands there };
+    ghost below = { λ s sure w number u represents there.
+        upload_below s.disk s.catalog s.drafts.items w number u represents there };
 
-    ghost durable = { λ s w ms stands among.
-        durable_left s.disk s.kept s.drafts.items w ms s.room (D.only_now s.disk) stands among };
+    ghost durable = { λ s w ms represents among.
+        durable_left s.disk s.catalog s.drafts.items w ms s.room (D.only_now s.disk) represents among };
 
     fn record(&self, number: u64) -> Option<&Record> {
-        self.kept.record(number)
+        self.catalog.record(number)
     }
 
     fn record_after(&self, number: u64) -> Option<&Record> {
-        self.kept.record_after(number)
+        self.catalog.record_after(number)
     }
 
     fn next_number(&self) -> u64 {
-        self.kept.next_number()
+        self.catalog.next_number()
     }
 
     fn indexes(&self) -> &IndexSet {
-        self.kept.indexes()
+        self.catalog.indexes()
     }
 
     fn create(&mut self, new: New) -> Result<u64, UploadError> {
-        create(self.alloc, &mut self.disk, &mut self.kept, new)
+        create(self.alloc, &mut self.disk, &mut self.catalog, new)
     }
 
     fn terminate(&mut self, number: u64) -> Result<(), UploadError> {
         terminate(
             self.alloc,
             &mut self.disk,
-            &mut self.kept,
+            &mut self.catalog,
             &mut self.drafts,
             number,
         )
@@ -228,7 +228,7 @@ impl<D: Disk> Uploads for Spool<D> {
     ) -> Result<SpoolAppend, UploadError> {
         let number = begin::<D>(
             self.alloc,
-            &self.kept,
+            &self.catalog,
             &mut self.drafts,
             number,
             offset,
@@ -242,7 +242,7 @@ impl<D: Disk> Uploads for Spool<D> {
         append(
             self.alloc,
             &mut self.disk,
-            &mut self.kept,
+            &mut self.catalog,
             &mut self.drafts,
             draft.number,
             piece,
@@ -254,7 +254,7 @@ impl<D: Disk> Uploads for Spool<D> {
         commit(
             self.alloc,
             &mut self.disk,
-            &mut self.kept,
+            &mut self.catalog,
             &mut self.drafts,
             number,
         )
@@ -262,10 +262,10 @@ impl<D: Disk> Uploads for Spool<D> {
 
     fn drop_open(&mut self, draft: SpoolAppend) {
         let SpoolAppend { number } = draft;
-        drop_open::<D>(&mut self.kept, &mut self.drafts, number)
+        drop_open::<D>(&mut self.catalog, &mut self.drafts, number)
     }
 
     fn read_text(&mut self, number: u64, at: u64, buf: &mut [u8]) -> Result<usize, UploadError> {
-        self.kept.read(&mut self.disk, number, at, buf)
+        self.catalog.read(&mut self.disk, number, at, buf)
     }
 }

@@ -1,12 +1,12 @@
 //! Upgrading a spool to version 2.
 ghost use Rattle.std.specs.Prelude.{◌≡◌, ◌⊎◌, ◌≤◌, ◌*◌, ◌↔◌, ℕ, Err, IfOk, IfErr, OnOk};
 ghost use Rattle.common.specs.declared.stop.Stop.{Stop};
-ghost use Rattle.spool_disk.specs.Disk.{Counts, IsImage, Keeps};
+ghost use Rattle.spool_disk.specs.Disk.{Counts, IsImage, Preserves};
 ghost use Rattle.spool_disk.specs.Views.{Lasts};
 ghost use Rattle.spool_journal.specs.Image.{all_pages, journal_pages, overlaid};
 ghost use Rattle.spool_journal.specs.Phases.{ReadsAs, Settled};
 ghost use Rattle.upload_rules.specs.Store.{Store};
-ghost use Rattle.spool_catalog.specs.Kept.{KeepsAlone, KeepsView};
+ghost use Rattle.spool_catalog.specs.Catalog.{HasViewAlone, HasView};
 ghost use Rattle.spool_catalog.specs.Shows.{IsValid};
 ghost use Rattle.spool_load.specs.Loaded.{OpenedFrom};
 ghost use Rattle.spool_load.specs.Reads.{NeedsReplay};
@@ -23,7 +23,7 @@ ghost use Rattle.spool_image.specs.Opening.{OpensOn, ReadsBy};
 ghost use Rattle.spool_image.specs.Upgrade.{RefusesUpgradeAs, UpgradedFrom, UpgradeRefusedFor, UpgradesBy, UpgradesOf};
 
 use crate::UpgradeError;
-use spool_catalog::Kept;
+use spool_catalog::Catalog;
 use spool_disk::Disk;
 use spool_journal::PAGE;
 use spool_load::{find, read};
@@ -31,21 +31,21 @@ use spool_pages::{Version, change};
 use std::alloc::Global;
 
 // Finds, recovers and reads a spool of version 1.
-fn load_old<D: Disk>(alloc: Global, disk: &mut D) -> Result<Kept, UpgradeError>
+fn load_old<D: Disk>(alloc: Global, disk: &mut D) -> Result<Catalog, UpgradeError>
     ensures size { D.size disk.new ≡ D.size disk.old }
     ensures honest { D.honest disk.old ↔ D.honest disk.new }
     ensures counts { Counts (result ≡ Err (UpgradeError.Open (Fault.Stop Stop.DiskFault))) (D.failures disk.old)
         (D.failures disk.new) }
-    ensures room { IfOk result (λ kept. PAGE * all_pages kept.layout ≤ D.size disk.old) }
-    ensures said { D.honest disk.old → OfView (D.size disk.old) (D.current disk.old)
+    ensures room { IfOk result (λ catalog. PAGE * all_pages catalog.layout ≤ D.size disk.old) }
+    ensures decoded { D.honest disk.old → OfView (D.size disk.old) (D.current disk.old)
         (λ v. UpgradesOf v.version result) }
-    ensures kept { D.honest disk.old → OfView (D.size disk.old) (D.current disk.old)
-        (λ v. IfOk result (λ kept. KeepsAlone kept v)) }
+    ensures has { D.honest disk.old → OfView (D.size disk.old) (D.current disk.old)
+        (λ v. IfOk result (λ catalog. HasViewAlone catalog v)) }
     ensures valid { D.honest disk.old → IfOk result (OpenedFrom (D.size disk.old) (D.current disk.old)) }
-    ensures version { IfOk result (λ kept. kept.version ≡ Known.One) }
+    ensures version { IfOk result (λ catalog. catalog.version ≡ Known.One) }
     ensures refused { D.honest disk.old → IfErr result (UpgradeRefusedFor (D.size disk.old) (D.current disk.old)) }
-    ensures settled { D.honest disk.old → IfOk result (λ kept.
-        Recovered D.Disk kept.layout disk.old disk.new) }
+    ensures settled { D.honest disk.old → IfOk result (λ catalog.
+        Recovered D.Disk catalog.layout disk.old disk.new) }
     ensures stays { D.honest disk.old → OfView (D.size disk.old) (D.current disk.old)
         (λ v. IfErr result (λ e. (e ≡ UpgradeError.Open (Fault.Stop Stop.DiskFault) → ⊥)
         → Rests v (D.current disk.new) (D.unsynced disk.new))) }
@@ -60,32 +60,32 @@ fn load_old<D: Disk>(alloc: Global, disk: &mut D) -> Result<Kept, UpgradeError>
     if found.version == Version::Two {
         return Err(UpgradeError::AlreadyNew);
     }
-    let kept = read(alloc, disk, found)?;
-    Ok(kept)
+    let catalog = read(alloc, disk, found)?;
+    Ok(catalog)
 }
 
 // Upgrades a spool at rest.
-fn rewrite<D: Disk>(alloc: Global, disk: &mut D, kept: &Kept) -> Result<(), UpgradeError>
-    requires { PAGE * all_pages kept.now.layout ≤ D.size disk.old }
+fn rewrite<D: Disk>(alloc: Global, disk: &mut D, catalog: &Catalog) -> Result<(), UpgradeError>
+    requires { PAGE * all_pages catalog.now.layout ≤ D.size disk.old }
     ensures size { D.size disk.new ≡ D.size disk.old }
     ensures honest { D.honest disk.old ↔ D.honest disk.new }
     ensures counts { Counts (result ≡ Err (UpgradeError.Open (Fault.Stop Stop.DiskFault))) (D.failures disk.old)
         (D.failures disk.new) }
-    ensures done { D.honest disk.old → (v : View) → KeepsView kept.now v
+    ensures done { D.honest disk.old → (v : View) → HasView catalog.now v
         → Rests v (D.current disk.old) (D.unsynced disk.old)
         → OnOk result (Rests (upgraded v) (D.current disk.new) (D.unsynced disk.new)) }
-    ensures commit { D.honest disk.old → (v : View) → KeepsView kept.now v
+    ensures commit { D.honest disk.old → (v : View) → HasView catalog.now v
         → Rests v (D.current disk.old) (D.unsynced disk.old)
         → OnOk result (CommitOfUpgrade v (D.current disk.old) (D.current disk.new) (D.unsynced disk.new)) }
     ensures late { IfErr result IsLateRefusal }
-    ensures lasts { D.honest disk.old → (v : View) → KeepsView kept.now v
+    ensures lasts { D.honest disk.old → (v : View) → HasView catalog.now v
         → Rests v (D.current disk.old) (D.unsynced disk.old)
         → Lasts D.Disk disk.old disk.new (λ image. IsViewOf image v ⊎ IsViewOf image (upgraded v)) }
     ensures untouched { IfErr result (λ e. (e ≡ UpgradeError.Open (Fault.Stop Stop.DiskFault) → ⊥)
         → disk.new ≡ disk.old) }
 {
-    let pages = kept.pages_of_upgrade(alloc)?;
-    change(disk, kept.layout(), &pages)?;
+    let pages = catalog.pages_of_upgrade(alloc)?;
+    change(disk, catalog.layout(), &pages)?;
     Ok(())
 }
 
@@ -137,7 +137,7 @@ pub fn upgrade<D: Disk>(alloc: Global, disk: &mut D) -> Result<(), UpgradeError>
         → Lasts D.Disk disk.old disk.new (IsImage (D.current disk.old) (D.unsynced disk.old))) }
     ensures same { D.honest disk.old → (NeedsReplay (D.size disk.old) (D.current disk.old) → ⊥)
         → IfErr result (λ e. (e ≡ UpgradeError.Open (Fault.Stop Stop.DiskFault) → ⊥)
-        → Keeps (D.current disk.old) (D.current disk.new) (D.unsynced disk.old) (D.unsynced disk.new)) }
+        → Preserves (D.current disk.old) (D.current disk.new) (D.unsynced disk.old) (D.unsynced disk.new)) }
 
     // A crash leaves an image of before, or the same view in the old version or in version 2.
     ensures lasts { D.honest disk.old → (v : View) → IsValid v → IsViewOf (D.current disk.old) v
@@ -152,6 +152,6 @@ pub fn upgrade<D: Disk>(alloc: Global, disk: &mut D) -> Result<(), UpgradeError>
     ensures shows { (n : ℕ) (m : Store) → IsSpool D.Disk disk.old n m
         → (result ≡ Err (UpgradeError.Open (Fault.Stop Stop.DiskFault)) → ⊥) → AllShow D.Disk disk.new n m }
 {
-    let kept = load_old(alloc, disk)?;
-    rewrite(alloc, disk, &kept)
+    let catalog = load_old(alloc, disk)?;
+    rewrite(alloc, disk, &catalog)
 }

@@ -4,9 +4,9 @@ use Rattle.std.proofs.Common.{length, refl, sym, ◌∙◌, ap, arith, ⊎_elim}
 use Rattle.std.proofs.lemmas.Bool.{cases_eq}
 use Rattle.spool_journal.specs.declared.TheConstants.{PAGE}
 use Rattle.spool_disk.specs.Disk.{span, In, IsImage, Writes, Syncs}
-use Rattle.spool_journal.specs.Image.{byte_of, count, number, content, over, replayed, overlaid, laid, InJournal}
+use Rattle.spool_journal.specs.Image.{byte_of, count, journal_number, content, over, replayed, overlaid, laid, InJournal}
 use Rattle.spool_journal.specs.Image.{Outside, InForm, page_number, page_byte}
-use Rattle.spool_journal.specs.Phases.{Idle, ReadsAs, IsBefore, Ready, Opened, Hit, Placing, Upto, Placed, Settled}
+use Rattle.spool_journal.specs.Phases.{Idle, ReadsAs, IsBefore, Ready, Opened, Hit, Placing, Upto, PagesPlaced, Settled}
 use Rattle.spool_journal.proofs.Over.{over_hit, over_pass, over_none, over_same, yes, no}
 use Rattle.spool_journal.proofs.Steps.{span_at, word_same, form_same, outside_journal}
 
@@ -24,7 +24,7 @@ module _ {j : ℕ} {a b : ℕ → ℕ} where
   same_count : 1 ≤ j → SameJournal j a b → count a ≡ count b
   same_count some same = word_same a b 8192 8192 (λ i lt. same.same (8192 + i) (grind arith))
 
-  same_number : j ≤ 385 → 1 ≤ j → SameJournal j a b → (k : ℕ) → k < j → number a k ≡ number b k
+  same_number : j ≤ 385 → 1 ≤ j → SameJournal j a b → (k : ℕ) → k < j → journal_number a k ≡ journal_number b k
   same_number few some same k below =
       word_same a b (8196 + 4 * k) (8196 + 4 * k) (λ i lt. same.same (8196 + 4 * k + i) (grind arith))
 
@@ -32,24 +32,24 @@ module _ {j : ℕ} {a b : ℕ → ℕ} where
   same_content same k x below lt = same.same (PAGE * (3 + k) + x) (grind arith)
 
   -- b's journal is in form; so is a's, and replayed it gives what b's gives where the two agree elsewhere
-  pub form_on : j ≤ 385 → 1 ≤ j → SameJournal j a b → InForm j (count b) (number b) → InForm j (count a) (number a)
+  pub form_on : j ≤ 385 → 1 ≤ j → SameJournal j a b → InForm j (count b) (journal_number b) → InForm j (count a) (journal_number a)
   form_on few some same form =
-      form_same j (count b) (count a) (number b) (number a) (sym (same_count some same))
+      form_same j (count b) (count a) (journal_number b) (journal_number a) (sym (same_count some same))
       (λ k lt. sym (same_number few some same k (omega (arith, lt, form.few)))) form
 
-  pub replay_on : j ≤ 385 → SameJournal j a b → InForm j (count b) (number b) → (p : ℕ)
-      → (((k : ℕ) → k < count b → number b k ≡ p / PAGE → ⊥) → a p ≡ b p) → replayed a p ≡ replayed b p
+  pub replay_on : j ≤ 385 → SameJournal j a b → InForm j (count b) (journal_number b) → (p : ℕ)
+      → (((k : ℕ) → k < count b → journal_number b k ≡ p / PAGE → ⊥) → a p ≡ b p) → replayed a p ≡ replayed b p
   replay_on few same form p misses =
       let some : 1 ≤ j = omega (arith, form.some, form.few) in
       let c : count a ≡ count b = same_count some same in
-      ap (λ (n : ℕ). over (number a) (content a) a n p) c
-      ∙ over_same (number a) (number b) (content a) (content b) a b (count b) p
+      ap (λ (n : ℕ). over (journal_number a) (content a) a n p) c
+      ∙ over_same (journal_number a) (journal_number b) (content a) (content b) a b (count b) p
       (λ k lt. same_number few some same k (omega (arith, lt, form.few)))
       (λ k x lt below. same_content same k x (omega (arith, lt, form.few)) below)
       (λ none. misses (λ k lt e. none k lt (same_number few some same k (omega (arith, lt, form.few)) ∙ e)))
 
 -- a place of a named page is in the metadata area
-pub hit_from : (j : ℕ) (image : ℕ → ℕ) (p : ℕ) → InForm j (count image) (number image) → Hit image p
+pub hit_from : (j : ℕ) (image : ℕ → ℕ) (p : ℕ) → InForm j (count image) (journal_number image) → Hit image p
     → PAGE * (25 + j) ≤ p
 hit_from j image p form hit = let h = form.inside hit.k hit.below in omega (arith, h.from, hit.here)
 
@@ -70,8 +70,8 @@ laid_over : {j : ℕ} {pages : List (ℕ × List ℕ)} {was current image : ℕ 
     → replayed image p ≡ laid pages was p
 laid_over {pages = pages} {was = was} {current = current} few ready same p outside =
     replay_on few (journal_apart same) ready.form p (λ _. same p (gateless _ p outside))
-    ∙ ap (λ (n : ℕ). over (number current) (content current) current n p) ready.matches.size
-    ∙ over_same (number current) (page_number pages) (content current) (page_byte pages) current was (length pages) p
+    ∙ ap (λ (n : ℕ). over (journal_number current) (content current) current n p) ready.matches.size
+    ∙ over_same (journal_number current) (page_number pages) (content current) (page_byte pages) current was (length pages) p
     ready.matches.numbers ready.matches.contents (λ _. ready.same p (outside_journal _ p outside))
 
 module _ {j : ℕ} {opened current image : ℕ → ℕ} {unsynced : ℕ → Type 0} where
@@ -95,7 +95,7 @@ module _ {j : ℕ} {opened current image : ℕ → ℕ} {unsynced : ℕ → Type
         same = λ p within. at p (λ hit. omega (arith, hit_from j opened p placing.form hit, within.below));
       }
 
-  pub closing_image : j ≤ 385 → Placed j opened current unsynced → ((p : ℕ) → (p ≡ PAGE → ⊥) → image p ≡ current p)
+  pub closing_image : j ≤ 385 → PagesPlaced j opened current unsynced → ((p : ℕ) → (p ≡ PAGE → ⊥) → image p ≡ current p)
       → ReadsAs j image (replayed opened)
   closing_image few placed same =
       record {
@@ -109,7 +109,7 @@ module _ {j : ℕ} {opened current image : ℕ → ℕ} {unsynced : ℕ → Type
     where
       at : (p : ℕ) → (p ≡ PAGE → ⊥) → (Hit opened p → ⊥) → image p ≡ opened p
       at p away miss = same p away ∙ placed.all p
-          ∙ over_none (number opened) (content opened) opened (count opened) p (λ k lt e. miss record {
+          ∙ over_none (journal_number opened) (content opened) opened (count opened) p (λ k lt e. miss record {
             k = k;
             below = lt;
             here = e;
@@ -193,7 +193,7 @@ opened {j = j} {pages = pages} {current = current} {current' = current'} few rea
     journal = journal_apart now.same
 
 pub settled : {j : ℕ} {opened current current' : ℕ → ℕ} {unsynced unsynced' : ℕ → Type 0}
-    → Placed j opened current unsynced → GateIs 0 current current' unsynced'
+    → PagesPlaced j opened current unsynced → GateIs 0 current current' unsynced'
     → Settled j (replayed opened) current' unsynced'
 settled placed now = record {
   is_synced = now.is_synced;
@@ -203,7 +203,7 @@ settled placed now = record {
 
 module _ {j : ℕ} {opened current current' : ℕ → ℕ} {unsynced unsynced' : ℕ → Type 0} {done : Type 0} where
   pub placing_writes : (i page : ℕ) (bytes : List ℕ) → Placing j opened current unsynced → i < count opened
-      → number opened i ≡ page → length bytes ≡ PAGE
+      → journal_number opened i ≡ page → length bytes ≡ PAGE
       → Writes (PAGE * page) bytes done current current' unsynced unsynced'
       → Placing j opened current' unsynced'
   placing_writes i page bytes placing lt e size writes = record {
@@ -218,26 +218,26 @@ module _ {j : ℕ} {opened current current' : ℕ → ℕ} {unsynced unsynced' :
 
 pub upto_writes : {current current' : ℕ → ℕ} {unsynced unsynced' : ℕ → Type 0} {done : Type 0} (opened : ℕ
     → ℕ) (i page : ℕ)
-    (bytes : List ℕ) → Upto opened current i → number opened i ≡ page → length bytes ≡ PAGE
+    (bytes : List ℕ) → Upto opened current i → journal_number opened i ≡ page → length bytes ≡ PAGE
     → ((x : ℕ) → x < PAGE → content opened i x ≡ byte_of bytes x)
     → Writes (PAGE * page) bytes done current current' unsynced
     unsynced' → done → Upto opened current' (i + 1)
 upto_writes {current' = current'} opened i page bytes upto e size same writes wrote p =
     let more : i + 1 ≡ suc i = omega arith in
     rw more (⊎_elim
-    (λ (h : number opened i ≡ p / PAGE).
+    (λ (h : journal_number opened i ≡ p / PAGE).
     let at : PAGE * page + p % PAGE ≡ p = omega (arith, h, e) in
     (rw at at (span_at current' (PAGE * page) bytes (p % PAGE) (writes.inside wrote) (omega (arith, size))
-    ∙ sym (same (p % PAGE) (omega arith)))) ∙ sym (over_hit (number opened) (content opened) opened i p h))
-    (λ (h : number opened i ≡ p / PAGE → ⊥). writes.outside p
+    ∙ sym (same (p % PAGE) (omega arith)))) ∙ sym (over_hit (journal_number opened) (content opened) opened i p h))
+    (λ (h : journal_number opened i ≡ p / PAGE → ⊥). writes.outside p
     (λ here. h (omega (arith, here.from, here.below, e, size))) ∙ upto p
-    ∙ sym (over_pass (number opened) (content opened) opened i p h))
-    (cases_eq (number opened i) (p / PAGE)))
+    ∙ sym (over_pass (journal_number opened) (content opened) opened i p h))
+    (cases_eq (journal_number opened i) (p / PAGE)))
 
 pub placed_syncs : {j : ℕ} {opened current current' : ℕ → ℕ} {unsynced unsynced' : ℕ → Type 0} {done : Type 0}
     → Placing j opened current unsynced → Upto opened current (count opened)
     → Syncs done current current' unsynced unsynced' → done
-    → Placed j opened current' unsynced'
+    → PagesPlaced j opened current' unsynced'
 placed_syncs placing upto syncs done = assumption (λ (p : ℕ). syncs.same done p ∙ upto p, syncs.is_synced done)
 
 pub upto_none : (opened : ℕ → ℕ) → Upto opened opened 0

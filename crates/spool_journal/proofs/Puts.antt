@@ -3,7 +3,7 @@ use Rattle.std.proofs.Common.{◌≡◌, ◌⊎◌, inl, inr, ℕ, ◌+◌, ◌-
 use Rattle.std.specs.List.{insert}
 use Rattle.std.proofs.lemmas.Bool.{cases_eq, cases_lt}
 use Rattle.std.proofs.lemmas.List.Edits.{get_or-insert_at, get_or-insert_below, get_or-insert_above, length-insert}
-use Rattle.spool_journal.specs.Image.{InMeta, InArea, IsPut, page_number}
+use Rattle.spool_journal.specs.Image.{InMeta, InArea, IsPagePut, page_number}
 
 -- the number is that of one of the pages
 pub record Among (pages : List (ℕ × List ℕ)) (number : ℕ) : Type 0 where
@@ -15,11 +15,11 @@ number_of : (new old : List (ℕ × List ℕ)) (k : ℕ) → new ≡ old → pag
 number_of new old k e = ap (λ (l : List (ℕ × List ℕ)). page_number l k) e
 
 module _ {old : List (ℕ × List ℕ)} {page : ℕ} {bytes : List ℕ} {new : List (ℕ × List ℕ)} where
-  pub put_length : IsPut old page bytes new → length new ≡ length old + 1
+  pub put_length : IsPagePut old page bytes new → length new ≡ length old + 1
   put_length is = ap (λ (l : List (ℕ × List ℕ)). length l) is.put ∙ length-insert old is.at (page, bytes) is.within
 
   -- each number is the new one or one from before
-  pub put_number : IsPut old page bytes new → (k : ℕ) → k < length new → (page_number new k ≡ page) ⊎ Among old
+  pub put_number : IsPagePut old page bytes new → (k : ℕ) → k < length new → (page_number new k ≡ page) ⊎ Among old
       (page_number new k)
   put_number is k lt = ⊎_elim
       (λ (below : k < is.at). inr record {
@@ -43,7 +43,7 @@ module _ {old : List (ℕ × List ℕ)} {page : ℕ} {bytes : List ℕ} {new : L
       (cases_eq k is.at))
       (cases_lt k is.at)
 
-  pub put_area : {j : ℕ} → IsPut old page bytes new → InArea j old → InMeta j page → InArea j new
+  pub put_area : {j : ℕ} → IsPagePut old page bytes new → InArea j old → InMeta j page → InArea j new
   put_area {j = j} is area inside k lt = ⊎_elim
       (λ (e : page_number new k ≡ page). rw e inside)
       (λ (among : Among old (page_number new k)). rw among.here (area among.at among.below))

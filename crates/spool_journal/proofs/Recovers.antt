@@ -4,8 +4,8 @@ use Rattle.std.proofs.Common.{sym, ◌∙◌, ap, subst, arith, ⊎_elim, Bool, 
 use Rattle.std.proofs.lemmas.Bool.{cases_eq}
 use Rattle.spool_journal.specs.declared.TheConstants.{PAGE}
 use Rattle.common.specs.declared.limits.TheConstants.{MOST_BLOCKS}
-use Rattle.spool_disk.specs.Disk.{span, IsImage, Keeps}
-use Rattle.spool_journal.specs.Image.{word, byte_of, journal_pages, all_pages, count, number, content, over, overlaid}
+use Rattle.spool_disk.specs.Disk.{span, IsImage, Preserves}
+use Rattle.spool_journal.specs.Image.{word, byte_of, journal_pages, all_pages, count, journal_number, content, over, overlaid}
 use Rattle.spool_journal.specs.Image.{text_page, laid, replayed, InForm, InArea, Ascends, page_number}
 use Rattle.spool_journal.specs.Phases.{IsBefore, ReadsAs, Placing, Upto, Settled, Still, HeadOf}
 use Rattle.spool_disk.specs.Views.{Lasts}
@@ -31,21 +31,21 @@ get_span f at (suc n) (suc x) lt = let e : at + 1 + x ≡ at + suc x =
     omega arith in get_span f (at + 1) n x (omega (arith, lt)) ∙ ap f e
 
 module _ {current current' : ℕ → ℕ} {unsynced unsynced' : ℕ → Type 0} where
-  pub placing_keeps : {j : ℕ} {opened : ℕ → ℕ} → Placing j opened current unsynced
-      → Keeps current current' unsynced unsynced'
+  pub placing_preserves : {j : ℕ} {opened : ℕ → ℕ} → Placing j opened current unsynced
+      → Preserves current current' unsynced unsynced'
       → Placing j opened current' unsynced'
-  placing_keeps placing keeps = record {
+  placing_preserves placing preserves = record {
     gate = placing.gate;
     form = placing.form;
-    same = λ p miss. keeps.same p ∙ placing.same p miss;
-    is_synced = λ p l. placing.is_synced p (keeps.unsyncs p l);
+    same = λ p miss. preserves.same p ∙ placing.same p miss;
+    is_synced = λ p l. placing.is_synced p (preserves.unsyncs p l);
   }
 
-  pub still_keeps : {bytes : ℕ → ℕ} → Still bytes current unsynced → Keeps current current' unsynced unsynced'
+  pub still_preserves : {bytes : ℕ → ℕ} → Still bytes current unsynced → Preserves current current' unsynced unsynced'
       → Still bytes current' unsynced'
-  still_keeps still keeps = record {
-    reads = λ p. keeps.same p ∙ still.reads p;
-    is_synced = λ p l. still.is_synced p (keeps.unsyncs p l);
+  still_preserves still preserves = record {
+    reads = λ p. preserves.same p ∙ still.reads p;
+    is_synced = λ p l. still.is_synced p (preserves.unsyncs p l);
   }
 
 pub still_image : {bytes current image : ℕ → ℕ} {unsynced : ℕ → Type 0} → Still bytes current unsynced
@@ -69,7 +69,7 @@ placing_content {j = j} {opened = opened} placing i x lt below =
 
 pub still_placing : {j : ℕ} {bytes current : ℕ → ℕ} {unsynced : ℕ → Type 0} → Still bytes current unsynced
     → bytes PAGE ≡ 165
-    → InForm j (count bytes) (number bytes) → Placing j bytes current unsynced
+    → InForm j (count bytes) (journal_number bytes) → Placing j bytes current unsynced
 still_placing still gate form = record {
   gate = gate;
   form = form;
@@ -88,22 +88,22 @@ head_count bytes head here =
     (λ i lt. let e : 0 + i ≡ i = omega arith in ap (byte_of head) e ∙ here i (omega (arith, lt)))
 
 pub head_number : (bytes : ℕ → ℕ) (head : List ℕ) → HeadOf bytes head → (k : ℕ) → k < 385
-    → word (byte_of head) (4 + 4 * k) ≡ number bytes k
+    → word (byte_of head) (4 + 4 * k) ≡ journal_number bytes k
 head_number bytes head here k below =
     word_same (byte_of head) bytes (4 + 4 * k) (8196 + 4 * k)
     (λ i lt. let e : 8192 + (4 + 4 * k + i) ≡ 8196 + 4 * k + i = omega arith in here (4 + 4 * k + i)
     (omega (arith, lt, below)) ∙ ap bytes e)
 
 pub head_form : (j : ℕ) (bytes : ℕ → ℕ) (head : List ℕ) → j ≤ 385 → HeadOf bytes head
-    → InForm j (word (byte_of head) 0) (λ k. word (byte_of head) (4 + 4 * k)) → InForm j (count bytes) (number bytes)
+    → InForm j (word (byte_of head) 0) (λ k. word (byte_of head) (4 + 4 * k)) → InForm j (count bytes) (journal_number bytes)
 head_form j bytes head few here form =
-    form_same j (word (byte_of head) 0) (count bytes) (λ k. word (byte_of head) (4 + 4 * k)) (number bytes)
+    form_same j (word (byte_of head) 0) (count bytes) (λ k. word (byte_of head) (4 + 4 * k)) (journal_number bytes)
     (head_count bytes head here) (λ k lt. head_number bytes head here k (omega (arith, few, lt, form.few))) form
 
 pub form_head : (j : ℕ) (bytes : ℕ → ℕ) (head : List ℕ) → j ≤ 385 → HeadOf bytes head
-    → InForm j (count bytes) (number bytes) → InForm j (word (byte_of head) 0) (λ k. word (byte_of head) (4 + 4 * k))
+    → InForm j (count bytes) (journal_number bytes) → InForm j (word (byte_of head) 0) (λ k. word (byte_of head) (4 + 4 * k))
 form_head j bytes head few here form =
-    form_same j (count bytes) (word (byte_of head) 0) (number bytes) (λ k. word (byte_of head) (4 + 4 * k))
+    form_same j (count bytes) (word (byte_of head) 0) (journal_number bytes) (λ k. word (byte_of head) (4 + 4 * k))
     (sym (head_count bytes head here))
     (λ k lt. sym (head_number bytes head here k (omega (arith, few, lt, form.few)))) form
 
@@ -180,9 +180,9 @@ head_given head bytes size e i lt = page_read bytes bytes 8192 head (length head
 
 -- a gate that was found open
 pub shown_open : (shown : Bool) (b : ℕ) → shown ≡ (b == 165) → shown ≡ true → b ≡ 165
-shown_open shown b e told =
+shown_open shown b e gate_is =
     ⊎_elim (λ (is : b ≡ 165). is)
-    (λ (not : b ≡ 165 → ⊥). let f : true ≡ false = sym told ∙ e ∙ no b 165 not in absurd cc) (cases_eq b 165)
+    (λ (not : b ≡ 165 → ⊥). let f : true ≡ false = sym gate_is ∙ e ∙ no b 165 not in absurd cc) (cases_eq b 165)
 
 -- a gate that was found closed
 pub shown_closed : (shown : Bool) (b : ℕ) → shown ≡ (b == 165) → shown ≡ false → b ≡ 165 → ⊥

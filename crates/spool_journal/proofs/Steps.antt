@@ -4,7 +4,7 @@ use Rattle.std.proofs.Common.{◌∙◌, arith, ⊎_elim, Result, Ok, Err, OnOk}
 use Rattle.std.proofs.lemmas.Bool.{cases_lt}
 use Rattle.spool_journal.specs.declared.TheConstants.{PAGE}
 use Rattle.spool_disk.specs.Disk.{In, span, IsImage, Writes, Syncs, Counts}
-use Rattle.spool_journal.specs.Image.{word, byte_of, count, number, InMeta, InJournal, Outside, InForm, InArea}
+use Rattle.spool_journal.specs.Image.{word, byte_of, count, journal_number, InMeta, InJournal, Outside, InForm, InArea}
 use Rattle.spool_journal.specs.Image.{Ascends, page_number, page_byte}
 use Rattle.spool_journal.specs.Phases.{IsBefore, Idle, Staging, Copied, Ready}
 
@@ -146,7 +146,7 @@ pub ready : {was mid current : ℕ → ℕ} {risk between unsynced : ℕ
     → ((k : ℕ) → k < length pages → word (byte_of head) (4 + 4 * k) ≡ page_number pages k)
     → Staging j mid between current unsynced → ((i : ℕ) → i < PAGE → current (8192 + i) ≡ byte_of head i)
     → ((p : ℕ) → 12288 ≤ p → current p ≡ mid p) → ((p : ℕ) → unsynced p → ⊥) → Ready j pages was current unsynced
-ready {current = current} {j = j} pages head some few fits inside ascends a copied counted numbered b here kept
+ready {current = current} {j = j} pages head some few fits inside ascends a copied counted numbered b here unchanged
     is_synced =
     record {
       is_synced = is_synced;
@@ -154,16 +154,16 @@ ready {current = current} {j = j} pages head some few fits inside ascends a copi
       matches = record {
         size = size;
         numbers = numbers;
-        contents = λ k x lt below. kept _ (omega arith) ∙ copied k x lt below;
+        contents = λ k x lt below. unchanged _ (omega arith) ∙ copied k x lt below;
       };
-      form = form_same j (length pages) (count current) (page_number pages) (number current) (sym size)
+      form = form_same j (length pages) (count current) (page_number pages) (journal_number current) (sym size)
           (λ k lt. sym (numbers k lt)) assumption;
     }
   where
     size : count current ≡ length pages
     size = word_same current (byte_of head) 8192 0 (λ i lt. grind (arith, here i)) ∙ counted
 
-    numbers : (k : ℕ) → k < length pages → number current k ≡ page_number pages k
+    numbers : (k : ℕ) → k < length pages → journal_number current k ≡ page_number pages k
     numbers k lt = word_same current (byte_of head) (8196 + 4 * k) (4 + 4 * k)
         (λ i below. grind (arith, here (4 + 4 * k + i))) ∙ numbered k lt
 

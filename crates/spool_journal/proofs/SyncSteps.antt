@@ -6,7 +6,7 @@ use Rattle.spool_disk.specs.Views.{Lasts}
 use Rattle.spool_disk.specs.declared.disk.Disk.{Ghosts}
 use Rattle.spool_disk.proofs.Firm.{on_ok, lasts_call, lasts_on}
 use Rattle.spool_journal.specs.Image.{count, replayed}
-use Rattle.spool_journal.specs.Phases.{ReadsAs, Placing, Upto, Placed}
+use Rattle.spool_journal.specs.Phases.{ReadsAs, Placing, Upto, PagesPlaced}
 use Rattle.spool_journal.proofs.Steps.{sync_image}
 use Rattle.spool_journal.proofs.Gate.{placed_syncs, placing_image, gate_image, GateApart}
 
@@ -14,7 +14,7 @@ pub placed_after : {T E : Type 0} {j : ℕ} {opened current current' : ℕ → �
     → Type 0} (r : Result T E)
     → Placing j opened current unsynced → Upto opened current (count opened)
     → Syncs (IsOk r) current current' unsynced unsynced'
-    → OnOk r (Placed j opened current' unsynced')
+    → OnOk r (PagesPlaced j opened current' unsynced')
 placed_after r placing upto syncs = on_ok r (λ done. placed_syncs placing upto syncs done)
 
 pub image_after : {D : Type 0} {disk : Ghosts D} {old new : D} {j : ℕ} {opened : ℕ → ℕ} {done : Type 0} → j ≤ 385

@@ -2,8 +2,8 @@
 ghost use Rattle.std.specs.Prelude.{◌≡◌, ◌⊎◌, ◌≤◌, ◌<◌, ◌*◌, ◌+◌, ◌↔◌, ℕ, List, length, IsErr, OnOk};
 ghost use Rattle.spool_disk.specs.Disk.{Counts};
 ghost use Rattle.spool_disk.specs.Views.{Lasts};
-ghost use Rattle.spool_journal.specs.Image.{count, number, content, replayed, laid, byte_of, page_number};
-ghost use Rattle.spool_journal.specs.Phases.{IsBefore, ReadsAs, Ready, Opened, Matches, Placing, Upto, Placed, Settled};
+ghost use Rattle.spool_journal.specs.Image.{count, journal_number, content, replayed, laid, byte_of, page_number};
+ghost use Rattle.spool_journal.specs.Phases.{IsBefore, ReadsAs, Ready, Opened, Matches, Placing, Upto, PagesPlaced, Settled};
 
 use crate::{GATE, PAGE};
 use spool_disk::{Disk, DiskFault};
@@ -33,13 +33,13 @@ pub(crate) fn place<D: Disk>(disk: &mut D, page: u32, bytes: &[u8; PAGE]) -> Res
     ensures counts { Counts (IsErr result) (D.failures disk.old) (D.failures disk.new) }
     ensures reads { D.reads disk.new ≡ D.reads disk.old }
     ensures placing { D.honest disk.old → (j i : ℕ) (opened : ℕ → ℕ) → Placing j opened (D.current disk.old)
-        (D.unsynced disk.old) → i < count opened → number opened i ≡ page → Placing j opened (D.current disk.new)
+        (D.unsynced disk.old) → i < count opened → journal_number opened i ≡ page → Placing j opened (D.current disk.new)
         (D.unsynced disk.new) }
     ensures upto { D.honest disk.old → (i : ℕ) (opened : ℕ → ℕ) → Upto opened (D.current disk.old) i
-        → number opened i ≡ page → ((x : ℕ) → x < PAGE → content opened i x ≡ byte_of bytes.now x)
+        → journal_number opened i ≡ page → ((x : ℕ) → x < PAGE → content opened i x ≡ byte_of bytes.now x)
         → OnOk result (Upto opened (D.current disk.new) (i + 1)) }
     ensures lasts { D.honest disk.old → (j i : ℕ) → j ≤ 385 → (opened : ℕ → ℕ)
-        → Placing j opened (D.current disk.old) (D.unsynced disk.old) → i < count opened → number opened i ≡ page
+        → Placing j opened (D.current disk.old) (D.unsynced disk.old) → i < count opened → journal_number opened i ≡ page
         → Lasts D.Disk disk.old disk.new (λ image. ReadsAs j image (replayed opened)) }
 {
     disk.write_at(PAGE as u64 * page as u64, bytes)
@@ -76,10 +76,10 @@ pub(crate) fn close_gate<D: Disk>(disk: &mut D) -> Result<(), DiskFault>
     ensures honest { D.honest disk.old ↔ D.honest disk.new }
     ensures counts { Counts (IsErr result) (D.failures disk.old) (D.failures disk.new) }
     ensures reads { D.reads disk.new ≡ D.reads disk.old }
-    ensures settled { D.honest disk.old → (j : ℕ) (opened : ℕ → ℕ) → Placed j opened (D.current disk.old)
+    ensures settled { D.honest disk.old → (j : ℕ) (opened : ℕ → ℕ) → PagesPlaced j opened (D.current disk.old)
         (D.unsynced disk.old) → OnOk result (Settled j (replayed opened) (D.current disk.new) (D.unsynced disk.new)) }
     ensures lasts { D.honest disk.old → (j : ℕ) → j ≤ 385 → (opened : ℕ → ℕ)
-        → Placed j opened (D.current disk.old) (D.unsynced disk.old) → Lasts D.Disk disk.old disk.new
+        → PagesPlaced j opened (D.current disk.old) (D.unsynced disk.old) → Lasts D.Disk disk.old disk.new
         (λ image. ReadsAs j image (replayed opened)) }
 {
     disk.write_at(GATE, &[0])?;

@@ -5,7 +5,7 @@ ghost use Rattle.spool_disk.specs.Disk.{IsImage, Counts};
 ghost use Rattle.spool_disk.specs.Given.{MoreReads, ReadsGave};
 ghost use Rattle.spool_disk.specs.Views.{Lasts};
 ghost use Rattle.spool_journal.specs.Image.{journal_pages, all_pages, replayed, overlaid, word, byte_of, area_end};
-ghost use Rattle.spool_journal.specs.Image.{count, number, InForm};
+ghost use Rattle.spool_journal.specs.Image.{count, journal_number, InForm};
 ghost use Rattle.spool_journal.specs.Phases.{Idle, ReadsAs, Still, Placing, Upto, Settled, HeadOf};
 
 use crate::layout::{area_end, metadata_page};
@@ -112,14 +112,14 @@ fn copy_page<D: Disk>(disk: &mut D, from: u32, to: u32) -> Result<(), DiskFault>
     ensures counts { Counts (IsErr result) (D.failures disk.old) (D.failures disk.new) }
     ensures reads { MoreReads (D.reads disk.old) (D.reads disk.new) }
     ensures placing { D.honest disk.old → (j i : ℕ) (opened : ℕ → ℕ) → Placing j opened (D.current disk.old)
-        (D.unsynced disk.old) → i < count opened → number opened i ≡ to → Placing j opened (D.current disk.new)
+        (D.unsynced disk.old) → i < count opened → journal_number opened i ≡ to → Placing j opened (D.current disk.new)
         (D.unsynced disk.new) }
     ensures upto { D.honest disk.old → (j i : ℕ) (opened : ℕ → ℕ) → Placing j opened (D.current disk.old)
-        (D.unsynced disk.old) → Upto opened (D.current disk.old) i → i < count opened → number opened i ≡ to
+        (D.unsynced disk.old) → Upto opened (D.current disk.old) i → i < count opened → journal_number opened i ≡ to
         → from ≡ 3 + i
         → OnOk result (Upto opened (D.current disk.new) (i + 1)) }
     ensures lasts { D.honest disk.old → (j i : ℕ) → j ≤ 385 → (opened : ℕ → ℕ)
-        → Placing j opened (D.current disk.old) (D.unsynced disk.old) → i < count opened → number opened i ≡ to
+        → Placing j opened (D.current disk.old) (D.unsynced disk.old) → i < count opened → journal_number opened i ≡ to
         → Lasts D.Disk disk.old disk.new (λ image. ReadsAs j image (replayed opened)) }
 {
     let mut bytes = [0; PAGE];
@@ -188,16 +188,16 @@ fn mend<D: Disk>(disk: &mut D, journal: u32) -> Result<(), RecoverError>
     ensures settled { D.honest disk.old → (bytes : ℕ → ℕ) → Still bytes (D.current disk.old) (D.unsynced disk.old)
         → bytes PAGE ≡ 165 → OnOk result (Settled journal (replayed bytes) (D.current disk.new) (D.unsynced disk.new)) }
     ensures form { D.honest disk.old → (bytes : ℕ → ℕ) → Still bytes (D.current disk.old) (D.unsynced disk.old)
-        → OnOk result (InForm journal (count bytes) (number bytes)) }
+        → OnOk result (InForm journal (count bytes) (journal_number bytes)) }
     ensures damaged { D.honest disk.old → (bytes : ℕ → ℕ) → Still bytes (D.current disk.old) (D.unsynced disk.old)
-        → result ≡ Err RecoverError.Damaged → InForm journal (count bytes) (number bytes) → ⊥ }
+        → result ≡ Err RecoverError.Damaged → InForm journal (count bytes) (journal_number bytes) → ⊥ }
     ensures lasts { D.honest disk.old → (bytes : ℕ → ℕ) → Still bytes (D.current disk.old) (D.unsynced disk.old)
         → bytes PAGE ≡ 165 → Lasts D.Disk disk.old disk.new
         (λ image. ((p : ℕ) → image p ≡ bytes p) ⊎ ReadsAs journal image (replayed bytes)) }
     ensures gave_form { (bytes : ℕ → ℕ) → ReadsGave bytes (D.reads disk.old) (D.reads disk.new)
-        → OnOk result (InForm journal (count bytes) (number bytes)) }
+        → OnOk result (InForm journal (count bytes) (journal_number bytes)) }
     ensures gave_damaged { (bytes : ℕ → ℕ) → ReadsGave bytes (D.reads disk.old) (D.reads disk.new)
-        → result ≡ Err RecoverError.Damaged → InForm journal (count bytes) (number bytes) → ⊥ }
+        → result ≡ Err RecoverError.Damaged → InForm journal (count bytes) (journal_number bytes) → ⊥ }
 {
     let mut head = [0; PAGE];
     read_head(disk, &mut head)?;
@@ -234,10 +234,10 @@ pub fn recover<D: Disk>(disk: &mut D, layout: &Layout) -> Result<(), RecoverErro
     // `Damaged` is answered exactly for an open gate with an invalid head.
     ensures form { D.honest disk.old → OnOk result
         (D.current disk.old PAGE ≡ 165 → InForm (journal_pages layout.now) (count (D.current disk.old))
-        (number (D.current disk.old))) }
+        (journal_number (D.current disk.old))) }
     ensures damaged { D.honest disk.old → result ≡ Err RecoverError.Damaged
         → (D.current disk.old PAGE ≡ 165) × (InForm (journal_pages layout.now) (count (D.current disk.old))
-        (number (D.current disk.old)) → ⊥) }
+        (journal_number (D.current disk.old)) → ⊥) }
 
     // A crash during the recovery leaves an image of before, or one that reads the same.
     ensures lasts { D.honest disk.old → Lasts D.Disk disk.old disk.new
@@ -252,10 +252,10 @@ pub fn recover<D: Disk>(disk: &mut D, layout: &Layout) -> Result<(), RecoverErro
 
     // What holds of every disk, of the bytes that its reads gave.
     ensures gave_form { (bytes : ℕ → ℕ) → ReadsGave bytes (D.reads disk.old) (D.reads disk.new)
-        → OnOk result (bytes PAGE ≡ 165 → InForm (journal_pages layout.now) (count bytes) (number bytes)) }
+        → OnOk result (bytes PAGE ≡ 165 → InForm (journal_pages layout.now) (count bytes) (journal_number bytes)) }
     ensures gave_damaged { (bytes : ℕ → ℕ) → ReadsGave bytes (D.reads disk.old) (D.reads disk.new)
         → result ≡ Err RecoverError.Damaged
-        → (bytes PAGE ≡ 165) × (InForm (journal_pages layout.now) (count bytes) (number bytes) → ⊥) }
+        → (bytes PAGE ≡ 165) × (InForm (journal_pages layout.now) (count bytes) (journal_number bytes) → ⊥) }
 {
     settle(disk)?;
     if is_open(disk)? {

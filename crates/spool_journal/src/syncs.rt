@@ -3,7 +3,7 @@ ghost use Rattle.std.specs.Prelude.{◌≡◌, ◌≤◌, ◌↔◌, ℕ, IsErr,
 ghost use Rattle.spool_disk.specs.Disk.{Counts};
 ghost use Rattle.spool_disk.specs.Views.{Lasts};
 ghost use Rattle.spool_journal.specs.Image.{count, replayed};
-ghost use Rattle.spool_journal.specs.Phases.{ReadsAs, Placing, Upto, Placed};
+ghost use Rattle.spool_journal.specs.Phases.{ReadsAs, Placing, Upto, PagesPlaced};
 
 use spool_disk::{Disk, DiskFault};
 
@@ -16,7 +16,7 @@ pub(crate) fn sync_places<D: Disk>(disk: &mut D) -> Result<(), DiskFault>
     ensures reads { D.reads disk.new ≡ D.reads disk.old }
     ensures placed { D.honest disk.old → (j : ℕ) (opened : ℕ → ℕ) → Placing j opened (D.current disk.old)
         (D.unsynced disk.old) → Upto opened (D.current disk.old) (count opened)
-        → OnOk result (Placed j opened (D.current disk.new) (D.unsynced disk.new)) }
+        → OnOk result (PagesPlaced j opened (D.current disk.new) (D.unsynced disk.new)) }
     ensures lasts { D.honest disk.old → (j : ℕ) → j ≤ 385 → (opened : ℕ → ℕ)
         → Placing j opened (D.current disk.old) (D.unsynced disk.old) → Lasts D.Disk disk.old disk.new
         (λ image. ReadsAs j image (replayed opened)) }

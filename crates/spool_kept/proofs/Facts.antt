@@ -6,13 +6,13 @@ use ghost.Sets.{retract_set}
 use Rattle.enc_model.specs.declared.Encoding.{Encoding}
 use Rattle.enc_model.specs.declared.Mode.{Mode}
 use Rattle.enc_model.specs.declared.Mode.TheVariants.{Html, Fatal}
-use Rattle.enc_stream.specs.Standing.{Standing}
+use Rattle.enc_stream.specs.TranscoderState.{TranscoderState}
 use Rattle.enc_stream.specs.StateBytes.{encoding_number, mode_number}
 use Rattle.spool_drafts.specs.declared.draft.SpoolDraft.{SpoolDraft}
-use Rattle.spool_drafts.specs.Progress.{GoesOn}
+use Rattle.spool_drafts.specs.Progress.{IsStateOf}
 use Rattle.spool_kept.specs.Drafting.{DraftsFit}
 use Rattle.spool_catalog.specs.Holding.{Holding}
-use Rattle.spool_catalog.proofs.Told.{back, encoding_at}
+use Rattle.spool_catalog.proofs.Recorded.{back, encoding_at}
 
 encodings_set : IsSet Encoding
 encodings_set = retract_set encoding_number encoding_at back ℕ_set
@@ -28,7 +28,7 @@ mode_back Fatal = refl
 modes_set : IsSet Mode
 modes_set = retract_set mode_number mode_at mode_back ℕ_set
 
-goes_on_prop : (state : List ℕ) (transcoder : Option Standing) → IsProp (GoesOn state transcoder)
+goes_on_prop : (state : List ℕ) (transcoder : Option TranscoderState) → IsProp (IsStateOf state transcoder)
 goes_on_prop state (Some t) = hlevel (encodings_set, modes_set)
 goes_on_prop state None = hlevel
 

@@ -33,5 +33,5 @@ pub record HasUpload (v : View) (x : IndexSet) (n : ℕ) (u : Upload) : Type 0 w
   pub used : SlotRecord
   pub there : slot_at v (slot_of n v.slots) ≡ Some used
   pub number : used.number ≡ n
-  pub tells : IsRecordOf x used (v.texts (slot_of n v.slots)) u
+  pub represents : IsRecordOf x used (v.texts (slot_of n v.slots)) u
   pub blocks : OwnsOneEach v.rows (slot_of n v.slots) (blocks_of (length (text_of x u)))

@@ -2,10 +2,10 @@
 use Rattle.std.specs.Prelude.{◌≡◌, ◌⊎◌, ◌≤◌, ◌<◌, ◌+◌, ◌^◌, ℕ, true, false, List, Option, None, Some, Result, Ok, Err}
 use Rattle.std.specs.Prelude.{[], get_or}
 use Rattle.std.specs.Prelude.{Bool}
-use Rattle.spool_disk.specs.Disk.{IsImage, Keeps}
+use Rattle.spool_disk.specs.Disk.{IsImage, Preserves}
 use Rattle.spool_disk.specs.Views.{Lasts}
 use Rattle.spool_disk.specs.declared.disk.Disk.{Ghosts}
-use Rattle.spool_drafts.specs.Drafts.{IsAfter, came_of, declare_of, number_of, offset_of}
+use Rattle.spool_drafts.specs.Drafts.{IsAfter, appended_count, declare_of, upload_number_of, offset_of}
 use Rattle.spool_drafts.specs.declared.draft.SpoolDraft.{SpoolDraft}
 use Rattle.spool_pages.specs.View.{SlotRecord}
 use Rattle.upload_rules.specs.Calls.{length_refusal, text_stays, upload_refusal}
@@ -24,13 +24,13 @@ use Rattle.spool_kept.specs.declared.committing.Found.{Found}
 pub record HasSameCount (slots : List (Option SlotRecord)) (o : SpoolDraft) (slot : ℕ) : Type 0 where
   pub used : SlotRecord
   pub there : get_or slots slot None ≡ Some used
-  pub number : used.number ≡ number_of o
+  pub number : used.number ≡ upload_number_of o
   pub count : used.accepted ≡ offset_of o
 
 -- a slot is in use by the draft's upload, and none has that count
 pub record HasOtherCount (slots : List (Option SlotRecord)) (o : SpoolDraft) : Type 0 where
   pub slot : ℕ
-  pub used : IsUsedBy slots slot (number_of o)
+  pub used : IsUsedBy slots slot (upload_number_of o)
   pub none : (s : ℕ) → HasSameCount slots o s → ⊥
 
 -- the draft is after the text of the slot's upload
@@ -41,27 +41,27 @@ IsAfterSlot slots slot o = (r : SlotRecord) → get_or slots slot None ≡ Some 
 pub record HasOtherLength (slots : List (Option SlotRecord)) (o : SpoolDraft) (e : UploadRefusal) : Type 0 where
   pub slot : ℕ
   pub same : HasSameCount slots o slot
-  pub refused : length_refusal same.used.declared (declare_of o) (offset_of o + came_of o) ≡ Some e
+  pub refused : length_refusal same.used.declared (declare_of o) (offset_of o + appended_count o) ≡ Some e
 
 -- The draft's upload is in the slot, with that count, and goes with the draft's length and bytes. The text stays where
 -- no bytes came and no length says now that the accepted ones are all.
 pub record IsFound (slots : List (Option SlotRecord)) (o : SpoolDraft) (found : Found) : Type 0 where
   pub same : HasSameCount slots o found.slot
   pub state : IsState same.used.state
-  pub allowed : length_refusal same.used.declared (declare_of o) (offset_of o + came_of o) ≡ None
+  pub allowed : length_refusal same.used.declared (declare_of o) (offset_of o + appended_count o) ≡ None
   pub declares : found.declares ≡ is_new same.used.declared (declare_of o)
   pub declared : found.declared ≡ known_or same.used.declared (declare_of o)
-  pub within : offset_of o + came_of o ≤ longest found.declared
+  pub within : offset_of o + appended_count o ≤ longest found.declared
   pub fits : longest found.declared < 2 ^ 64
   pub stays : found.stays ≡ true
-      → (came_of o ≡ 0) × (found.declares ≡ true → is_length found.declared (offset_of o) ≡ false)
+      → (appended_count o ≡ 0) × (found.declares ≡ true → is_length found.declared (offset_of o) ≡ false)
   pub goes : found.stays ≡ false
-      → (0 < came_of o) ⊎ ((found.declares ≡ true) × (is_length found.declared (offset_of o) ≡ true))
+      → (0 < appended_count o) ⊎ ((found.declares ≡ true) × (is_length found.declared (offset_of o) ≡ true))
 
 -- the draft's upload, if the draft may be committed
 abbrev pub Finds : List (Option SlotRecord) → SpoolDraft → Result Found UploadRefusal → Type 0
 Finds slots o (Ok found) = IsFound slots o found
-Finds slots o (Err NoSuch) = (slot : ℕ) → IsUsedBy slots slot (number_of o) → ⊥
+Finds slots o (Err NoSuch) = (slot : ℕ) → IsUsedBy slots slot (upload_number_of o) → ⊥
 Finds slots o (Err Offset) = HasOtherCount slots o
 Finds slots o (Err LengthSet) = HasOtherLength slots o LengthSet
 Finds slots o (Err TooLong) = HasOtherLength slots o TooLong
@@ -82,7 +82,7 @@ with_length_at w n declared = record w { store = patched_store w.store n declare
 -- The draft of a number stands for a patch that goes with its upload, and changes the text.
 pub record IsCommit {D : Type 0} (sure : Bool) (disk : Ghosts D) (d : D) (h : Holding)
     (drafts : List (Option SpoolDraft)) (number : ℕ) (o : SpoolDraft) (w : World) (p : Patch) : Type 0 where
-  pub stands : StandsFor sure disk d h drafts w
+  pub represents : StandsFor sure disk d h drafts w
   pub fits : DraftsHold h.layout h.blocks drafts
   pub here : draft_at drafts number ≡ Some o
   pub patch : find number w.patches ≡ Some p
@@ -91,6 +91,6 @@ pub record IsCommit {D : Type 0} (sure : Bool) (disk : Ghosts D) (d : D) (h : Ho
   pub changes : text_stays w.store p ≡ false
 
 -- the disk is as a call that only reads leaves it
-pub record OnlyRead {D : Type 0} (disk : Ghosts D) (old new : D) : Type 0 where
-  pub keeps : Keeps (disk.current old) (disk.current new) (disk.unsynced old) (disk.unsynced new)
+pub record PreservesDisk {D : Type 0} (disk : Ghosts D) (old new : D) : Type 0 where
+  pub preserves : Preserves (disk.current old) (disk.current new) (disk.unsynced old) (disk.unsynced new)
   pub lasts : Lasts disk old new (IsImage (disk.current old) (disk.unsynced old))

@@ -9,7 +9,7 @@ use Rattle.spool_journal.specs.Image.{text_page}
 use Rattle.spool_texts.specs.Drafts.{IsReserved}
 use Rattle.spool_texts.specs.Written.{NoneOf}
 use Rattle.spool_room.specs.Holdings.{IsInSome}
-use Rattle.spool_drafts.specs.Drafts.{Holds, Carries, IsBegun, IsAfter, IsPlaced, list_of, number_of, offset_of}
+use Rattle.spool_drafts.specs.Drafts.{Holds, Carries, IsBegun, IsAfter, IsTailPlaced, list_of, upload_number_of, offset_of}
 use Rattle.spool_drafts.specs.Drafts.{tail_of}
 use Rattle.spool_drafts.specs.declared.draft.SpoolDraft.{SpoolDraft}
 use Rattle.upload_rules.specs.Apart.{IsApart}
@@ -38,15 +38,15 @@ lists_at drafts d = list_in (draft_at drafts d)
 -- each draft's blocks are reserved, and no other draft's; there are so many blocks
 pub record DraftsHold (n : ℕ) (h : Held) (drafts : List (Option SpoolDraft)) : Type 0 where
   pub reserved : (d : ℕ) → IsReserved h (lists_at drafts d)
-  pub placed : (d : ℕ) (o : SpoolDraft) → draft_at drafts d ≡ Some o → IsPlaced n o
+  pub placed : (d : ℕ) (o : SpoolDraft) → draft_at drafts d ≡ Some o → IsTailPlaced n o
   pub distinct : (d e : ℕ) → d ≢ e → NoneOf (lists_at drafts d) (lists_at drafts e)
 
 -- Where the draft's upload is in a slot, it has as many bytes as when the draft began, or more. With as many, and while
 -- it isn't complete, the draft is after its text.
 pub record IsOfUpload (slots : List (Option SlotRecord)) (o : SpoolDraft) : Type 0 where
-  pub grown : (s : ℕ) (r : SlotRecord) → get_or slots s None ≡ Some r → r.number ≡ number_of o
+  pub grown : (s : ℕ) (r : SlotRecord) → get_or slots s None ≡ Some r → r.number ≡ upload_number_of o
       → offset_of o ≤ r.accepted
-  pub after : (s : ℕ) (r : SlotRecord) → get_or slots s None ≡ Some r → r.number ≡ number_of o
+  pub after : (s : ℕ) (r : SlotRecord) → get_or slots s None ≡ Some r → r.number ≡ upload_number_of o
       → r.accepted ≡ offset_of o → is_length r.declared r.accepted ≡ false → IsAfter r.text_len r.state o
 
 -- it is so with each open draft
@@ -57,7 +57,7 @@ EachDraft P drafts = (d : ℕ) (o : SpoolDraft) → draft_at drafts d ≡ Some o
 -- not given again.
 pub record DraftsFit (h : Holding) (drafts : List (Option SpoolDraft)) : Type 0 where
   pub blocks : DraftsHold h.layout h.blocks drafts
-  pub below : EachDraft (λ o. number_of o < h.next) drafts
+  pub below : EachDraft (λ o. upload_number_of o < h.next) drafts
   pub uploads : EachDraft (IsOfUpload h.slots) drafts
 
 -- all that is kept is as it was but for what is reserved
@@ -76,7 +76,7 @@ IsStillOpen m p =
 
 -- The draft is the patch's, and its bytes are where the disk is sure to hold what was written. Once another draft made
 -- the upload longer or complete, only its need matters: it can't put anything after the upload's text.
-pub record DraftStands (sure : Type 0) (x : IndexSet) (current : ℕ → ℕ) (first : ℕ) (slots : List (Option SlotRecord))
+pub record DraftRepresents (sure : Type 0) (x : IndexSet) (current : ℕ → ℕ) (first : ℕ) (slots : List (Option SlotRecord))
     (rows : List Row) (m : Store) (p : Patch) (o : SpoolDraft) : Type 0 where
   pub holds : Holds x p o
   pub below : p.number < m.next
@@ -84,9 +84,9 @@ pub record DraftStands (sure : Type 0) (x : IndexSet) (current : ℕ → ℕ) (f
   pub tail : IsStillOpen m p → IsOwnedBy slots rows p.number (tail_of o)
 
 -- each patch has its draft, and the drafts reserve all blocks that are reserved
-pub record DraftsStand (sure : Type 0) (x : IndexSet) (current : ℕ → ℕ) (first : ℕ) (slots : List (Option SlotRecord))
+pub record DraftsRepresent (sure : Type 0) (x : IndexSet) (current : ℕ → ℕ) (first : ℕ) (slots : List (Option SlotRecord))
     (h : Held) (w : World) (drafts : List (Option SpoolDraft)) : Type 0 where
-  pub each : (d : ℕ) → DraftOf (DraftStands sure x current first slots h.rows w.store) (find d w.patches)
+  pub each : (d : ℕ) → DraftOf (DraftRepresents sure x current first slots h.rows w.store) (find d w.patches)
       (draft_at drafts d)
   pub apart : IsApart w.patches
   pub grown : IsGrown w
@@ -98,7 +98,7 @@ pub record DraftsStand (sure : Type 0) (x : IndexSet) (current : ℕ → ℕ) (f
 pub record StandsFor {D : Type 0} (sure : Bool) (disk : Ghosts D) (d : D) (h : Holding)
     (drafts : List (Option SpoolDraft)) (w : World) : Type 0 where
   pub stored : Stored sure disk d h w.store
-  pub stands : DraftsStand (sure ≡ true) w.store.indexes (disk.current d) (text_page h.layout) h.slots h.blocks w drafts
+  pub represents : DraftsRepresent (sure ≡ true) w.store.indexes (disk.current d) (text_page h.layout) h.slots h.blocks w drafts
 
 -- WHAT A DRAFT BEGINS AFTER
 
@@ -108,8 +108,8 @@ OpensFor m number offset count declare None (Ok o) = ⊥
 OpensFor m number offset count declare None (Err e) = e ≡ NoSuch
 OpensFor m number offset count declare (Some u) result = IsBegun m.indexes number offset count declare u result
 
-abbrev pub OpensAs : Store → ℕ → ℕ → ℕ → Option ℕ → Result SpoolDraft UploadRefusal → Type 0
-OpensAs m number offset count declare result = OpensFor m number offset count declare (upload_of m number) result
+abbrev pub OpensDraftAs : Store → ℕ → ℕ → ℕ → Option ℕ → Result SpoolDraft UploadRefusal → Type 0
+OpensDraftAs m number offset count declare result = OpensFor m number offset count declare (upload_of m number) result
 
 -- and it carries the upload's last bytes
 abbrev pub CarriesFor : Store → ℕ → ℕ → Option ℕ → (ℕ → ℕ) → ℕ → SpoolDraft → Type 0

@@ -3,7 +3,7 @@ use Rattle.std.specs.Prelude.{◌≡◌, ◌⊎◌, ℕ, ◌*◌, ◌+◌, ◌-�
 use Rattle.std.specs.Prelude.{true, false, Option, length, drop}
 use Rattle.spool_journal.specs.declared.TheConstants.{PAGE}
 use Rattle.enc_model.specs.Indexes.{IndexSet}
-use Rattle.enc_stream.specs.StateBytes.{IsValid}
+use Rattle.enc_stream.specs.StateBytes.{IsValidState}
 use Rattle.spool_disk.specs.declared.disk.Disk.{Ghosts}
 use Rattle.spool_drafts.specs.Effect.{OnlyWrites}
 use Rattle.spool_journal.specs.Image.{journal_pages, text_page}
@@ -44,7 +44,7 @@ pub record IsExtension (sure : Type 0) (x : IndexSet) (u : Upload) (declare : Op
   pub few : accepted_count u + length bytes ≤ longest (known_or u.declared declare)
   pub small : is_too_large declare ≡ false
   pub state : longer.state ≡ state_of x (patched u declare bytes)
-  pub valid : IsValid (transcoder_with x (patched u declare bytes) [] (is_complete (patched u declare bytes)))
+  pub valid : IsValidState (transcoder_with x (patched u declare bytes) [] (is_complete (patched u declare bytes)))
   pub encodable : (text_with x (patched u declare bytes) [] (is_complete (patched u declare bytes))).fault ≡ None
   pub text : text_of x (patched u declare bytes) ≡ text_of x u ++ added
   pub text_len : longer.text_len ≡ length (text_of x (patched u declare bytes))
@@ -76,7 +76,7 @@ pub record IsPending {D : Type 0} (sure : Bool) (disk : Ghosts D) (d : D) (h : H
       → IsAppend sure disk e h m n declare bytes longer more
 
 -- the text's last bytes were written to its blocks alone, and then no byte of a text block
-pub record IsWritten {D : Type 0} (sure : Bool) (disk : Ghosts D) (old new : D) (h : Holding) (m : Store) (n : ℕ)
+pub record IsLastWritten {D : Type 0} (sure : Bool) (disk : Ghosts D) (old new : D) (h : Holding) (m : Store) (n : ℕ)
     (declare : Option ℕ) (bytes : List ℕ) (longer : Longer) (more : List ℕ) : Type 0 where
   pub mid : D
   pub only : disk.honest old → OnlyWrites disk (journal_pages h.layout) more old mid

@@ -6,7 +6,7 @@ use Rattle.spool_pages.specs.Rests.{Rests}
 use Rattle.spool_pages.specs.View.{View}
 use Rattle.upload_rules.specs.Store.{Store}
 use Rattle.spool_catalog.specs.Holding.{Holding}
-use Rattle.spool_catalog.specs.Kept.{KeepsView}
+use Rattle.spool_catalog.specs.Catalog.{HasView}
 use Rattle.spool_catalog.specs.Shows.{Shows, ImageShows}
 
 -- This is kept of a view that shows the uploads. Where that is sure, the disk is honest, and at rest with the view;
@@ -16,7 +16,7 @@ pub record Stored {D : Type 0} (sure : Bool) (disk : Ghosts D) (d : D) (h : Hold
   pub honest : sure ≡ true → disk.honest d
   pub view : View
   pub rests : sure ≡ true → Rests view (disk.current d) (disk.unsynced d)
-  pub keeps : KeepsView h view
+  pub has_view : HasView h view
   pub shows : Shows view m
 
 -- the image shows one of the two, and so many blocks

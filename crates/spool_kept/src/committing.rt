@@ -4,10 +4,10 @@ ghost use Rattle.std.specs.Prelude.{get_or, slice_set, IsErrOf, IfOk, OnOk};
 ghost use Rattle.std.specs.Prelude.{Bool, true};
 ghost use Rattle.spool_disk.specs.Views.{Lasts};
 ghost use Rattle.spool_journal.specs.Image.{journal_pages, all_pages};
-ghost use Rattle.spool_drafts.specs.Drafts.{IsPlaced, list_of, number_of};
+ghost use Rattle.spool_drafts.specs.Drafts.{IsTailPlaced, list_of, upload_number_of};
 ghost use Rattle.spool_drafts.specs.Effect.{Effect};
 ghost use Rattle.spool_drafts.specs.declared.draft.SpoolDraft.{SpoolDraft as Draft};
-ghost use Rattle.spool_pages.specs.View.{SlotRecord as Said};
+ghost use Rattle.spool_pages.specs.View.{SlotRecord as SlotRecord};
 ghost use Rattle.spool_texts.specs.Drafts.{IsReserved};
 ghost use Rattle.upload_rules.specs.Answers.{Counts, Answers};
 ghost use Rattle.upload_rules.specs.Calls.{commit_outcome, commit_refusal, committed, dropped};
@@ -17,7 +17,7 @@ ghost use Rattle.upload_rules.specs.Store.{Store, find, patched_store};
 ghost use Rattle.upload_rules.specs.World.{Patch, World, reached};
 ghost use Rattle.upload_rules.specs.declared.errors.UploadRefusal.{UploadRefusal as Refusal};
 ghost use Rattle.spool_kept.specs.Committing.{Finds, HasOtherCount, IsAfterSlot, IsCommit, IsFound, MayDeclare};
-ghost use Rattle.spool_kept.specs.Committing.{OnlyRead, with_length_at};
+ghost use Rattle.spool_kept.specs.Committing.{PreservesDisk, with_length_at};
 ghost use Rattle.spool_kept.specs.Drafting.{DraftsFit, OnlyReserves, StandsFor};
 ghost use Rattle.spool_kept.specs.Extending.{Advances, IsPending};
 ghost use Rattle.spool_catalog.specs.Longer.{MayExtend};
@@ -27,7 +27,7 @@ ghost use Rattle.spool_kept.specs.Stored.{ShowsEither, Stored};
 
 use crate::extending::extend;
 use common::Stop;
-use spool_catalog::{Kept, Longer};
+use spool_catalog::{Catalog, Longer};
 use spool_disk::Disk;
 use spool_drafts::{DraftEnd, SpoolDraft};
 use spool_journal::PAGE;
@@ -57,13 +57,13 @@ fn stays(declares: bool, declared: Option<u64>, accepted: u64, came: u64) -> boo
 
 // What a commit finds of a draft's upload, which has as many bytes as when the draft began: refused with `NoSuch`,
 // `Offset`, `LengthSet`, `TooLong`.
-fn found_for(kept: &Kept, draft: &SpoolDraft) -> Result<Found, UploadRefusal>
-    ensures { Finds kept.now.slots draft.now result }
+fn found_for(catalog: &Catalog, draft: &SpoolDraft) -> Result<Found, UploadRefusal>
+    ensures { Finds catalog.now.slots draft.now result }
 {
-    let Some(slot) = kept.slot_of(draft.number()) else {
+    let Some(slot) = catalog.slot_of(draft.number()) else {
         return Err(UploadRefusal::NoSuch);
     };
-    let Some(used) = kept.in_slot(slot) else {
+    let Some(used) = catalog.in_slot(slot) else {
         return Err(UploadRefusal::NoSuch);
     };
     let Record {
@@ -92,47 +92,47 @@ fn found_for(kept: &Kept, draft: &SpoolDraft) -> Result<Found, UploadRefusal>
 fn ended<D: Disk>(
     alloc: Global,
     disk: &mut D,
-    kept: &mut Kept,
+    catalog: &mut Catalog,
     draft: &mut SpoolDraft,
     found: Found,
 ) -> Result<(Longer, Vec<u8>), UploadError>
-    requires room { PAGE * all_pages kept.old.layout ≤ D.size disk.old }
-    requires found { IsFound kept.old.slots draft.old found }
-    requires after { IsAfterSlot kept.old.slots found.slot draft.old }
+    requires room { PAGE * all_pages catalog.old.layout ≤ D.size disk.old }
+    requires found { IsFound catalog.old.slots draft.old found }
+    requires after { IsAfterSlot catalog.old.slots found.slot draft.old }
     requires goes { found.stays ≡ false }
-    requires reserved { IsReserved kept.old.blocks (list_of draft.old) }
-    requires placed { IsPlaced kept.old.layout draft.old }
+    requires reserved { IsReserved catalog.old.blocks (list_of draft.old) }
+    requires placed { IsTailPlaced catalog.old.layout draft.old }
     ensures size { D.size disk.new ≡ D.size disk.old }
     ensures honest { D.honest disk.old ↔ D.honest disk.new }
     ensures counts { Counts (IsErrOf result (UploadError.Stop Stop.DiskFault)) (D.failures disk.old)
         (D.failures disk.new) }
-    ensures same { OnlyReserves kept.old kept.new }
-    ensures reserved { IsReserved kept.new.blocks (list_of draft.new) }
-    ensures placed { IsPlaced kept.old.layout draft.new }
-    ensures effect { Effect D.Disk (journal_pages kept.old.layout) (list_of draft.old) (list_of draft.new) disk.old
-        disk.new kept.old.blocks kept.new.blocks }
-    ensures only { D.honest disk.old → OnlyRead D.Disk disk.old disk.new }
-    ensures may { IfOk result (λ e. MayExtend kept.new e.0 (list_of draft.new)) }
-    ensures more { IfOk result (λ e. (r : Said) → get_or kept.new.slots e.0.slot None ≡ Some r → Advances r e.0) }
+    ensures same { OnlyReserves catalog.old catalog.new }
+    ensures reserved { IsReserved catalog.new.blocks (list_of draft.new) }
+    ensures placed { IsTailPlaced catalog.old.layout draft.new }
+    ensures effect { Effect D.Disk (journal_pages catalog.old.layout) (list_of draft.old) (list_of draft.new) disk.old
+        disk.new catalog.old.blocks catalog.new.blocks }
+    ensures only { D.honest disk.old → PreservesDisk D.Disk disk.old disk.new }
+    ensures may { IfOk result (λ e. MayExtend catalog.new e.0 (list_of draft.new)) }
+    ensures more { IfOk result (λ e. (r : SlotRecord) → get_or catalog.new.slots e.0.slot None ≡ Some r → Advances r e.0) }
     ensures refusal { (e : Refusal) → IsErrOf result (UploadError.Refused e)
         → (e ≡ UploadRefusal.Unencodable) ⊎ (e ≡ UploadRefusal.Full) }
     ensures answer { (sure : Bool) (drafts : List (Option Draft)) (number : ℕ) (w : World) (p : Patch)
-        → IsCommit sure D.Disk disk.old kept.old drafts number draft.old w p
+        → IsCommit sure D.Disk disk.old catalog.old drafts number draft.old w p
         → Answers (commit_refusal w number p) result
         (λ e. (e.0.accepted ≡ reached p)
-        × IsPending sure D.Disk disk.new kept.new w.store p.number p.declare p.body e.0 (list_of draft.new) e.1.items)
+        × IsPending sure D.Disk disk.new catalog.new w.store p.number p.declare p.body e.0 (list_of draft.new) e.1.items)
         (Unit {0}) }
     ensures stored { (sure : Bool) (drafts : List (Option Draft)) (number : ℕ) (w : World) (p : Patch)
-        → IsCommit sure D.Disk disk.old kept.old drafts number draft.old w p
-        → Stored sure D.Disk disk.new kept.new w.store }
+        → IsCommit sure D.Disk disk.old catalog.old drafts number draft.old w p
+        → Stored sure D.Disk disk.new catalog.new w.store }
     ensures quiet { (drafts : List (Option Draft)) (number : ℕ) (w : World) (p : Patch)
-        → IsCommit true D.Disk disk.old kept.old drafts number draft.old w p
-        → Lasts D.Disk disk.old disk.new (λ image. ImageShows kept.old.layout image w.store) }
+        → IsCommit true D.Disk disk.old catalog.old drafts number draft.old w p
+        → Lasts D.Disk disk.old disk.new (λ image. ImageShows catalog.old.layout image w.store) }
 {
     let Found { slot, declared, .. } = found;
     let accepted = draft.offset().saturating_add(draft.came());
     let completes = is_length(declared, accepted);
-    let _rows = kept.blocks.rows();
+    let _rows = catalog.blocks.rows();
     let DraftEnd {
         state,
         text_len,
@@ -140,9 +140,9 @@ fn ended<D: Disk>(
     } = draft.end(
         alloc,
         disk,
-        &kept.layout,
-        &mut kept.blocks,
-        &kept.indexes,
+        &catalog.layout,
+        &mut catalog.blocks,
+        &catalog.indexes,
         completes,
     )?;
     let longer = Longer {
@@ -160,56 +160,56 @@ fn ended<D: Disk>(
 fn append_to<D: Disk>(
     alloc: Global,
     disk: &mut D,
-    kept: &mut Kept,
+    catalog: &mut Catalog,
     draft: SpoolDraft,
     found: Found,
 ) -> Result<u64, UploadError>
-    requires room { PAGE * all_pages kept.old.layout ≤ D.size disk.old }
-    requires found { IsFound kept.old.slots draft found }
-    requires after { IsAfterSlot kept.old.slots found.slot draft }
+    requires room { PAGE * all_pages catalog.old.layout ≤ D.size disk.old }
+    requires found { IsFound catalog.old.slots draft found }
+    requires after { IsAfterSlot catalog.old.slots found.slot draft }
     requires goes { found.stays ≡ false }
-    requires reserved { IsReserved kept.old.blocks (list_of draft) }
-    requires placed { IsPlaced kept.old.layout draft }
+    requires reserved { IsReserved catalog.old.blocks (list_of draft) }
+    requires placed { IsTailPlaced catalog.old.layout draft }
     ensures size { D.size disk.new ≡ D.size disk.old }
     ensures honest { D.honest disk.old ↔ D.honest disk.new }
     ensures counts { Counts (IsErrOf result (UploadError.Stop Stop.DiskFault)) (D.failures disk.old)
         (D.failures disk.new) }
-    ensures layout { kept.new.layout ≡ kept.old.layout }
-    ensures version { kept.new.version ≡ kept.old.version }
-    ensures fits { (drafts : List (Option Draft)) (number : ℕ) → DraftsFit kept.old drafts
-        → draft_at drafts number ≡ Some draft → DraftsFit kept.new (slice_set drafts number None) }
+    ensures layout { catalog.new.layout ≡ catalog.old.layout }
+    ensures version { catalog.new.version ≡ catalog.old.version }
+    ensures fits { (drafts : List (Option Draft)) (number : ℕ) → DraftsFit catalog.old drafts
+        → draft_at drafts number ≡ Some draft → DraftsFit catalog.new (slice_set drafts number None) }
     ensures refusal { (e : Refusal) → IsErrOf result (UploadError.Refused e)
         → (e ≡ UploadRefusal.Unencodable) ⊎ (e ≡ UploadRefusal.Full) }
     ensures answer { (sure : Bool) (drafts : List (Option Draft)) (number : ℕ) (w : World) (p : Patch)
-        → IsCommit sure D.Disk disk.old kept.old drafts number draft w p
+        → IsCommit sure D.Disk disk.old catalog.old drafts number draft w p
         → Answers (commit_refusal w number p) result
         (λ n. (n ≡ reached p)
-        × StandsFor sure D.Disk disk.new kept.new (slice_set drafts number None) (committed w number p))
-        (StandsFor sure D.Disk disk.new kept.new (slice_set drafts number None) (dropped w number)) }
+        × StandsFor sure D.Disk disk.new catalog.new (slice_set drafts number None) (committed w number p))
+        (StandsFor sure D.Disk disk.new catalog.new (slice_set drafts number None) (dropped w number)) }
     ensures crash { (drafts : List (Option Draft)) (number : ℕ) (w : World) (p : Patch)
-        → IsCommit true D.Disk disk.old kept.old drafts number draft w p
-        → Lasts D.Disk disk.old disk.new (ShowsEither kept.old.layout w.store (commit_outcome w number p)) }
+        → IsCommit true D.Disk disk.old catalog.old drafts number draft w p
+        → Lasts D.Disk disk.old disk.new (ShowsEither catalog.old.layout w.store (commit_outcome w number p)) }
     ensures unmade { (drafts : List (Option Draft)) (number : ℕ) (w : World) (p : Patch)
-        → IsCommit true D.Disk disk.old kept.old drafts number draft w p
+        → IsCommit true D.Disk disk.old catalog.old drafts number draft w p
         → IsErrOf result (UploadError.Stop Stop.NoMemory)
-        → Lasts D.Disk disk.old disk.new (λ image. ImageShows kept.old.layout image w.store) }
+        → Lasts D.Disk disk.old disk.new (λ image. ImageShows catalog.old.layout image w.store) }
 
     // Every growth comes before the first write.
     ensures unwritten { D.honest disk.old → IsErrOf result (UploadError.Stop Stop.NoMemory)
-        → OnlyRead D.Disk disk.old disk.new }
+        → PreservesDisk D.Disk disk.old disk.new }
 {
     let mut draft = draft;
-    let (longer, last) = match ended(alloc, disk, kept, &mut draft, found) {
+    let (longer, last) = match ended(alloc, disk, catalog, &mut draft, found) {
         Ok(end) => end,
         Err(error) => {
-            draft.give_back(&mut kept.blocks);
+            draft.give_back(&mut catalog.blocks);
             return Err(error);
         }
     };
-    match extend(alloc, disk, kept, &longer, draft.list(), &last) {
+    match extend(alloc, disk, catalog, &longer, draft.list(), &last) {
         Ok(()) => Ok(longer.accepted),
         Err(Stop::NoMemory) => {
-            draft.give_back(&mut kept.blocks);
+            draft.give_back(&mut catalog.blocks);
             Err(UploadError::Stop(Stop::NoMemory))
         }
         Err(Stop::DiskFault) => Err(UploadError::Stop(Stop::DiskFault)),
@@ -221,29 +221,29 @@ fn append_to<D: Disk>(
 fn set_length<D: Disk>(
     alloc: Global,
     disk: &mut D,
-    kept: &mut Kept,
+    catalog: &mut Catalog,
     slot: u32,
     declared: Option<u64>,
 ) -> Result<u64, Stop>
-    requires room { PAGE * all_pages kept.old.layout ≤ D.size disk.old }
-    requires may { MayDeclare kept.old.slots slot declared }
+    requires room { PAGE * all_pages catalog.old.layout ≤ D.size disk.old }
+    requires may { MayDeclare catalog.old.slots slot declared }
     ensures size { D.size disk.new ≡ D.size disk.old }
     ensures honest { D.honest disk.old ↔ D.honest disk.new }
     ensures counts { Counts (IsErrOf result Stop.DiskFault) (D.failures disk.old) (D.failures disk.new) }
-    ensures layout { kept.new.layout ≡ kept.old.layout }
-    ensures version { kept.new.version ≡ kept.old.version }
-    ensures count { (r : Said) → get_or kept.old.slots slot None ≡ Some r → IfOk result (λ n. n ≡ r.accepted) }
-    ensures fits { (drafts : List (Option Draft)) → DraftsFit kept.old drafts → DraftsFit kept.new drafts }
+    ensures layout { catalog.new.layout ≡ catalog.old.layout }
+    ensures version { catalog.new.version ≡ catalog.old.version }
+    ensures count { (r : SlotRecord) → get_or catalog.old.slots slot None ≡ Some r → IfOk result (λ n. n ≡ r.accepted) }
+    ensures fits { (drafts : List (Option Draft)) → DraftsFit catalog.old drafts → DraftsFit catalog.new drafts }
     ensures answer { (sure : Bool) (drafts : List (Option Draft)) (w : World) (n : ℕ)
-        → StandsFor sure D.Disk disk.old kept.old drafts w → IsUsedBy kept.old.slots slot n
+        → StandsFor sure D.Disk disk.old catalog.old drafts w → IsUsedBy catalog.old.slots slot n
         → is_too_large declared ≡ false
-        → OnOk result (StandsFor sure D.Disk disk.new kept.new drafts (with_length_at w n declared)) }
+        → OnOk result (StandsFor sure D.Disk disk.new catalog.new drafts (with_length_at w n declared)) }
     ensures crash { (m : Store) (n : ℕ)
-        → Stored true D.Disk disk.old kept.old m → IsUsedBy kept.old.slots slot n → is_too_large declared ≡ false
-        → Lasts D.Disk disk.old disk.new (ShowsEither kept.old.layout m (patched_store m n declared [])) }
-    ensures unmade { IsErrOf result Stop.NoMemory → (disk.new ≡ disk.old) × (kept.new ≡ kept.old) }
+        → Stored true D.Disk disk.old catalog.old m → IsUsedBy catalog.old.slots slot n → is_too_large declared ≡ false
+        → Lasts D.Disk disk.old disk.new (ShowsEither catalog.old.layout m (patched_store m n declared [])) }
+    ensures unmade { IsErrOf result Stop.NoMemory → (disk.new ≡ disk.old) × (catalog.new ≡ catalog.old) }
 {
-    let used = kept.in_slot(slot).unwrap().record();
+    let used = catalog.in_slot(slot).unwrap().record();
     let longer = Longer {
         slot,
         declared,
@@ -251,7 +251,7 @@ fn set_length<D: Disk>(
         text_len: used.text_len,
         state: used.state,
     };
-    extend(alloc, disk, kept, &longer, &[], &[])?;
+    extend(alloc, disk, catalog, &longer, &[], &[])?;
     Ok(longer.accepted)
 }
 
@@ -262,15 +262,15 @@ fn set_length<D: Disk>(
 pub fn commit<D: Disk>(
     alloc: Global,
     disk: &mut D,
-    kept: &mut Kept,
+    catalog: &mut Catalog,
     drafts: &mut Vec<Option<SpoolDraft>>,
     number: usize,
 ) -> Result<u64, UploadError>
-    requires room { PAGE * all_pages kept.old.layout ≤ D.size disk.old }
-    requires fits { DraftsFit kept.old drafts.old.items }
-    ensures fits { DraftsFit kept.new drafts.new.items }
-    ensures layout { kept.new.layout ≡ kept.old.layout }
-    ensures version { kept.new.version ≡ kept.old.version }
+    requires room { PAGE * all_pages catalog.old.layout ≤ D.size disk.old }
+    requires fits { DraftsFit catalog.old drafts.old.items }
+    ensures fits { DraftsFit catalog.new drafts.new.items }
+    ensures layout { catalog.new.layout ≡ catalog.old.layout }
+    ensures version { catalog.new.version ≡ catalog.old.version }
     ensures size { D.size disk.new ≡ D.size disk.old }
     ensures honest { D.honest disk.old ↔ D.honest disk.new }
     ensures counts { Counts (IsErrOf result (UploadError.Stop Stop.DiskFault)) (D.failures disk.old)
@@ -280,44 +280,44 @@ pub fn commit<D: Disk>(
     // without as many bytes as when the draft began.
     ensures no_such { (o : Draft) → draft_at drafts.old.items number ≡ Some o
         → (IsErrOf result (UploadError.Refused UploadRefusal.NoSuch)
-        ↔ ((s : ℕ) → IsUsedBy kept.old.slots s (number_of o) → ⊥)) }
+        ↔ ((s : ℕ) → IsUsedBy catalog.old.slots s (upload_number_of o) → ⊥)) }
     ensures offset { (o : Draft) → draft_at drafts.old.items number ≡ Some o
-        → (IsErrOf result (UploadError.Refused UploadRefusal.Offset) ↔ HasOtherCount kept.old.slots o) }
+        → (IsErrOf result (UploadError.Refused UploadRefusal.Offset) ↔ HasOtherCount catalog.old.slots o) }
     ensures answer { (sure : Bool) (w : World) (p : Patch)
-        → StandsFor sure D.Disk disk.old kept.old drafts.old.items w
+        → StandsFor sure D.Disk disk.old catalog.old drafts.old.items w
         → find number w.patches ≡ Some p
         → Answers (commit_refusal w number p) result
-        (λ n. (n ≡ reached p) × StandsFor sure D.Disk disk.new kept.new drafts.new.items (committed w number p))
-        (StandsFor sure D.Disk disk.new kept.new drafts.new.items (dropped w number)) }
-    ensures crash { (w : World) (p : Patch) → StandsFor true D.Disk disk.old kept.old drafts.old.items w
+        (λ n. (n ≡ reached p) × StandsFor sure D.Disk disk.new catalog.new drafts.new.items (committed w number p))
+        (StandsFor sure D.Disk disk.new catalog.new drafts.new.items (dropped w number)) }
+    ensures crash { (w : World) (p : Patch) → StandsFor true D.Disk disk.old catalog.old drafts.old.items w
         → find number w.patches ≡ Some p
-        → Lasts D.Disk disk.old disk.new (ShowsEither kept.old.layout w.store (commit_outcome w number p)) }
-    ensures unmade { (w : World) (p : Patch) → StandsFor true D.Disk disk.old kept.old drafts.old.items w
+        → Lasts D.Disk disk.old disk.new (ShowsEither catalog.old.layout w.store (commit_outcome w number p)) }
+    ensures unmade { (w : World) (p : Patch) → StandsFor true D.Disk disk.old catalog.old drafts.old.items w
         → find number w.patches ≡ Some p
         → IsErrOf result (UploadError.Stop Stop.NoMemory)
-        → Lasts D.Disk disk.old disk.new (λ image. ImageShows kept.old.layout image w.store) }
+        → Lasts D.Disk disk.old disk.new (λ image. ImageShows catalog.old.layout image w.store) }
 
     // Every growth comes before the first write.
     ensures unwritten { D.honest disk.old → IsErrOf result (UploadError.Stop Stop.NoMemory)
-        → OnlyRead D.Disk disk.old disk.new }
+        → PreservesDisk D.Disk disk.old disk.new }
 {
     let Some(draft) = taken(drafts, number) else {
         return Err(UploadError::Refused(UploadRefusal::NoSuch));
     };
-    let found = match found_for(kept, &draft) {
+    let found = match found_for(catalog, &draft) {
         Ok(found) => found,
         Err(refusal) => {
-            draft.give_back(&mut kept.blocks);
+            draft.give_back(&mut catalog.blocks);
             return Err(UploadError::Refused(refusal));
         }
     };
     if !found.stays {
-        return append_to(alloc, disk, kept, draft, found);
+        return append_to(alloc, disk, catalog, draft, found);
     }
     let offset = draft.offset();
-    draft.give_back(&mut kept.blocks);
+    draft.give_back(&mut catalog.blocks);
     if found.declares {
-        return Ok(set_length(alloc, disk, kept, found.slot, found.declared)?);
+        return Ok(set_length(alloc, disk, catalog, found.slot, found.declared)?);
     }
     Ok(offset)
 }

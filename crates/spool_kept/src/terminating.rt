@@ -16,7 +16,7 @@ ghost use Rattle.spool_kept.specs.Terminating.{EachForgets, ForgetsOf};
 ghost use Rattle.spool_catalog.specs.TakenOut.{IsTakenOut};
 
 use common::Stop;
-use spool_catalog::Kept;
+use spool_catalog::Catalog;
 use spool_disk::Disk;
 use spool_drafts::SpoolDraft;
 use spool_journal::PAGE;
@@ -50,54 +50,54 @@ fn forget_tails(drafts: &mut Vec<Option<SpoolDraft>>, number: u64)
 pub fn terminate<D: Disk>(
     alloc: Global,
     disk: &mut D,
-    kept: &mut Kept,
+    catalog: &mut Catalog,
     drafts: &mut Vec<Option<SpoolDraft>>,
     number: u64,
 ) -> Result<(), UploadError>
-    requires room { PAGE * all_pages kept.old.layout ≤ D.size disk.old }
-    requires fits { DraftsFit kept.old drafts.old.items }
-    ensures fits { DraftsFit kept.new drafts.new.items }
+    requires room { PAGE * all_pages catalog.old.layout ≤ D.size disk.old }
+    requires fits { DraftsFit catalog.old drafts.old.items }
+    ensures fits { DraftsFit catalog.new drafts.new.items }
     ensures size { D.size disk.new ≡ D.size disk.old }
     ensures honest { D.honest disk.old ↔ D.honest disk.new }
     ensures counts { Counts (IsErrOf result (UploadError.Stop Stop.DiskFault)) (D.failures disk.old)
         (D.failures disk.new) }
-    ensures layout { kept.new.layout ≡ kept.old.layout }
-    ensures version { kept.new.version ≡ kept.old.version }
+    ensures layout { catalog.new.layout ≡ catalog.old.layout }
+    ensures version { catalog.new.version ≡ catalog.old.version }
 
     // Whatever the disk said, it is refused so exactly where no slot has the number.
     ensures no_such { IsErrOf result (UploadError.Refused UploadRefusal.NoSuch)
-        ↔ ((slot : ℕ) → IsUsedBy kept.old.slots slot number → ⊥) }
+        ↔ ((slot : ℕ) → IsUsedBy catalog.old.slots slot number → ⊥) }
     ensures taken_out { (IsErrOf result (UploadError.Stop Stop.NoMemory) → ⊥) → (slot : ℕ)
-        → IsUsedBy kept.old.slots slot number → IsTakenOut kept.old slot kept.new }
+        → IsUsedBy catalog.old.slots slot number → IsTakenOut catalog.old slot catalog.new }
     ensures forgets { (IsErrOf result (UploadError.Stop Stop.NoMemory) → ⊥) → (slot : ℕ)
-        → IsUsedBy kept.old.slots slot number → EachForgets number drafts.old.items drafts.new.items }
+        → IsUsedBy catalog.old.slots slot number → EachForgets number drafts.old.items drafts.new.items }
     ensures unmade { IsErrOf result (UploadError.Stop Stop.NoMemory)
-        → (disk.new ≡ disk.old) × (kept.new ≡ kept.old) × (drafts.new.items ≡ drafts.old.items) }
+        → (disk.new ≡ disk.old) × (catalog.new ≡ catalog.old) × (drafts.new.items ≡ drafts.old.items) }
     ensures refused { (e : Refusal) → IsErrOf result (UploadError.Refused e)
-        → (disk.new ≡ disk.old) × (kept.new ≡ kept.old) × (drafts.new.items ≡ drafts.old.items) }
-    ensures answer { (sure : Bool) (w : World) → StandsFor sure D.Disk disk.old kept.old drafts.old.items w
+        → (disk.new ≡ disk.old) × (catalog.new ≡ catalog.old) × (drafts.new.items ≡ drafts.old.items) }
+    ensures answer { (sure : Bool) (w : World) → StandsFor sure D.Disk disk.old catalog.old drafts.old.items w
         → Answers (terminate_refusal w number) result
-        (λ done. StandsFor sure D.Disk disk.new kept.new drafts.new.items (terminated w number))
-        (StandsFor sure D.Disk disk.new kept.new drafts.new.items w) }
+        (λ done. StandsFor sure D.Disk disk.new catalog.new drafts.new.items (terminated w number))
+        (StandsFor sure D.Disk disk.new catalog.new drafts.new.items w) }
 
     // A crash during it leaves the upload or its deletion.
-    ensures crash { (w : World) → StandsFor true D.Disk disk.old kept.old drafts.old.items w
-        → Lasts D.Disk disk.old disk.new (ShowsEither kept.old.layout w.store (terminate_outcome w number)) }
+    ensures crash { (w : World) → StandsFor true D.Disk disk.old catalog.old drafts.old.items w
+        → Lasts D.Disk disk.old disk.new (ShowsEither catalog.old.layout w.store (terminate_outcome w number)) }
 
     // No block is written by it.
-    ensures texts { (w : World) → StandsFor true D.Disk disk.old kept.old drafts.old.items w
-        → OnOk result ((p : ℕ) → PAGE * text_page kept.old.layout ≤ p → D.current disk.new p ≡ D.current disk.old p) }
+    ensures texts { (w : World) → StandsFor true D.Disk disk.old catalog.old drafts.old.items w
+        → OnOk result ((p : ℕ) → PAGE * text_page catalog.old.layout ≤ p → D.current disk.new p ≡ D.current disk.old p) }
 {
-    let Some(slot) = kept.slot_of(number) else {
+    let Some(slot) = catalog.slot_of(number) else {
         return Err(UploadError::Refused(UploadRefusal::NoSuch));
     };
-    let Ok(mut pages) = kept.pages_without(alloc, slot) else {
+    let Ok(mut pages) = catalog.pages_without(alloc, slot) else {
         return Err(UploadError::Stop(Stop::NoMemory));
     };
-    kept.take_out(number, slot);
+    catalog.take_out(number, slot);
     forget_tails(drafts, number);
-    fill_rows(&mut pages, &kept.layout, kept.blocks.rows());
-    match change(disk, &kept.layout, &pages) {
+    fill_rows(&mut pages, &catalog.layout, catalog.blocks.rows());
+    match change(disk, &catalog.layout, &pages) {
         Ok(()) => Ok(()),
         Err(_) => Err(UploadError::Stop(Stop::DiskFault)),
     }

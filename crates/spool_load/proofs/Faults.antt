@@ -8,7 +8,7 @@ use Rattle.spool_disk.specs.Disk.{Counts}
 use Rattle.spool_catalog.specs.Loads.{LoadsAs}
 use Rattle.spool_catalog.specs.declared.error.OpenFault.{OpenFault}
 use Rattle.spool_catalog.specs.declared.error.OpenFault.TheVariants as opens
-use Rattle.spool_load.specs.Faults.{TellsNothing, check_fault, load_fault}
+use Rattle.spool_load.specs.Faults.{IsStopError, check_fault, load_fault}
 use Rattle.spool_load.specs.declared.error.LoadError.{LoadError}
 use Rattle.spool_load.specs.declared.error.LoadError.TheVariants.{Stop, Damaged}
 
@@ -17,20 +17,20 @@ pub check_sound : (e : CheckError) → check_fault e ≡ Stop DiskFault → ⊥
 check_sound checks.Damaged is = cc
 check_sound checks.NoMemory is = cc
 
-pub check_told : (e : CheckError) → e ≡ checks.NoMemory → TellsNothing (check_fault e)
-check_told checks.Damaged is = absurd (cc)
-check_told checks.NoMemory is = tt
+pub check_reported : (e : CheckError) → e ≡ checks.NoMemory → IsStopError (check_fault e)
+check_reported checks.Damaged is = absurd (cc)
+check_reported checks.NoMemory is = tt
 
 -- the disk failed in both
-disk_fault_told : (e : LoadError) → load_fault e ≡ opens.Stop DiskFault → e ≡ Stop DiskFault
-disk_fault_told (Stop stop) is = cc
-disk_fault_told Damaged is = absurd (cc)
+disk_fault_reported : (e : LoadError) → load_fault e ≡ opens.Stop DiskFault → e ≡ Stop DiskFault
+disk_fault_reported (Stop stop) is = cc
+disk_fault_reported Damaged is = absurd (cc)
 
-pub counts_told : {T F : Type 0} (e : LoadError) {a b : ℕ} → (F → load_fault e ≡ opens.Stop DiskFault)
+pub counts_reported : {T F : Type 0} (e : LoadError) {a b : ℕ} → (F → load_fault e ≡ opens.Stop DiskFault)
     → (load_fault e ≡ opens.Stop DiskFault → F) → Counts (IsErrOf {T = T} (Err e) (Stop DiskFault)) a b → Counts F a b
-counts_told e there back counts = record {
+counts_reported e there back counts = record {
   later = counts.later;
-  counted = λ failed. counts.counted (ap Err (disk_fault_told e (there failed)));
+  counted = λ failed. counts.counted (ap Err (disk_fault_reported e (there failed)));
   nothing_else = λ lt.
       let failed = counts.nothing_else lt in
       let device : e ≡ Stop DiskFault = cc in
@@ -38,10 +38,10 @@ counts_told e there back counts = record {
 }
 
 -- it tells nothing of the disk in both
-pub tells_nothing : {T : Type 0} (e : LoadError) (P : T → Type 0) → TellsNothing e
+pub is_stop_error : {T : Type 0} (e : LoadError) (P : T → Type 0) → IsStopError e
     → LoadsAs {T = T} (Err (load_fault e)) P
-tells_nothing (Stop stop) P nothing = tt
-tells_nothing Damaged P nothing = absurd nothing
+is_stop_error (Stop stop) P nothing = tt
+is_stop_error Damaged P nothing = absurd nothing
 
 -- a refusal to open that tells nothing of it, handed on
 pub loads_err : {T U : Type 0} (P : T → Type 0) (Q : U → Type 0) (e : OpenFault) → LoadsAs {T = T} (Err e) P

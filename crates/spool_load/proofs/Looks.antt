@@ -16,12 +16,12 @@ use Rattle.spool_journal.specs.Image.{all_pages, byte_of, journal_pages, text_pa
 use Rattle.spool_journal.specs.Phases.{Still}
 use Rattle.spool_journal.proofs.Recovers.{get_span}
 use Rattle.spool_pages.specs.Bytes.{IsPadded}
-use Rattle.spool_pages.specs.View.{SlotRecord, Stands, first_page, state_page, slot_bytes, slot_place, row_bytes}
+use Rattle.spool_pages.specs.View.{SlotRecord, AreAt, first_page, state_page, slot_bytes, slot_place, row_bytes}
 use Rattle.spool_pages.specs.View.{row_place}
 use Rattle.spool_pages.specs.Fits.{FitsSlotOf}
 use Rattle.spool_pages.specs.declared.version.Version.{Version as Known}
-use Rattle.spool_pages.proofs.Says.{all_is}
-use Rattle.spool_load.specs.Reads.{OnlyReads, IsReadAt, IsPrefixOf, IsSameTo, StandSlots, StandRows}
+use Rattle.spool_pages.proofs.Encodes.{all_is}
+use Rattle.spool_load.specs.Reads.{OnlyReads, IsReadAt, IsPrefixOf, IsSameTo, SlotsAreAt, RowsAreAt}
 use Rattle.std.proofs.lemmas.List.{ext_get_or, get_or-append-add}
 use Rattle.common.specs.declared.limits.TheConstants.{ROWS}
 use Rattle.spool_journal.specs.declared.TheConstants.{PAGE}
@@ -124,10 +124,10 @@ still_span current bytes place n still = ap (λ (f : ℕ → ℕ). span f place 
 
 -- what stands on the disk stands in the buffer
 pub read_padded : (bytes : ℕ → ℕ) (place at : ℕ) (buf xs : List ℕ) (size : ℕ) → IsReadAt bytes place buf
-    → length buf ≡ size → place ≡ at → length xs ≤ size → Stands bytes at size xs → IsPadded buf xs
-read_padded bytes place at buf xs size read long same few stands = record {
+    → length buf ≡ size → place ≡ at → length xs ≤ size → AreAt bytes at size xs → IsPadded buf xs
+read_padded bytes place at buf xs size read long same few are_at = record {
   each = λ i. elim (cases_lt i size) [
-    | inl below ↦ read.each i (omega (arith, below, long)) ∙ ap (λ (p : ℕ). bytes (p + i)) same ∙ stands.each i below
+    | inl below ↦ read.each i (omega (arith, below, long)) ∙ ap (λ (p : ℕ). bytes (p + i)) same ∙ are_at.each i below
     | inr over ↦ get_or-eq_default buf 0 (omega (arith, over, long)) ∙ sym
         (get_or-eq_default xs 0 (omega (arith, over, few)))
   ];
@@ -149,33 +149,33 @@ pub ok_no_fault : {T E : Type 0} (r : Result T E) (t : T) {fault : E} → r ≡ 
 ok_no_fault r t is err = cc
 
 -- what stands on the disk within the range stands in the buffer
-pub read_stands : (bytes : ℕ → ℕ) (place at off size : ℕ) (buf xs : List ℕ) → IsReadAt bytes place buf
-    → off + size ≤ length buf → at ≡ place + off → Stands bytes at size xs → Stands (byte_of buf) off size xs
-read_stands bytes place at off size buf xs read room is stands = record {
+pub read_at_place : (bytes : ℕ → ℕ) (place at off size : ℕ) (buf xs : List ℕ) → IsReadAt bytes place buf
+    → off + size ≤ length buf → at ≡ place + off → AreAt bytes at size xs → AreAt (byte_of buf) off size xs
+read_at_place bytes place at off size buf xs read room is are_at = record {
   each = λ i lt.
       let same : place + (off + i) ≡ at + i = omega (arith, is) in
-      read.each (off + i) (omega (arith, lt, room)) ∙ ap bytes same ∙ stands.each i lt;
+      read.each (off + i) (omega (arith, lt, room)) ∙ ap bytes same ∙ are_at.each i lt;
 }
 
 -- and what stands in the buffer stands on the disk
 pub read_back : (bytes : ℕ → ℕ) (place at off size : ℕ) (buf xs : List ℕ) → IsReadAt bytes place buf
-    → off + size ≤ length buf → at ≡ place + off → Stands (byte_of buf) off size xs → Stands bytes at size xs
-read_back bytes place at off size buf xs read room is stands = record {
+    → off + size ≤ length buf → at ≡ place + off → AreAt (byte_of buf) off size xs → AreAt bytes at size xs
+read_back bytes place at off size buf xs read room is are_at = record {
   each = λ i lt.
       let same : at + i ≡ place + (off + i) = omega (arith, is) in
-      ap bytes same ∙ sym (read.each (off + i) (omega (arith, lt, room))) ∙ stands.each i lt;
+      ap bytes same ∙ sym (read.each (off + i) (omega (arith, lt, room))) ∙ are_at.each i lt;
 }
 
 pub padded_back : (bytes : ℕ → ℕ) (place at : ℕ) (buf xs : List ℕ) (size : ℕ) → IsReadAt bytes place buf
-    → length buf ≡ size → at ≡ place → IsPadded buf xs → Stands bytes at size xs
+    → length buf ≡ size → at ≡ place → IsPadded buf xs → AreAt bytes at size xs
 padded_back bytes place at buf xs size read long is padded = record {
   each = λ i lt.
       let same : at + i ≡ place + i = omega (arith, is) in
       ap bytes same ∙ sym (read.each i (omega (arith, lt, long))) ∙ padded.each i;
 }
 
-pub stands_part : (f : ℕ → ℕ) (at size part : ℕ) (xs : List ℕ) → part ≤ size → Stands f at size xs → Stands f at part xs
-stands_part f at size part xs few stands = record { each = λ i lt. stands.each i (omega (arith, lt, few)) }
+pub at_part : (f : ℕ → ℕ) (at size part : ℕ) (xs : List ℕ) → part ≤ size → AreAt f at size xs → AreAt f at part xs
+at_part f at size part xs few are_at = record { each = λ i lt. are_at.each i (omega (arith, lt, few)) }
 
 -- ANSWERS
 
@@ -191,26 +191,26 @@ if_ok_both (Err e) more p q = tt
 -- SLOTS AND ROWS
 
 -- one more at the end of a list
-module _ (slots : List (Option SlotRecord)) (kept : Option SlotRecord) (new : List (Option SlotRecord))
-    (is : new ≡ slots ++ kept ∷ []) where
+module _ (slots : List (Option SlotRecord)) (slot_there : Option SlotRecord) (new : List (Option SlotRecord))
+    (is : new ≡ slots ++ slot_there ∷ []) where
   one_more : length new ≡ length slots + 1
-  one_more = ap length is ∙ length-append slots (kept ∷ [])
+  one_more = ap length is ∙ length-append slots (slot_there ∷ [])
 
   before : (s : ℕ) → s < length slots → get_or new s None ≡ get_or slots s None
   before s below =
-      ap (λ (xs : List (Option SlotRecord)). get_or xs s None) is ∙ get_or-append slots (kept ∷ []) None s below
+      ap (λ (xs : List (Option SlotRecord)). get_or xs s None) is ∙ get_or-append slots (slot_there ∷ []) None s below
 
-  at_end : get_or new (length slots) None ≡ kept
+  at_end : get_or new (length slots) None ≡ slot_there
   at_end =
       let zero : length slots + 0 ≡ length slots = omega arith in
-      let there : get_or (slots ++ kept ∷ []) (length slots + 0) None ≡ kept =
-      get_or-append-add slots (kept ∷ []) 0 None in
+      let there : get_or (slots ++ slot_there ∷ []) (length slots + 0) None ≡ slot_there =
+      get_or-append-add slots (slot_there ∷ []) 0 None in
       ap (λ (xs : List (Option SlotRecord)). get_or xs (length slots) None) is ∙ subst
-      (λ (k : ℕ). get_or (slots ++ kept ∷ []) k None ≡ kept) zero there
+      (λ (k : ℕ). get_or (slots ++ slot_there ∷ []) k None ≡ slot_there) zero there
 
   -- each before and the new one
   each_with : (P : ℕ → Option SlotRecord → Type 0) → ((s : ℕ) → s < length slots → P s (get_or slots s None))
-      → P (length slots) kept → (s : ℕ) → s < length new → P s (get_or new s None)
+      → P (length slots) slot_there → (s : ℕ) → s < length new → P s (get_or new s None)
   each_with P old put s lt = elim (cases_lt s (length slots)) [
     | inl below ↦ subst (P s) (sym (before s below)) (old s below)
     | inr over ↦
@@ -218,13 +218,13 @@ module _ (slots : List (Option SlotRecord)) (kept : Option SlotRecord) (new : Li
         subst (λ (k : ℕ). P k (get_or new k None)) here (subst (P (length slots)) (sym at_end) put)
   ]
 
-  pub stand_push : (bytes : ℕ → ℕ) (n : ℕ) (version : Known) → StandSlots bytes n version slots
-      → Stands bytes (slot_place n (length slots)) 2048 (slot_bytes version kept) → StandSlots bytes n version new
-  stand_push bytes n version was stands = record {
-    each = each_with (λ s o. Stands bytes (slot_place n s) 2048 (slot_bytes version o)) was.each stands;
+  pub at_push : (bytes : ℕ → ℕ) (n : ℕ) (version : Known) → SlotsAreAt bytes n version slots
+      → AreAt bytes (slot_place n (length slots)) 2048 (slot_bytes version slot_there) → SlotsAreAt bytes n version new
+  at_push bytes n version was are_at = record {
+    each = each_with (λ s o. AreAt bytes (slot_place n s) 2048 (slot_bytes version o)) was.each are_at;
   }
 
-  pub fit_push : ((s : ℕ) → FitsSlotOf (get_or slots s None)) → FitsSlotOf kept
+  pub fit_push : ((s : ℕ) → FitsSlotOf (get_or slots s None)) → FitsSlotOf slot_there
       → (s : ℕ) → FitsSlotOf (get_or new s None)
   fit_push was fits s = elim (cases_lt s (length new)) [
     | inl below ↦ each_with (λ s o. FitsSlotOf o) (λ s lt. was s) fits s below
@@ -239,44 +239,44 @@ module _ (old new : List (Option (ℕ × ℕ))) (at : ℕ) (row : Option (ℕ ×
     each = below_more _ _ (λ b below. let ne : b ≢ at = omega arith in others b ne ∙ same.each b below) (put ∙ is);
   }
 
-  pub put_stands : (page : ℕ → ℕ) (first k : ℕ) → first + k ≡ at
-      → ((m : ℕ) → m < k → Stands page (8 * m) 8 (row_bytes (get_or old (first + m) None)))
-      → Stands page (8 * k) 8 (row_bytes row) → (m : ℕ) → m < k + 1
-      → Stands page (8 * m) 8 (row_bytes (get_or new (first + m) None))
-  put_stands page first k here was stands = below_more _ _
+  pub put_at : (page : ℕ → ℕ) (first k : ℕ) → first + k ≡ at
+      → ((m : ℕ) → m < k → AreAt page (8 * m) 8 (row_bytes (get_or old (first + m) None)))
+      → AreAt page (8 * k) 8 (row_bytes row) → (m : ℕ) → m < k + 1
+      → AreAt page (8 * m) 8 (row_bytes (get_or new (first + m) None))
+  put_at page first k here was are_at = below_more _ _
       (λ m below. let ne : first + m ≢ at = omega (arith, below, here) in subst
-      (λ (o : Option (ℕ × ℕ)). Stands page (8 * m) 8 (row_bytes o)) (sym (others (first + m) ne)) (was m below))
-      (subst (λ (o : Option (ℕ × ℕ)). Stands page (8 * k) 8 (row_bytes o))
-      (sym (ap (λ (b : ℕ). get_or new b None) here ∙ put)) stands)
+      (λ (o : Option (ℕ × ℕ)). AreAt page (8 * m) 8 (row_bytes o)) (sym (others (first + m) ne)) (was m below))
+      (subst (λ (o : Option (ℕ × ℕ)). AreAt page (8 * k) 8 (row_bytes o))
+      (sym (ap (λ (b : ℕ). get_or new b None) here ∙ put)) are_at)
 
 -- the rows of a page, in the buffer
-pub rows_stand : (bytes : ℕ → ℕ) (n place page : ℕ) (buf : List ℕ) (all : List (Option (ℕ × ℕ)))
+pub rows_at_place : (bytes : ℕ → ℕ) (n place page : ℕ) (buf : List ℕ) (all : List (Option (ℕ × ℕ)))
     → IsReadAt bytes place buf → length buf ≡ PAGE → place ≡ row_place n (ROWS * page) → 257 + page < journal_pages n
-    → ((b : ℕ) → b < ROWS * (journal_pages n - 257) → Stands bytes (row_place n b) 8 (row_bytes (get_or all b None)))
-    → (k : ℕ) → k < ROWS → Stands (byte_of buf) (8 * k) 8 (row_bytes (get_or all (ROWS * page + k) None))
-rows_stand bytes n place page buf all read long here few stands k lt =
-    read_stands bytes place (row_place n (ROWS * page + k)) (8 * k) 8 buf _ read (omega (arith, lt, long))
-    (omega (arith, here)) (stands (ROWS * page + k) (omega (arith, lt, few)))
+    → ((b : ℕ) → b < ROWS * (journal_pages n - 257) → AreAt bytes (row_place n b) 8 (row_bytes (get_or all b None)))
+    → (k : ℕ) → k < ROWS → AreAt (byte_of buf) (8 * k) 8 (row_bytes (get_or all (ROWS * page + k) None))
+rows_at_place bytes n place page buf all read long here few are_at k lt =
+    read_at_place bytes place (row_place n (ROWS * page + k)) (8 * k) 8 buf _ read (omega (arith, lt, long))
+    (omega (arith, here)) (are_at (ROWS * page + k) (omega (arith, lt, few)))
 
 -- a page of rows more
 pub rows_read : (bytes : ℕ → ℕ) (n place page : ℕ) (buf : List ℕ) (old new : List (Option (ℕ × ℕ)))
     → IsReadAt bytes place buf → length buf ≡ PAGE → place ≡ row_place n (ROWS * page)
-    → StandRows bytes n (ROWS * page) old → ((b : ℕ) → b < ROWS * page → get_or new b None ≡ get_or old b None)
-    → ((k : ℕ) → k < ROWS → Stands (byte_of buf) (8 * k) 8 (row_bytes (get_or new (ROWS * page + k) None)))
-    → StandRows bytes n (ROWS * (page + 1)) new
+    → RowsAreAt bytes n (ROWS * page) old → ((b : ℕ) → b < ROWS * page → get_or new b None ≡ get_or old b None)
+    → ((k : ℕ) → k < ROWS → AreAt (byte_of buf) (8 * k) 8 (row_bytes (get_or new (ROWS * page + k) None)))
+    → RowsAreAt bytes n (ROWS * (page + 1)) new
 rows_read bytes n place page buf old new read long here was before filled = record {
   each = λ b lt. elim (cases_lt b (ROWS * page)) [
-    | inl below ↦ subst (λ (o : Option (ℕ × ℕ)). Stands bytes (row_place n b) 8 (row_bytes o)) (sym (before b below))
+    | inl below ↦ subst (λ (o : Option (ℕ × ℕ)). AreAt bytes (row_place n b) 8 (row_bytes o)) (sym (before b below))
         (was.each b below)
     | inr over ↦
         let k : ℕ = b - ROWS * page in
         let few : k < ROWS = omega (arith, lt, over) in
         let at : ROWS * page + k ≡ b = omega (arith, over) in
-        let stands = filled k few in
+        let are_at = filled k few in
         let there =
         read_back bytes place (row_place n b) (8 * k) 8 buf _ read (omega (arith, few, long))
-        (omega (arith, here, at)) stands in
-        subst (λ (j : ℕ). Stands bytes (row_place n b) 8 (row_bytes (get_or new j None))) at there
+        (omega (arith, here, at)) are_at in
+        subst (λ (j : ℕ). AreAt bytes (row_place n b) 8 (row_bytes (get_or new j None))) at there
   ];
 }
 

@@ -5,21 +5,21 @@ use Rattle.std.specs.Option.{ok_or}
 use Rattle.spool_disk.specs.Given.{ReadsGave, MoreReads}
 use Rattle.spool_disk.specs.declared.given.Given.{Given}
 use Rattle.spool_disk.proofs.Gave.{first, grew_none, grew_on, rest}
-use Rattle.spool_pages.specs.View.{View, Says, state_place}
+use Rattle.spool_pages.specs.View.{View, Encodes, state_place}
 use Rattle.spool_catalog.specs.Holding.{Holding}
-use Rattle.spool_catalog.specs.Kept.{KeepsAlone}
+use Rattle.spool_catalog.specs.Catalog.{HasViewAlone}
 use Rattle.spool_catalog.specs.Shows.{IsValid}
 use Rattle.spool_catalog.specs.declared.error.OpenFault.{OpenFault}
 use Rattle.spool_catalog.specs.declared.error.OpenFault.TheVariants.{Version}
-use Rattle.spool_load.specs.Faults.{TellsNothing, load_fault}
-use Rattle.spool_load.specs.Loaded.{FindsBy, FoundBy, IsFoundOf, LoadedFrom, LoadsBy, RestoresBy, StandsFound}
+use Rattle.spool_load.specs.Faults.{IsStopError, load_fault}
+use Rattle.spool_load.specs.Loaded.{FindsBy, FoundBy, IsFoundOf, LoadedFrom, LoadsBy, RestoresBy, FoundIsAt}
 use Rattle.spool_load.specs.ReadBy.{ReadsBy}
-use Rattle.spool_load.specs.Reads.{SaysBlocks}
-use Rattle.spool_load.specs.Refusals.{HasJournal, NotFoundBy, RefusedHere, SaysKnownVersion}
+use Rattle.spool_load.specs.Reads.{EncodesBlocks}
+use Rattle.spool_load.specs.Refusals.{HasJournal, NotFoundBy, RefusedHere, EncodesKnownVersion}
 use Rattle.spool_load.specs.declared.error.LoadError.{LoadError}
 use Rattle.spool_load.specs.declared.finding.Found.{Found}
-use Rattle.spool_load.proofs.Faults.{loads_err, tells_nothing}
-use Rattle.spool_load.proofs.Refused.{found_reason, read_reason, says_one, unfound_reason}
+use Rattle.spool_load.proofs.Faults.{loads_err, is_stop_error}
+use Rattle.spool_load.proofs.Refused.{found_reason, read_reason, encodes_one, unfound_reason}
 
 -- THE TWO PARTS OF THE READS
 
@@ -64,64 +64,64 @@ by_after is grew more = record {
 -- THE ANSWERS
 
 module _ (size : ℕ) (before after : ℕ → ℕ) where
-  pub restored_by : (n : ℕ) (said : Option Found) → HasJournal n before
-      → MatchOption said (SaysKnownVersion after (state_place n) → ⊥) (StandsFound after)
-      → MatchResult (ok_or said Version) (λ found. HasJournal n before × StandsFound after found)
+  pub restored_by : (n : ℕ) (decoded : Option Found) → HasJournal n before
+      → MatchOption decoded (EncodesKnownVersion after (state_place n) → ⊥) (FoundIsAt after)
+      → MatchResult (ok_or decoded Version) (λ found. HasJournal n before × FoundIsAt after found)
       (RefusedHere n before after)
-  restored_by n (Some found) journal stands = (journal, stands)
+  restored_by n (Some found) journal are_at = (journal, are_at)
   restored_by n None journal unknown = (journal, unknown)
 
-  module _ (n : ℕ) (says : SaysBlocks size before n) where
+  module _ (n : ℕ) (encodes : EncodesBlocks size before n) where
     answered : (r : Result Found OpenFault) → IfOk r (λ found. found.layout ≡ n)
-        → MatchResult r (λ found. HasJournal n before × StandsFound after found) (RefusedHere n before after)
+        → MatchResult r (λ found. HasJournal n before × FoundIsAt after found) (RefusedHere n before after)
         → MatchResult r (FoundBy size before after) (NotFoundBy size before after)
     answered (Ok found) same is = record {
-      says = subst (SaysBlocks size before) (sym same) says;
+      encodes = subst (EncodesBlocks size before) (sym same) encodes;
       journal = subst (λ (k : ℕ). HasJournal k before) (sym same) is.0;
       state = is.1;
     }
-    answered (Err e) same why = found_reason size before after n e says why
+    answered (Err e) same why = found_reason size before after n e encodes why
 
     pub finds_by : (r : Result Found OpenFault) → IfOk r (λ found. found.layout ≡ n) → RestoresBy n r before after
         → FindsBy size before after r
     finds_by r same is = record {
       answer = answered r same is.answer;
       finds =
-          λ v valid encodes. let blocks = says_one size before v.blocks n encodes.begins says in
-          is.restores v valid blocks (subst (λ (k : ℕ). HasJournal k before) blocks encodes.journal) encodes.says;
+          λ v valid encodes_by. let blocks = encodes_one size before v.blocks n encodes_by.begins encodes in
+          is.restores v valid blocks (subst (λ (k : ℕ). HasJournal k before) blocks encodes_by.journal) encodes_by.encodes;
     }
 
   pub unfound_by : (e : OpenFault) → FindsBy size before after (Err e) → LoadsBy size before after (Err e)
   unfound_by e is = record {
     answer = unfound_reason size before after e is.answer;
-    loads = λ v valid encodes. loads_err (IsFoundOf v) (λ (kept : Holding). KeepsAlone kept v) e
-        (is.finds v valid encodes);
+    loads = λ v valid encodes_by. loads_err (IsFoundOf v) (λ (catalog : Holding). HasViewAlone catalog v) e
+        (is.finds v valid encodes_by);
   }
 
   module _ (found : Found) (is : FindsBy size before after (Ok found)) where
     pub unread_by : (e : LoadError)
-        → ((v : View) → IsValid v → IsFoundOf v found → Says after v → TellsNothing e)
+        → ((v : View) → IsValid v → IsFoundOf v found → Encodes after v → IsStopError e)
         → LoadsBy size before after (Err (load_fault e))
-    unread_by e tells = record {
+    unread_by e is_stop = record {
       answer = read_reason size before after found e is.answer
-          (λ v valid encodes. tells v valid (is.finds v valid encodes) encodes.says);
-      loads = λ v valid encodes. tells_nothing e (λ (kept : Holding). KeepsAlone kept v)
-          (tells v valid (is.finds v valid encodes) encodes.says);
+          (λ v valid encodes_by. is_stop v valid (is.finds v valid encodes_by) encodes_by.encodes);
+      loads = λ v valid encodes_by. is_stop_error e (λ (catalog : Holding). HasViewAlone catalog v)
+          (is_stop v valid (is.finds v valid encodes_by) encodes_by.encodes);
     }
 
-    pub loads_by : (kept : Holding) → LoadedFrom after found.layout kept
-        → ((v : View) → IsValid v → IsFoundOf v found → Says after v → KeepsAlone kept v)
-        → LoadsBy size before after (Ok kept)
-    loads_by kept loaded keeps = record {
+    pub loads_by : (catalog : Holding) → LoadedFrom after found.layout catalog
+        → ((v : View) → IsValid v → IsFoundOf v found → Encodes after v → HasViewAlone catalog v)
+        → LoadsBy size before after (Ok catalog)
+    loads_by catalog loaded has_view = record {
       answer = record {
         view = loaded.view;
         valid = loaded.valid;
         encodes = record {
-          begins = subst (SaysBlocks size before) (sym loaded.blocks) is.answer.says;
+          begins = subst (EncodesBlocks size before) (sym loaded.blocks) is.answer.encodes;
           journal = subst (λ (k : ℕ). HasJournal k before) (sym loaded.blocks) is.answer.journal;
-          says = loaded.says;
+          encodes = loaded.encodes;
         };
-        so = loaded.keeps;
+        so = loaded.has_view;
       };
-      loads = λ v valid encodes. keeps v valid (is.finds v valid encodes) encodes.says;
+      loads = λ v valid encodes_by. has_view v valid (is.finds v valid encodes_by) encodes_by.encodes;
     }

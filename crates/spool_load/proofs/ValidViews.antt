@@ -11,20 +11,20 @@ use Rattle.spool_journal.specs.Image.{journal_pages, text_page}
 use Rattle.spool_texts.specs.Texts.{text_shown}
 use Rattle.upload_rules.specs.Room.{blocks_of}
 use Rattle.spool_pages.specs.Fits.{FitsSlotOf, FitsRow}
-use Rattle.spool_pages.specs.View.{SlotRecord, View, Says, Stands, state_page, slot_bytes, row_bytes}
+use Rattle.spool_pages.specs.View.{SlotRecord, View, Encodes, AreAt, state_page, slot_bytes, row_bytes}
 use Rattle.spool_pages.specs.View.{index_place, state_place, slot_place, row_place}
 use Rattle.spool_pages.specs.declared.version.Version.{Version}
-use Rattle.spool_catalog.proofs.Valid.{said_area, said_slot, said_row, slots_fit, rows_fit}
-use Rattle.spool_catalog.specs.Records.{FitsKept}
+use Rattle.spool_catalog.proofs.Valid.{area_passes, slot_passes, row_passes, slots_fit, rows_fit}
+use Rattle.spool_catalog.specs.Records.{FitsCatalog}
 use Rattle.spool_catalog.specs.Holding.{AreDistinct}
 use Rattle.spool_catalog.specs.Shows.{IsValid, IsValidRecord, IsOwned, Shows}
 use Rattle.spool_catalog.proofs.Every.{each_shows}
 use Rattle.upload_rules.specs.Store.{Store}
 use Rattle.spool_catalog.specs.Checks.{RecordsPass, RowPasses, RowsPass}
 use Rattle.spool_catalog.specs.Holding.{Holding}
-use Rattle.spool_catalog.specs.Kept.{KeepsAlone}
+use Rattle.spool_catalog.specs.Catalog.{HasViewAlone}
 use Rattle.spool_load.specs.Loaded.{LoadedFrom}
-use Rattle.spool_load.specs.Reads.{StandFields, StandSlots, StandRows}
+use Rattle.spool_load.specs.Reads.{FieldsAreAt, SlotsAreAt, RowsAreAt}
 
 -- A SOUND VIEW PASSES
 
@@ -49,25 +49,25 @@ valid_rows v valid b slot ordinal owns =
 -- A SOUND VIEW IS READ
 
 -- of bytes that say it: what holds of each next number, index set, slots and rows that may be there holds of its own
-module _ (bytes : ℕ → ℕ) (n : ℕ) (v : View) (valid : IsValid v) (blocks : v.blocks ≡ n) (says : Says bytes v) where
-  pub area_said : {Q : IndexSet → Type 0} → ((x : IndexSet) → IsIndexSet x
+module _ (bytes : ℕ → ℕ) (n : ℕ) (v : View) (valid : IsValid v) (blocks : v.blocks ≡ n) (encodes : Encodes bytes v) where
+  pub area_encoded : {Q : IndexSet → Type 0} → ((x : IndexSet) → IsIndexSet x
       → ((i : ℕ) → i < 90112 → bytes (index_place n + i) ≡ area_byte x i) → Q x) → Q v.indexes
-  area_said said = said v.indexes valid.indexes (said_area bytes v n blocks says)
+  area_encoded decoded = decoded v.indexes valid.indexes (area_passes bytes v n blocks encodes)
 
-  pub slots_said : (version : Version) → version ≡ v.version → {Q : List (Option SlotRecord) → Type 0}
-      → ((said : List (Option SlotRecord)) → length said ≡ SLOTS → ((s : ℕ) → FitsKept (get_or said s None))
-      → ((s : ℕ) → s < SLOTS → Stands bytes (slot_place n s) 2048 (slot_bytes version (get_or said s None))) → Q said)
+  pub slots_updated : (version : Version) → version ≡ v.version → {Q : List (Option SlotRecord) → Type 0}
+      → ((decoded : List (Option SlotRecord)) → length decoded ≡ SLOTS → ((s : ℕ) → FitsCatalog (get_or decoded s None))
+      → ((s : ℕ) → s < SLOTS → AreAt bytes (slot_place n s) 2048 (slot_bytes version (get_or decoded s None))) → Q decoded)
       → Q v.slots
-  slots_said version is said =
+  slots_updated version is decoded =
       let S : Version → Type 0 =
-      λ w. (s : ℕ) → s < SLOTS → Stands bytes (slot_place n s) 2048 (slot_bytes w (get_or v.slots s None)) in
-      said v.slots valid.slot_count (slots_fit v valid) (subst S (sym is) (said_slot bytes v n blocks says))
+      λ w. (s : ℕ) → s < SLOTS → AreAt bytes (slot_place n s) 2048 (slot_bytes w (get_or v.slots s None)) in
+      decoded v.slots valid.slot_count (slots_fit v valid) (subst S (sym is) (slot_passes bytes v n blocks encodes))
 
-  pub rows_said : {Q : List (Option (ℕ × ℕ)) → Type 0} → ((all : List (Option (ℕ × ℕ))) → length all ≡ n
+  pub rows_encoded : {Q : List (Option (ℕ × ℕ)) → Type 0} → ((all : List (Option (ℕ × ℕ))) → length all ≡ n
       → ((b : ℕ) → FitsRow (get_or all b None))
-      → ((b : ℕ) → b < ROWS * (journal_pages n - 257) → Stands bytes (row_place n b) 8 (row_bytes (get_or all b None)))
+      → ((b : ℕ) → b < ROWS * (journal_pages n - 257) → AreAt bytes (row_place n b) 8 (row_bytes (get_or all b None)))
       → Q all) → Q v.rows
-  rows_said said = said v.rows (valid.row_count ∙ blocks) (rows_fit v valid) (said_row bytes v n blocks says)
+  rows_encoded decoded = decoded v.rows (valid.row_count ∙ blocks) (rows_fit v valid) (row_passes bytes v n blocks encodes)
 
 -- WHAT PASSES IS A SOUND VIEW
 
@@ -88,15 +88,15 @@ module _ (bytes : ℕ → ℕ) (n : ℕ) (version : Version) (next : ℕ) (x : I
     texts = λ s. shown_at s (get_or slots s None);
   }
 
-  read_says : StandFields bytes n x → Stands bytes (state_place n) PAGE (state_page version next)
-      → StandSlots bytes n version slots → length slots ≡ SLOTS
-      → StandRows bytes n (ROWS * (journal_pages n - 257)) rows
-      → Says bytes view_read
-  read_says fields state stand long there = record {
+  read_encodes : FieldsAreAt bytes n x → AreAt bytes (state_place n) PAGE (state_page version next)
+      → SlotsAreAt bytes n version slots → length slots ≡ SLOTS
+      → RowsAreAt bytes n (ROWS * (journal_pages n - 257)) rows
+      → Encodes bytes view_read
+  read_encodes fields state at_all long there = record {
     first = fields.first;
     area = fields.area.each;
     state = state;
-    slots = λ s lt. stand.each s (omega (arith, lt, long));
+    slots = λ s lt. at_all.each s (omega (arith, lt, long));
     rows = there.each;
     texts = λ s r e. ap (shown_at s) e;
   }
@@ -142,24 +142,24 @@ module _ (bytes : ℕ → ℕ) (n : ℕ) (version : Version) (next : ℕ) (x : I
 
       -- it is kept, and it shows uploads
       module _ (reserved : List Bool) (h : Holding) (none : reserved ≡ replicate n false)
-          (kept : (v : View) → IsValid v → v.blocks ≡ n → version ≡ v.version → next ≡ v.next → x ≡ v.indexes
-          → slots ≡ v.slots → rows ≡ v.rows → reserved ≡ replicate v.blocks false → KeepsAlone h v) where
-        read_kept : KeepsAlone h view_read
-        read_kept = kept view_read read_valid refl refl refl refl refl refl none
+          (catalog : (v : View) → IsValid v → v.blocks ≡ n → version ≡ v.version → next ≡ v.next → x ≡ v.indexes
+          → slots ≡ v.slots → rows ≡ v.rows → reserved ≡ replicate v.blocks false → HasViewAlone h v) where
+        read_has_view : HasViewAlone h view_read
+        read_has_view = catalog view_read read_valid refl refl refl refl refl refl none
 
-        pub read_shows : (v : View) × (m : Store) × KeepsAlone h v × Shows v m
+        pub read_shows : (v : View) × (m : Store) × HasViewAlone h v × Shows v m
         read_shows =
-            let shows = each_shows h view_read read_kept.0 read_valid bytes (text_page n)
+            let shows = each_shows h view_read read_has_view.0 read_valid bytes (text_page n)
             (λ s r e. ap (shown_at s) e) in
-            (view_read, shows.0, read_kept, shows.1)
+            (view_read, shows.0, read_has_view, shows.1)
 
-        pub read_loaded : StandFields bytes n x → Stands bytes (state_place n) PAGE (state_page version next)
-            → StandSlots bytes n version slots → StandRows bytes n (ROWS * (journal_pages n - 257)) rows
+        pub read_loaded : FieldsAreAt bytes n x → AreAt bytes (state_place n) PAGE (state_page version next)
+            → SlotsAreAt bytes n version slots → RowsAreAt bytes n (ROWS * (journal_pages n - 257)) rows
             → LoadedFrom bytes n h
-        read_loaded fields state stand there = record {
+        read_loaded fields state at_all there = record {
           view = view_read;
           valid = read_valid;
           blocks = refl;
-          says = read_says fields state stand long there;
-          keeps = read_kept;
+          encodes = read_encodes fields state at_all long there;
+          has_view = read_has_view;
         }

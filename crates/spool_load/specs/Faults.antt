@@ -19,11 +19,11 @@ load_fault (Stop stop) = opens.Stop stop
 load_fault Damaged = opens.Damaged
 
 -- An error that doesn't depend on the disk's bytes.
-abbrev pub TellsNothing : LoadError → Type 0
-TellsNothing (Stop stop) = Unit {0}
-TellsNothing Damaged = ⊥
+abbrev pub IsStopError : LoadError → Type 0
+IsStopError (Stop stop) = Unit {0}
+IsStopError Damaged = ⊥
 
 -- The result: it is read, or refused when out of memory or at a disk fault.
 abbrev pub Loads : {T : Type 0} → Result T LoadError → (T → Type 0) → Type 0
 Loads (Ok t) done = done t
-Loads (Err e) done = TellsNothing e
+Loads (Err e) done = IsStopError e

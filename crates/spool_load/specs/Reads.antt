@@ -9,7 +9,7 @@ use Rattle.spool_journal.specs.Image.{all_pages}
 use Rattle.spool_journal.specs.Phases.{Still}
 use Rattle.enc_model.specs.Indexes.{IndexSet}
 use Rattle.enc_index.specs.Area.{area_byte}
-use Rattle.spool_pages.specs.View.{SlotRecord, Stands, first_page, slot_bytes, row_bytes}
+use Rattle.spool_pages.specs.View.{SlotRecord, AreAt, first_page, slot_bytes, row_bytes}
 use Rattle.spool_pages.specs.View.{index_place, slot_place, row_place}
 use Rattle.spool_pages.specs.declared.version.Version.{Version}
 
@@ -28,7 +28,7 @@ pub record OnlyReads {D : Type 0} (disk : Ghosts D) (old new : D) : Type 0 where
       → Lasts disk old new (λ image. (p : ℕ) → image p ≡ bytes p)
 
 -- The disk begins as a spool of this many text blocks, and has room for it.
-pub record SaysBlocks (size : ℕ) (current : ℕ → ℕ) (blocks : ℕ) : Type 0 where
+pub record EncodesBlocks (size : ℕ) (current : ℕ → ℕ) (blocks : ℕ) : Type 0 where
   pub least : LEAST_BLOCKS ≤ blocks
   pub most : blocks ≤ MOST_BLOCKS
   pub room : PAGE * all_pages blocks ≤ size
@@ -37,7 +37,7 @@ pub record SaysBlocks (size : ℕ) (current : ℕ → ℕ) (blocks : ℕ) : Type
 -- Its gate is open, so a journal has to be replayed.
 pub record NeedsReplay (size : ℕ) (current : ℕ → ℕ) : Type 0 where
   pub blocks : ℕ
-  pub says : SaysBlocks size current blocks
+  pub encodes : EncodesBlocks size current blocks
   pub gate : current PAGE ≡ 165
 
 -- The buffer has the bytes from the place on.
@@ -60,19 +60,19 @@ pub record IsFreeFrom {A : Type 0} (start : ℕ) (list : List (Option A)) : Type
 -- The parts of a spool of n blocks.
 
 -- The index area is that of the set.
-pub record StandsArea (bytes : ℕ → ℕ) (n : ℕ) (x : IndexSet) : Type 0 where
+pub record AreaIsAt (bytes : ℕ → ℕ) (n : ℕ) (x : IndexSet) : Type 0 where
   pub each : (i : ℕ) → i < 90112 → bytes (index_place n + i) ≡ area_byte x i
 
 -- Page 0 is that of a spool, and the index area is that of the set.
-pub record StandFields (bytes : ℕ → ℕ) (n : ℕ) (x : IndexSet) : Type 0 where
-  pub first : Stands bytes 0 PAGE (first_page n)
-  pub area : StandsArea bytes n x
+pub record FieldsAreAt (bytes : ℕ → ℕ) (n : ℕ) (x : IndexSet) : Type 0 where
+  pub first : AreAt bytes 0 PAGE (first_page n)
+  pub area : AreaIsAt bytes n x
 
 -- The first slots have these records, or are free, in this version.
-pub record StandSlots (bytes : ℕ → ℕ) (n : ℕ) (version : Version) (slots : List (Option SlotRecord)) : Type 0 where
-  pub each : (s : ℕ) → s < length slots → Stands bytes (slot_place n s) 2048
+pub record SlotsAreAt (bytes : ℕ → ℕ) (n : ℕ) (version : Version) (slots : List (Option SlotRecord)) : Type 0 where
+  pub each : (s : ℕ) → s < length slots → AreAt bytes (slot_place n s) 2048
       (slot_bytes version (get_or slots s None))
 
 -- The blocks below `end` have these rows, with zeros after the last one.
-pub record StandRows (bytes : ℕ → ℕ) (n end : ℕ) (rows : List (Option (ℕ × ℕ))) : Type 0 where
-  pub each : (b : ℕ) → b < end → Stands bytes (row_place n b) 8 (row_bytes (get_or rows b None))
+pub record RowsAreAt (bytes : ℕ → ℕ) (n end : ℕ) (rows : List (Option (ℕ × ℕ))) : Type 0 where
+  pub each : (b : ℕ) → b < end → AreAt bytes (row_place n b) 8 (row_bytes (get_or rows b None))

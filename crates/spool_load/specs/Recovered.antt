@@ -1,7 +1,7 @@
 -- What finding, recovering and reading a spool leaves of a disk.
 use Rattle.std.specs.Prelude.{◌≡◌, ◌⊎◌, ℕ, ◌*◌, ◌≤◌}
 use Rattle.spool_journal.specs.declared.TheConstants.{PAGE}
-use Rattle.spool_disk.specs.Disk.{IsImage, Keeps}
+use Rattle.spool_disk.specs.Disk.{IsImage, Preserves}
 use Rattle.spool_disk.specs.Views.{Lasts}
 use Rattle.spool_disk.specs.declared.disk.Disk.{Ghosts}
 use Rattle.spool_journal.specs.Image.{all_pages, journal_pages, overlaid}
@@ -36,4 +36,4 @@ Unwritten disk before after = (NeedsReplay (disk.size before) (disk.current befo
 -- A read gives the same, unless there was a disk fault.
 abbrev pub ReadsSame : {D : Type 0} → Ghosts D → D → D → Type 0 → Type 0
 ReadsSame disk before after failed = (NeedsReplay (disk.size before) (disk.current before) → ⊥) → (failed → ⊥)
-    → Keeps (disk.current before) (disk.current after) (disk.unsynced before) (disk.unsynced after)
+    → Preserves (disk.current before) (disk.current after) (disk.unsynced before) (disk.unsynced after)

@@ -7,57 +7,57 @@ use Rattle.std.specs.Prelude.{◌≡◌, ℕ}
 use Rattle.std.specs.Int.{to_be_bytes, w32}
 use Rattle.common.specs.declared.stop.Stop.TheVariants.{NoMemory, DiskFault}
 use Rattle.spool_journal.specs.declared.TheConstants.{PAGE}
-use Rattle.spool_journal.specs.Image.{journal_pages, InForm, count, number, overlaid}
+use Rattle.spool_journal.specs.Image.{journal_pages, InForm, count, journal_number, overlaid}
 use Rattle.spool_catalog.specs.declared.error.OpenFault.{OpenFault}
 use Rattle.spool_catalog.specs.declared.error.OpenFault.TheVariants.{NotASpool, Damaged, Version, Stop}
 use Rattle.spool_catalog.specs.Shows.{IsValid}
-use Rattle.spool_pages.specs.View.{View, Says, Stands, state_place, version_number}
+use Rattle.spool_pages.specs.View.{View, Encodes, AreAt, state_place, version_number}
 use Rattle.spool_pages.specs.declared.version.Version.{Version as Known}
-use Rattle.spool_load.specs.Reads.{SaysBlocks}
+use Rattle.spool_load.specs.Reads.{EncodesBlocks}
 
 -- If the gate is open, the journal's head is valid.
 abbrev pub HasJournal : ℕ → (ℕ → ℕ) → Type 0
-HasJournal n current = current PAGE ≡ 165 → InForm (journal_pages n) (count current) (number current)
+HasJournal n current = current PAGE ≡ 165 → InForm (journal_pages n) (count current) (journal_number current)
 
 -- The number of this version is at the place.
-abbrev pub SaysVersion : (ℕ → ℕ) → ℕ → Known → Type 0
-SaysVersion bytes place version = Stands bytes place 4 (to_be_bytes w32 (version_number version))
+abbrev pub EncodesVersion : (ℕ → ℕ) → ℕ → Known → Type 0
+EncodesVersion bytes place version = AreAt bytes place 4 (to_be_bytes w32 (version_number version))
 
 -- The number of a known version is there.
-pub record SaysKnownVersion (bytes : ℕ → ℕ) (place : ℕ) : Type 0 where
+pub record EncodesKnownVersion (bytes : ℕ → ℕ) (place : ℕ) : Type 0 where
   pub version : Known
-  pub said : SaysVersion bytes place version
+  pub decoded : EncodesVersion bytes place version
 
 -- The state page of a spool of n blocks has this version.
 abbrev pub NamesVersion : ℕ → (ℕ → ℕ) → Known → Type 0
-NamesVersion n bytes version = SaysVersion bytes (state_place n) version
+NamesVersion n bytes version = EncodesVersion bytes (state_place n) version
 
 -- It has a known version.
 abbrev pub HasKnownVersion : ℕ → (ℕ → ℕ) → Type 0
-HasKnownVersion n bytes = SaysKnownVersion bytes (state_place n)
+HasKnownVersion n bytes = EncodesKnownVersion bytes (state_place n)
 
 -- The disk doesn't begin as a spool, or is too short for it.
 abbrev pub IsNoSpool : ℕ → (ℕ → ℕ) → Type 0
-IsNoSpool size before = (n : ℕ) → SaysBlocks size before n → ⊥
+IsNoSpool size before = (n : ℕ) → EncodesBlocks size before n → ⊥
 
 -- A spool whose journal is valid and whose version is unknown.
 pub record ReadsOtherVersion (size : ℕ) (before after : ℕ → ℕ) : Type 0 where
   pub blocks : ℕ
-  pub says : SaysBlocks size before blocks
+  pub encodes : EncodesBlocks size before blocks
   pub journal : HasJournal blocks before
   pub other : HasKnownVersion blocks after → ⊥
 
 -- A spool without a valid view. Its version is known, unless its journal is invalid.
 pub record ReadsDamage (size : ℕ) (before after : ℕ → ℕ) : Type 0 where
   pub blocks : ℕ
-  pub says : SaysBlocks size before blocks
+  pub encodes : EncodesBlocks size before blocks
   pub version : HasJournal blocks before → HasKnownVersion blocks after
-  pub no_view : (v : View) → IsValid v → HasJournal v.blocks before → Says after v → v.blocks ≡ blocks → ⊥
+  pub no_view : (v : View) → IsValid v → HasJournal v.blocks before → Encodes after v → v.blocks ≡ blocks → ⊥
 
 -- A spool whose journal is invalid.
 pub record HasBadJournal (size : ℕ) (before : ℕ → ℕ) : Type 0 where
   pub blocks : ℕ
-  pub says : SaysBlocks size before blocks
+  pub encodes : EncodesBlocks size before blocks
   pub bad : HasJournal blocks before → ⊥
 
 -- The reason for an error, on a disk that begins as a spool of n blocks.

@@ -2,27 +2,27 @@
 ghost use Rattle.std.specs.Prelude.{◌≡◌, ◌⊎◌, ◌≤◌, ◌<◌, ◌*◌, ◌^◌, ◌↔◌};
 ghost use Rattle.std.specs.Prelude.{ℕ, Err, IsErr, IfOk, IfErr, IfSome, IsNone, IsSomeAnd, IsTrue, MatchOption, get_or};
 ghost use Rattle.common.specs.declared.stop.Stop.{Stop};
-ghost use Rattle.spool_disk.specs.Disk.{IsImage, Counts, Keeps};
+ghost use Rattle.spool_disk.specs.Disk.{IsImage, Counts, Preserves};
 ghost use Rattle.spool_disk.specs.Given.{ReadsGave, MoreReads};
 ghost use Rattle.spool_disk.specs.Views.{Lasts};
 ghost use Rattle.spool_journal.specs.Image.{journal_pages, all_pages, byte_of, overlaid};
 ghost use Rattle.spool_journal.specs.Phases.{Settled, ReadsAs};
 ghost use Rattle.spool_catalog.specs.Loads.{LoadsAs};
 ghost use Rattle.spool_catalog.specs.Shows.{IsValid};
-ghost use Rattle.spool_load.specs.Loaded.{FindsBy, FoundOn, IsFoundOf, RestoresBy, SaysState, StandsFound};
+ghost use Rattle.spool_load.specs.Loaded.{FindsBy, FoundOn, IsFoundOf, RestoresBy, IsFoundState, FoundIsAt};
 ghost use Rattle.spool_load.specs.ReadBy.{ReadsBy};
-ghost use Rattle.spool_load.specs.Reads.{OnlyReads, SaysBlocks};
+ghost use Rattle.spool_load.specs.Reads.{OnlyReads, EncodesBlocks};
 ghost use Rattle.spool_load.specs.Recovered.{LeavesRead, OfView, ReadsSame, Recovered, Unwritten};
-ghost use Rattle.spool_load.specs.Refusals.{IsNoSpool, NotFoundFor, RefusedAt, SaysKnownVersion};
+ghost use Rattle.spool_load.specs.Refusals.{IsNoSpool, NotFoundFor, RefusedAt, EncodesKnownVersion};
 ghost use Rattle.spool_pages.specs.Bytes.{IsPadded};
-ghost use Rattle.spool_pages.specs.View.{View, IsViewOf, Stands, state_page, state_place};
+ghost use Rattle.spool_pages.specs.View.{View, IsViewOf, AreAt, state_page, state_place};
 ghost use Rattle.spool_pages.specs.declared.version.Version.{Version as Known};
 
 use crate::reading::read_at;
 use spool_catalog::OpenFault;
 use spool_disk::{Disk, DiskFault};
 use spool_journal::{Layout, PAGE, recover};
-use spool_pages::{Version, blocks_said, is_blank_after_fields, state_place, version_and_next};
+use spool_pages::{Version, blocks_encoded, is_blank_after_fields, state_place, version_and_next};
 
 /// A spool that was found on a disk and recovered.
 #[derive(Drop)]
@@ -43,8 +43,8 @@ fn read_prefix<D: Disk>(disk: &mut D) -> Result<[u8; 12], DiskFault>
     ensures size { D.size disk.new ≡ D.size disk.old }
     ensures honest { D.honest disk.old ↔ D.honest disk.new }
     ensures counts { Counts (IsErr result) (D.failures disk.old) (D.failures disk.new) }
-    ensures keeps { D.honest disk.old
-        → Keeps (D.current disk.old) (D.current disk.new) (D.unsynced disk.old) (D.unsynced disk.new) }
+    ensures preserves { D.honest disk.old
+        → Preserves (D.current disk.old) (D.current disk.new) (D.unsynced disk.old) (D.unsynced disk.new) }
     ensures lasts { D.honest disk.old → Lasts D.Disk disk.old disk.new
         (IsImage (D.current disk.old) (D.unsynced disk.old)) }
     ensures grew { MoreReads (D.reads disk.old) (D.reads disk.new) }
@@ -62,21 +62,21 @@ fn find_layout<D: Disk>(disk: &mut D) -> Result<Option<Layout>, DiskFault>
     ensures size { D.size disk.new ≡ D.size disk.old }
     ensures honest { D.honest disk.old ↔ D.honest disk.new }
     ensures counts { Counts (IsErr result) (D.failures disk.old) (D.failures disk.new) }
-    ensures keeps { D.honest disk.old
-        → Keeps (D.current disk.old) (D.current disk.new) (D.unsynced disk.old) (D.unsynced disk.new) }
+    ensures preserves { D.honest disk.old
+        → Preserves (D.current disk.old) (D.current disk.new) (D.unsynced disk.old) (D.unsynced disk.new) }
     ensures lasts { D.honest disk.old → Lasts D.Disk disk.old disk.new
         (IsImage (D.current disk.old) (D.unsynced disk.old)) }
     ensures room { IfOk result (λ found. IfSome found (λ layout. PAGE * all_pages layout ≤ D.size disk.old)) }
     ensures grew { MoreReads (D.reads disk.old) (D.reads disk.new) }
     ensures gave { D.honest disk.old → ReadsGave (D.current disk.old) (D.reads disk.old) (D.reads disk.new) }
     ensures found { (bytes : ℕ → ℕ) → ReadsGave bytes (D.reads disk.old) (D.reads disk.new) → IfOk result
-        (λ found. MatchOption found (IsNoSpool (D.size disk.old) bytes) (SaysBlocks (D.size disk.old) bytes)) }
+        (λ found. MatchOption found (IsNoSpool (D.size disk.old) bytes) (EncodesBlocks (D.size disk.old) bytes)) }
 {
     if disk.len() < 12 {
         return Ok(None);
     }
     let prefix = read_prefix(disk)?;
-    let Some(blocks) = blocks_said(&prefix) else {
+    let Some(blocks) = blocks_encoded(&prefix) else {
         return Ok(None);
     };
     let Some(layout) = Layout::of(blocks) else {
@@ -91,12 +91,12 @@ fn find_layout<D: Disk>(disk: &mut D) -> Result<Option<Layout>, DiskFault>
 // What the state page gives; None if its version is unknown.
 fn found_in(layout: Layout, page: &[u8; PAGE]) -> Option<Found>
     ensures layout { IfSome result (λ found. found.layout ≡ layout) }
-    ensures said { (version : Known) (next : ℕ) → next < 2 ^ 64 → IsPadded page.now (state_page version next)
-        → IsSomeAnd result (SaysState version next) }
-    ensures fields { IfSome result (λ found. Stands (byte_of page.now) 0 12 (state_page found.version found.next)) }
+    ensures decoded { (version : Known) (next : ℕ) → next < 2 ^ 64 → IsPadded page.now (state_page version next)
+        → IsSomeAnd result (IsFoundState version next) }
+    ensures fields { IfSome result (λ found. AreAt (byte_of page.now) 0 12 (state_page found.version found.next)) }
     ensures rest { IfSome result (λ found. IsTrue found.is_rest_blank
-        ↔ Stands (byte_of page.now) 0 PAGE (state_page found.version found.next)) }
-    ensures unknown { IsNone result → SaysKnownVersion (byte_of page.now) 0 → ⊥ }
+        ↔ AreAt (byte_of page.now) 0 PAGE (state_page found.version found.next)) }
+    ensures unknown { IsNone result → EncodesKnownVersion (byte_of page.now) 0 → ⊥ }
 {
     let (version, next) = version_and_next(page)?;
     Some(Found {
@@ -112,13 +112,13 @@ fn load_state<D: Disk>(disk: &mut D, layout: Layout) -> Result<Option<Found>, Di
     requires { PAGE * all_pages layout ≤ D.size disk.old }
     ensures reads { OnlyReads D.Disk disk.old disk.new }
     ensures counts { Counts (IsErr result) (D.failures disk.old) (D.failures disk.new) }
-    ensures layout { IfOk result (λ said. IfSome said (λ found. found.layout ≡ layout)) }
-    ensures said { (bytes : ℕ → ℕ) → ReadsGave bytes (D.reads disk.old) (D.reads disk.new)
+    ensures layout { IfOk result (λ decoded. IfSome decoded (λ found. found.layout ≡ layout)) }
+    ensures decoded { (bytes : ℕ → ℕ) → ReadsGave bytes (D.reads disk.old) (D.reads disk.new)
         → (version : Known) (next : ℕ) → next < 2 ^ 64
-        → Stands bytes (state_place layout) PAGE (state_page version next)
-        → IfOk result (λ said. IsSomeAnd said (SaysState version next)) }
+        → AreAt bytes (state_place layout) PAGE (state_page version next)
+        → IfOk result (λ decoded. IsSomeAnd decoded (IsFoundState version next)) }
     ensures found { (bytes : ℕ → ℕ) → ReadsGave bytes (D.reads disk.old) (D.reads disk.new)
-        → IfOk result (λ said. MatchOption said (SaysKnownVersion bytes (state_place layout) → ⊥) (StandsFound bytes)) }
+        → IfOk result (λ decoded. MatchOption decoded (EncodesKnownVersion bytes (state_place layout) → ⊥) (FoundIsAt bytes)) }
 {
     let mut page = [0; PAGE];
     read_at(disk, state_place(&layout), &mut page)?;
@@ -132,9 +132,9 @@ fn restore<D: Disk>(disk: &mut D, layout: Layout) -> Result<Found, OpenFault>
     ensures honest { D.honest disk.old ↔ D.honest disk.new }
     ensures counts { Counts (result ≡ Err (OpenFault.Stop Stop.DiskFault)) (D.failures disk.old) (D.failures disk.new) }
     ensures layout { IfOk result (λ found. found.layout ≡ layout) }
-    ensures said { D.honest disk.old → (v : View) → IsValid v → v.blocks ≡ layout → IsViewOf (D.current disk.old) v
+    ensures decoded { D.honest disk.old → (v : View) → IsValid v → v.blocks ≡ layout → IsViewOf (D.current disk.old) v
         → LoadsAs result (IsFoundOf v) }
-    ensures found { D.honest disk.old → SaysBlocks (D.size disk.old) (D.current disk.old) layout
+    ensures found { D.honest disk.old → EncodesBlocks (D.size disk.old) (D.current disk.old) layout
         → IfOk result (FoundOn (D.size disk.old) (D.current disk.old)) }
     ensures refused { D.honest disk.old → IfErr result (RefusedAt layout (D.current disk.old)) }
     ensures settled { D.honest disk.old → IfOk result
@@ -144,7 +144,7 @@ fn restore<D: Disk>(disk: &mut D, layout: Layout) -> Result<Found, OpenFault>
         → Lasts D.Disk disk.old disk.new (IsImage (D.current disk.old) (D.unsynced disk.old)) }
     ensures same { D.honest disk.old → (D.current disk.old PAGE ≡ 165 → ⊥)
         → (result ≡ Err (OpenFault.Stop Stop.DiskFault) → ⊥)
-        → Keeps (D.current disk.old) (D.current disk.new) (D.unsynced disk.old) (D.unsynced disk.new) }
+        → Preserves (D.current disk.old) (D.current disk.new) (D.unsynced disk.old) (D.unsynced disk.new) }
     ensures given { ReadsBy (D.reads disk.old) (D.reads disk.new) (RestoresBy layout result) }
 {
     recover(disk, &layout)?;
@@ -164,7 +164,7 @@ pub fn find<D: Disk>(disk: &mut D) -> Result<Found, OpenFault>
     ensures room { IfOk result (λ found. PAGE * all_pages found.layout ≤ D.size disk.old) }
 
     // If a read gives a valid spool, that one is found, unless there is a disk fault.
-    ensures said { D.honest disk.old → OfView (D.size disk.old) (D.current disk.old)
+    ensures decoded { D.honest disk.old → OfView (D.size disk.old) (D.current disk.old)
         (λ v. LoadsAs result (IsFoundOf v)) }
 
     // What is found is what a read gives, and each error has its reason.

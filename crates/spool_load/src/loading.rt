@@ -7,14 +7,14 @@ ghost use Rattle.spool_disk.specs.Given.{ReadsGave};
 ghost use Rattle.spool_journal.specs.Image.{all_pages, journal_pages};
 ghost use Rattle.spool_catalog.specs.Checks.{RowsPass};
 ghost use Rattle.spool_load.specs.Faults.{Loads};
-ghost use Rattle.spool_load.specs.Loaded.{IsFoundOf, LoadedFrom, StandsFound};
-ghost use Rattle.spool_load.specs.Reads.{OnlyReads, StandFields, StandRows};
-ghost use Rattle.spool_catalog.specs.Kept.{KeepsAlone};
+ghost use Rattle.spool_load.specs.Loaded.{IsFoundOf, LoadedFrom, FoundIsAt};
+ghost use Rattle.spool_load.specs.Reads.{OnlyReads, FieldsAreAt, RowsAreAt};
+ghost use Rattle.spool_catalog.specs.Catalog.{HasViewAlone};
 ghost use Rattle.spool_catalog.specs.Shows.{IsValid, Shows};
 ghost use Rattle.enc_index.specs.Sets.{IsIndexSet};
 ghost use Rattle.upload_rules.specs.Store.{Store};
 ghost use Rattle.spool_pages.specs.Fits.{FitsRow};
-ghost use Rattle.spool_pages.specs.View.{View, Says};
+ghost use Rattle.spool_pages.specs.View.{View, Encodes};
 
 use crate::owners::load_rows;
 use crate::reading::{check_first, load_indexes};
@@ -23,7 +23,7 @@ use crate::{Found, LoadError};
 use common::{ROWS, SLOTS};
 use enc_index::IndexSet;
 use spool_blocks::Blocks;
-use spool_catalog::{Kept, KeptRecord, are_rows_valid, are_valid};
+use spool_catalog::{Catalog, CatalogRecord, are_rows_valid, are_valid};
 use spool_disk::Disk;
 use spool_journal::{Layout, PAGE};
 use std::alloc::Global;
@@ -34,12 +34,12 @@ fn load_fields<D: Disk>(alloc: Global, disk: &mut D, layout: &Layout) -> Result<
     ensures reads { OnlyReads D.Disk disk.old disk.new }
     ensures counts { Counts (IsErrOf result (LoadError.Stop Stop.DiskFault)) (D.failures disk.old)
         (D.failures disk.new) }
-    ensures said { (bytes : ℕ → ℕ) → ReadsGave bytes (D.reads disk.old) (D.reads disk.new)
-        → (v : View) → IsValid v → v.blocks ≡ layout.now → Says bytes v
+    ensures decoded { (bytes : ℕ → ℕ) → ReadsGave bytes (D.reads disk.old) (D.reads disk.new)
+        → (v : View) → IsValid v → v.blocks ≡ layout.now → Encodes bytes v
         → Loads result (λ indexes. indexes ≡ v.indexes) }
     ensures set { IfOk result IsIndexSet }
     ensures valid { (bytes : ℕ → ℕ) → ReadsGave bytes (D.reads disk.old) (D.reads disk.new)
-        → IfOk result (StandFields bytes layout.now) }
+        → IfOk result (FieldsAreAt bytes layout.now) }
 {
     check_first(disk, layout)?;
     load_indexes(alloc, disk, layout)
@@ -50,7 +50,7 @@ fn load_blocks<D: Disk>(
     alloc: Global,
     disk: &mut D,
     layout: &Layout,
-    slots: &[Option<KeptRecord>],
+    slots: &[Option<CatalogRecord>],
 ) -> Result<Blocks, LoadError>
     requires room { PAGE * all_pages layout.now ≤ D.size disk.old }
     requires slots { length slots.now ≡ SLOTS }
@@ -59,11 +59,11 @@ fn load_blocks<D: Disk>(
     ensures reads { OnlyReads D.Disk disk.old disk.new }
     ensures counts { Counts (IsErrOf result (LoadError.Stop Stop.DiskFault)) (D.failures disk.old)
         (D.failures disk.new) }
-    ensures said { (bytes : ℕ → ℕ) → ReadsGave bytes (D.reads disk.old) (D.reads disk.new)
-        → (v : View) → IsValid v → v.blocks ≡ layout.now → Says bytes v → slots.now ≡ v.slots
+    ensures decoded { (bytes : ℕ → ℕ) → ReadsGave bytes (D.reads disk.old) (D.reads disk.new)
+        → (v : View) → IsValid v → v.blocks ≡ layout.now → Encodes bytes v → slots.now ≡ v.slots
         → Loads result (λ blocks. (blocks.rows ≡ v.rows) × (blocks.reserved ≡ replicate v.blocks false)) }
     ensures valid { (bytes : ℕ → ℕ) → ReadsGave bytes (D.reads disk.old) (D.reads disk.new)
-        → IfOk result (λ blocks. StandRows bytes layout.now (ROWS * (journal_pages layout.now - 257)) blocks.rows) }
+        → IfOk result (λ blocks. RowsAreAt bytes layout.now (ROWS * (journal_pages layout.now - 257)) blocks.rows) }
     ensures owners { IfOk result (λ blocks. RowsPass slots.now blocks.rows) }
     ensures reserved { IfOk result (λ blocks. blocks.reserved ≡ replicate layout.now false) }
 {
@@ -81,24 +81,24 @@ fn load_blocks<D: Disk>(
 /// # Errors
 ///
 /// `Damaged` if the spool is invalid; `Stop` when out of memory or at a disk fault.
-pub fn read<D: Disk>(alloc: Global, disk: &mut D, found: Found) -> Result<Kept, LoadError>
+pub fn read<D: Disk>(alloc: Global, disk: &mut D, found: Found) -> Result<Catalog, LoadError>
     requires { PAGE * all_pages found.layout ≤ D.size disk.old }
     ensures reads { OnlyReads D.Disk disk.old disk.new }
     ensures counts { Counts (IsErrOf result (LoadError.Stop Stop.DiskFault)) (D.failures disk.old)
         (D.failures disk.new) }
-    ensures layout { IfOk result (λ kept. kept.layout ≡ found.layout) }
-    ensures version { IfOk result (λ kept. kept.version ≡ found.version) }
+    ensures layout { IfOk result (λ catalog. catalog.layout ≡ found.layout) }
+    ensures version { IfOk result (λ catalog. catalog.version ≡ found.version) }
 
     // A valid spool is read, unless memory or the disk refuses.
-    ensures said { (bytes : ℕ → ℕ) → ReadsGave bytes (D.reads disk.old) (D.reads disk.new)
-        → (v : View) → IsValid v → IsFoundOf v found → Says bytes v → Loads result (λ kept. KeepsAlone kept v) }
+    ensures decoded { (bytes : ℕ → ℕ) → ReadsGave bytes (D.reads disk.old) (D.reads disk.new)
+        → (v : View) → IsValid v → IsFoundOf v found → Encodes bytes v → Loads result (λ catalog. HasViewAlone catalog v) }
 
     // On any disk what is then in memory is a view, and shows uploads.
-    ensures view { IfOk result (λ kept. (v : View) × (m : Store) × KeepsAlone kept v × Shows v m) }
+    ensures view { IfOk result (λ catalog. (v : View) × (m : Store) × HasViewAlone catalog v × Shows v m) }
 
     // What is read is valid, and is what the bytes encode.
     ensures valid { (bytes : ℕ → ℕ) → ReadsGave bytes (D.reads disk.old) (D.reads disk.new)
-        → StandsFound bytes found
+        → FoundIsAt bytes found
         → IfOk result (LoadedFrom bytes found.layout) }
 {
     if !found.is_rest_blank {
@@ -111,7 +111,7 @@ pub fn read<D: Disk>(alloc: Global, disk: &mut D, found: Found) -> Result<Kept, 
         return Err(LoadError::Damaged);
     }
     let blocks = load_blocks(alloc, disk, &found.layout, &slots)?;
-    let kept = Kept::of(
+    let catalog = Catalog::of(
         alloc,
         found.layout,
         found.version,
@@ -120,5 +120,5 @@ pub fn read<D: Disk>(alloc: Global, disk: &mut D, found: Found) -> Result<Kept, 
         slots,
         blocks,
     )?;
-    Ok(kept)
+    Ok(catalog)
 }

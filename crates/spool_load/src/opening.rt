@@ -2,11 +2,11 @@
 ghost use Rattle.std.specs.Prelude.{◌≡◌, ◌⊎◌, ◌≤◌, ◌*◌, ◌↔◌};
 ghost use Rattle.std.specs.Prelude.{Err, IfOk, IfErr};
 ghost use Rattle.common.specs.declared.stop.Stop.{Stop};
-ghost use Rattle.spool_disk.specs.Disk.{IsImage, Counts, Keeps};
+ghost use Rattle.spool_disk.specs.Disk.{IsImage, Counts, Preserves};
 ghost use Rattle.spool_disk.specs.Views.{Lasts};
 ghost use Rattle.spool_journal.specs.Image.{journal_pages, all_pages, overlaid};
 ghost use Rattle.spool_journal.specs.Phases.{Settled, ReadsAs};
-ghost use Rattle.spool_catalog.specs.Kept.{KeepsAlone};
+ghost use Rattle.spool_catalog.specs.Catalog.{HasViewAlone};
 ghost use Rattle.spool_catalog.specs.Loads.{LoadsAs};
 ghost use Rattle.spool_catalog.specs.Shows.{IsValid, Shows};
 ghost use Rattle.spool_load.specs.Loaded.{LoadsBy, OpenedFrom};
@@ -18,7 +18,7 @@ ghost use Rattle.upload_rules.specs.Store.{Store};
 
 use crate::finding::find;
 use crate::loading::read;
-use spool_catalog::{Kept, OpenFault};
+use spool_catalog::{Catalog, OpenFault};
 use spool_disk::Disk;
 use spool_journal::PAGE;
 use std::alloc::Global;
@@ -30,18 +30,18 @@ use std::alloc::Global;
 /// `NotASpool` if the first 12 bytes aren't a spool's or the disk is shorter than its layout; then those of `recover`;
 /// then `Version` if the version is unknown; then `Damaged` if the spool is invalid. `NoMemory` when out of memory, and
 /// `DiskFault` at a disk fault.
-pub fn load<D: Disk>(alloc: Global, disk: &mut D) -> Result<Kept, OpenFault>
+pub fn load<D: Disk>(alloc: Global, disk: &mut D) -> Result<Catalog, OpenFault>
     ensures size { D.size disk.new ≡ D.size disk.old }
     ensures honest { D.honest disk.old ↔ D.honest disk.new }
     ensures counts { Counts (result ≡ Err (OpenFault.Stop Stop.DiskFault)) (D.failures disk.old) (D.failures disk.new) }
-    ensures room { IfOk result (λ kept. PAGE * all_pages kept.layout ≤ D.size disk.old) }
+    ensures room { IfOk result (λ catalog. PAGE * all_pages catalog.layout ≤ D.size disk.old) }
 
     // If a read gives a valid spool, that one is read into memory, unless memory or the disk refuses.
-    ensures said { D.honest disk.old → OfView (D.size disk.old) (D.current disk.old)
-        (λ v. LoadsAs result (λ kept. KeepsAlone kept v)) }
+    ensures decoded { D.honest disk.old → OfView (D.size disk.old) (D.current disk.old)
+        (λ v. LoadsAs result (λ catalog. HasViewAlone catalog v)) }
 
     // On any disk what is then in memory is a view, and shows uploads.
-    ensures view { IfOk result (λ kept. (v : View) × (m : Store) × KeepsAlone kept v × Shows v m) }
+    ensures view { IfOk result (λ catalog. (v : View) × (m : Store) × HasViewAlone catalog v × Shows v m) }
 
     // What is in memory is what a read gives, and it is valid. Each error has its reason.
     ensures valid { D.honest disk.old → IfOk result (OpenedFrom (D.size disk.old) (D.current disk.old)) }
@@ -53,8 +53,8 @@ pub fn load<D: Disk>(alloc: Global, disk: &mut D) -> Result<Kept, OpenFault>
         (λ before after. LoadsBy (D.size disk.old) before after result) }
 
     // All of the disk is synced then, and the gate is closed.
-    ensures settled { D.honest disk.old → IfOk result (λ kept.
-        Recovered D.Disk kept.layout disk.old disk.new) }
+    ensures settled { D.honest disk.old → IfOk result (λ catalog.
+        Recovered D.Disk catalog.layout disk.old disk.new) }
 
     // A crash leaves an image of before, or one that reads the same.
     ensures lasts { D.honest disk.old → OfView (D.size disk.old) (D.current disk.old)
@@ -66,6 +66,6 @@ pub fn load<D: Disk>(alloc: Global, disk: &mut D) -> Result<Kept, OpenFault>
         (result ≡ Err (OpenFault.Stop Stop.DiskFault)) }
 {
     let found = find(disk)?;
-    let kept = read(alloc, disk, found)?;
-    Ok(kept)
+    let catalog = read(alloc, disk, found)?;
+    Ok(catalog)
 }

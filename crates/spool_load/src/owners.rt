@@ -7,8 +7,8 @@ ghost use Rattle.spool_disk.specs.Given.{ReadsGave};
 ghost use Rattle.spool_journal.specs.Image.{journal_pages, all_pages, byte_of};
 ghost use Rattle.spool_pages.specs.Fits.{FitsRow};
 ghost use Rattle.spool_load.specs.Faults.{Loads};
-ghost use Rattle.spool_load.specs.Reads.{OnlyReads, IsFreeFrom, IsSameTo, StandRows};
-ghost use Rattle.spool_pages.specs.View.{Stands, row_bytes, row_place};
+ghost use Rattle.spool_load.specs.Reads.{OnlyReads, IsFreeFrom, IsSameTo, RowsAreAt};
+ghost use Rattle.spool_pages.specs.View.{AreAt, row_bytes, row_place};
 
 use crate::LoadError;
 use crate::reading::read_at;
@@ -38,12 +38,12 @@ fn put_row(rows: &mut [Row], block: usize, row: Row) -> Result<(), Damaged>
 // last place.
 fn put_rows(rows: &mut [Row], page: &[u8; PAGE], first: usize) -> Result<(), Damaged>
     requires { first ≤ MOST_BLOCKS }
-    ensures said { (all : List (Option (ℕ × ℕ))) → length all ≡ length rows.old
+    ensures decoded { (all : List (Option (ℕ × ℕ))) → length all ≡ length rows.old
         → ((b : ℕ) → FitsRow (get_or all b None))
-        → ((k : ℕ) → k < ROWS → Stands (byte_of page.now) (8 * k) 8 (row_bytes (get_or all (first + k) None)))
+        → ((k : ℕ) → k < ROWS → AreAt (byte_of page.now) (8 * k) 8 (row_bytes (get_or all (first + k) None)))
         → IsSameTo first all rows.old → IsOkAnd result (λ done. IsSameTo (first + ROWS) all rows.new) }
     ensures valid { OnOk result
-        ((k : ℕ) → k < ROWS → Stands (byte_of page.now) (8 * k) 8 (row_bytes (get_or rows.new (first + k) None))) }
+        ((k : ℕ) → k < ROWS → AreAt (byte_of page.now) (8 * k) 8 (row_bytes (get_or rows.new (first + k) None))) }
     ensures before { (b : ℕ) → b < first → get_or rows.new b None ≡ get_or rows.old b None }
     ensures after { (b : ℕ) → first + ROWS ≤ b → get_or rows.new b None ≡ get_or rows.old b None }
 {
@@ -58,12 +58,12 @@ fn put_rows(rows: &mut [Row], page: &[u8; PAGE], first: usize) -> Result<(), Dam
 fn fill(rows: &mut [Row], page: &[u8; PAGE], first: usize) -> Result<(), Damaged>
     requires few { first ≤ MOST_BLOCKS }
     requires free { IsFreeFrom first rows.old }
-    ensures said { (all : List (Option (ℕ × ℕ))) → length all ≡ length rows.old
+    ensures decoded { (all : List (Option (ℕ × ℕ))) → length all ≡ length rows.old
         → ((b : ℕ) → FitsRow (get_or all b None))
-        → ((k : ℕ) → k < ROWS → Stands (byte_of page.now) (8 * k) 8 (row_bytes (get_or all (first + k) None)))
+        → ((k : ℕ) → k < ROWS → AreAt (byte_of page.now) (8 * k) 8 (row_bytes (get_or all (first + k) None)))
         → IsSameTo first all rows.old → IsOkAnd result (λ done. IsSameTo (first + ROWS) all rows.new) }
     ensures valid { OnOk result
-        ((k : ℕ) → k < ROWS → Stands (byte_of page.now) (8 * k) 8 (row_bytes (get_or rows.new (first + k) None))) }
+        ((k : ℕ) → k < ROWS → AreAt (byte_of page.now) (8 * k) 8 (row_bytes (get_or rows.new (first + k) None))) }
     ensures before { (b : ℕ) → b < first → get_or rows.new b None ≡ get_or rows.old b None }
     ensures after { OnOk result (IsFreeFrom (first + ROWS) rows.new) }
 {
@@ -87,14 +87,14 @@ fn load_page<D: Disk>(
     ensures reads { OnlyReads D.Disk disk.old disk.new }
     ensures counts { Counts (IsErrOf result (LoadError.Stop Stop.DiskFault)) (D.failures disk.old)
         (D.failures disk.new) }
-    ensures said { (bytes : ℕ → ℕ) → ReadsGave bytes (D.reads disk.old) (D.reads disk.new)
+    ensures decoded { (bytes : ℕ → ℕ) → ReadsGave bytes (D.reads disk.old) (D.reads disk.new)
         → (all : List (Option (ℕ × ℕ))) → length all ≡ length rows.old → ((b : ℕ) → FitsRow (get_or all b None))
         → ((b : ℕ) → b < ROWS * (journal_pages layout.now - 257)
-        → Stands bytes (row_place layout.now b) 8 (row_bytes (get_or all b None)))
+        → AreAt bytes (row_place layout.now b) 8 (row_bytes (get_or all b None)))
         → IsSameTo (ROWS * page) all rows.old → Loads result (λ done. IsSameTo (ROWS * (page + 1)) all rows.new) }
     ensures valid { (bytes : ℕ → ℕ) → ReadsGave bytes (D.reads disk.old) (D.reads disk.new)
-        → StandRows bytes layout.now (ROWS * page) rows.old
-        → OnOk result (StandRows bytes layout.now (ROWS * (page + 1)) rows.new) }
+        → RowsAreAt bytes layout.now (ROWS * page) rows.old
+        → OnOk result (RowsAreAt bytes layout.now (ROWS * (page + 1)) rows.new) }
     ensures after { OnOk result (IsFreeFrom (ROWS * (page + 1)) rows.new) }
 {
     let mut bytes = [0; PAGE];
@@ -110,13 +110,13 @@ fn load_pages<D: Disk>(disk: &mut D, layout: &Layout, rows: &mut [Row]) -> Resul
     ensures reads { OnlyReads D.Disk disk.old disk.new }
     ensures counts { Counts (IsErrOf result (LoadError.Stop Stop.DiskFault)) (D.failures disk.old)
         (D.failures disk.new) }
-    ensures said { (bytes : ℕ → ℕ) → ReadsGave bytes (D.reads disk.old) (D.reads disk.new)
+    ensures decoded { (bytes : ℕ → ℕ) → ReadsGave bytes (D.reads disk.old) (D.reads disk.new)
         → (all : List (Option (ℕ × ℕ))) → length all ≡ length rows.old → ((b : ℕ) → FitsRow (get_or all b None))
         → ((b : ℕ) → b < ROWS * (journal_pages layout.now - 257)
-        → Stands bytes (row_place layout.now b) 8 (row_bytes (get_or all b None)))
+        → AreAt bytes (row_place layout.now b) 8 (row_bytes (get_or all b None)))
         → Loads result (λ done. IsSameTo (ROWS * (journal_pages layout.now - 257)) all rows.new) }
     ensures valid { (bytes : ℕ → ℕ) → ReadsGave bytes (D.reads disk.old) (D.reads disk.new)
-        → OnOk result (StandRows bytes layout.now (ROWS * (journal_pages layout.now - 257)) rows.new) }
+        → OnOk result (RowsAreAt bytes layout.now (ROWS * (journal_pages layout.now - 257)) rows.new) }
 {
     for page in 0..row_pages(layout) {
         load_page(disk, layout, rows, page)?;
@@ -135,13 +135,13 @@ pub(crate) fn load_rows<D: Disk>(
     ensures counts { Counts (IsErrOf result (LoadError.Stop Stop.DiskFault)) (D.failures disk.old)
         (D.failures disk.new) }
     ensures long { IfOk result (λ rows. length rows.items ≡ layout.now) }
-    ensures said { (bytes : ℕ → ℕ) → ReadsGave bytes (D.reads disk.old) (D.reads disk.new)
+    ensures decoded { (bytes : ℕ → ℕ) → ReadsGave bytes (D.reads disk.old) (D.reads disk.new)
         → (all : List (Option (ℕ × ℕ))) → length all ≡ layout.now → ((b : ℕ) → FitsRow (get_or all b None))
         → ((b : ℕ) → b < ROWS * (journal_pages layout.now - 257)
-        → Stands bytes (row_place layout.now b) 8 (row_bytes (get_or all b None)))
+        → AreAt bytes (row_place layout.now b) 8 (row_bytes (get_or all b None)))
         → Loads result (λ rows. rows.items ≡ all) }
     ensures valid { (bytes : ℕ → ℕ) → ReadsGave bytes (D.reads disk.old) (D.reads disk.new)
-        → IfOk result (λ rows. StandRows bytes layout.now (ROWS * (journal_pages layout.now - 257)) rows.items) }
+        → IfOk result (λ rows. RowsAreAt bytes layout.now (ROWS * (journal_pages layout.now - 257)) rows.items) }
 {
     let mut rows = vec![in alloc; None; layout.blocks() as usize]?;
     load_pages(disk, layout, &mut rows)?;

@@ -8,8 +8,8 @@ ghost use Rattle.spool_disk.specs.Disk.{Counts};
 ghost use Rattle.spool_disk.specs.Given.{ReadsGave};
 ghost use Rattle.spool_journal.specs.Image.{all_pages};
 ghost use Rattle.spool_load.specs.Faults.{Loads};
-ghost use Rattle.spool_load.specs.Reads.{OnlyReads, IsReadAt, StandsArea};
-ghost use Rattle.spool_pages.specs.View.{Stands, first_page, index_place};
+ghost use Rattle.spool_load.specs.Reads.{OnlyReads, IsReadAt, AreaIsAt};
+ghost use Rattle.spool_pages.specs.View.{AreAt, first_page, index_place};
 
 use crate::LoadError;
 use common::Stop;
@@ -36,10 +36,10 @@ pub(crate) fn check_first<D: Disk>(disk: &mut D, layout: &Layout) -> Result<(), 
     ensures reads { OnlyReads D.Disk disk.old disk.new }
     ensures counts { Counts (IsErrOf result (LoadError.Stop Stop.DiskFault)) (D.failures disk.old)
         (D.failures disk.new) }
-    ensures said { (bytes : ℕ → ℕ) → ReadsGave bytes (D.reads disk.old) (D.reads disk.new)
-        → Stands bytes 0 PAGE (first_page layout.now) → Loads result (λ done. Unit {0}) }
+    ensures decoded { (bytes : ℕ → ℕ) → ReadsGave bytes (D.reads disk.old) (D.reads disk.new)
+        → AreAt bytes 0 PAGE (first_page layout.now) → Loads result (λ done. Unit {0}) }
     ensures valid { (bytes : ℕ → ℕ) → ReadsGave bytes (D.reads disk.old) (D.reads disk.new)
-        → OnOk result (Stands bytes 0 PAGE (first_page layout.now)) }
+        → OnOk result (AreAt bytes 0 PAGE (first_page layout.now)) }
 {
     let mut page = [0; PAGE];
     read_at(disk, 0, &mut page)?;
@@ -100,13 +100,13 @@ pub(crate) fn load_indexes<D: Disk>(
     ensures reads { OnlyReads D.Disk disk.old disk.new }
     ensures counts { Counts (IsErrOf result (LoadError.Stop Stop.DiskFault)) (D.failures disk.old)
         (D.failures disk.new) }
-    ensures said { (bytes : ℕ → ℕ) → ReadsGave bytes (D.reads disk.old) (D.reads disk.new)
+    ensures decoded { (bytes : ℕ → ℕ) → ReadsGave bytes (D.reads disk.old) (D.reads disk.new)
         → (x : Indexes) → IsIndexSet x
         → ((i : ℕ) → i < 90112 → bytes (index_place layout.now + i) ≡ area_byte x i)
         → Loads result (λ set. set ≡ x) }
     ensures set { IfOk result IsIndexSet }
     ensures valid { (bytes : ℕ → ℕ) → ReadsGave bytes (D.reads disk.old) (D.reads disk.new)
-        → IfOk result (StandsArea bytes layout.now) }
+        → IfOk result (AreaIsAt bytes layout.now) }
 {
     let area = load_area(alloc, disk, layout)?;
     match IndexSet::from_area(alloc, &area) {

@@ -9,13 +9,13 @@ use Rattle.common.specs.declared.limits.TheConstants.{ROWS, SLOTS}
 use Rattle.spool_journal.specs.declared.TheConstants.{PAGE}
 use Rattle.spool_pages.proofs.PageIn.{number_none}
 use Rattle.spool_journal.proofs.Over.{over_hit, over_pass, over_none}
-use Rattle.spool_pages.specs.Changes.{page_in, Said, Changes, state_number, record_number, row_number}
+use Rattle.spool_pages.specs.Changes.{page_in, UpdatedBy, Changes, state_number, record_number, row_number}
 use Rattle.spool_pages.specs.Rests.{Rests, HasTexts}
-use Rattle.spool_pages.specs.View.{SlotRecord, View, Stands, Says, state_page, slot_bytes, row_bytes, slot_at}
+use Rattle.spool_pages.specs.View.{SlotRecord, View, AreAt, Encodes, state_page, slot_bytes, row_bytes, slot_at}
 use Rattle.spool_pages.specs.View.{index_place, state_place, slot_place, row_place}
 use Rattle.spool_pages.specs.declared.version.Version.{Version}
-use Rattle.spool_pages.proofs.Resting.{rests_says}
-use Rattle.spool_pages.proofs.Says.{shown_same}
+use Rattle.spool_pages.proofs.Resting.{rests_encodes}
+use Rattle.spool_pages.proofs.Encodes.{shown_same}
 
 -- where the page of this number is among them
 record PageAt (n : ℕ) (pages : List (ℕ × List ℕ)) (bytes : List ℕ) : Type 0 where
@@ -74,62 +74,62 @@ module _ (pages : List (ℕ × List ℕ)) (base : ℕ → ℕ) where
       (λ k lt e. away (rw e at (inside k lt)))
 
   -- the bytes of a page that is laid over, or those that were there
-  pub stands_said : {A : Type 0} (bytes_of : A → List ℕ) (old new : A) (page at size place : ℕ) → Ascends pages
+  pub at_or_same : {A : Type 0} (bytes_of : A → List ℕ) (old new : A) (page at size place : ℕ) → Ascends pages
       → at + size ≤ PAGE → place ≡ PAGE * page + at
-      → Said (page_in page pages) (λ bytes x. Stands (byte_of bytes) at size (bytes_of x)) old new
-      → Stands base place size (bytes_of old) → Stands (laid pages base) place size (bytes_of new)
-  stands_said {A = A} bytes_of old new page at size place ascends fits here said stood =
-      by_page (page_in page pages) refl said
+      → UpdatedBy (page_in page pages) (λ bytes x. AreAt (byte_of bytes) at size (bytes_of x)) old new
+      → AreAt base place size (bytes_of old) → AreAt (laid pages base) place size (bytes_of new)
+  at_or_same {A = A} bytes_of old new page at size place ascends fits here encoded stood =
+      by_page (page_in page pages) refl encoded
     where
-      by_page : (o : Option (List ℕ)) → page_in page pages ≡ o → Said o
-          (λ bytes x. Stands (byte_of bytes) at size (bytes_of x)) old new
-          → Stands (laid pages base) place size (bytes_of new)
+      by_page : (o : Option (List ℕ)) → page_in page pages ≡ o → UpdatedBy o
+          (λ bytes x. AreAt (byte_of bytes) at size (bytes_of x)) old new
+          → AreAt (laid pages base) place size (bytes_of new)
       by_page None none same = record {
         each = λ i lt. laid_none page (place + i) none (omega (arith, here, fits, lt)) ∙ stood.each i lt
             ∙ ap (λ (x : A). byte_of (bytes_of x) i) (sym same);
       }
-      by_page (Some bytes) some says = record {
+      by_page (Some bytes) some encodes = record {
         each = λ i lt.
             let within : (place + i) % PAGE ≡ at + i = omega (arith, here, fits, lt) in
             laid_some page (place + i) bytes ascends some (omega (arith, here, fits, lt)) ∙ ap (byte_of bytes) within
-            ∙ says.each i lt;
+            ∙ encodes.each i lt;
       }
 
 -- WHAT THE CHANGED PAGES SAY
 
 module _ (pages : List (ℕ × List ℕ)) (current : ℕ → ℕ) (v v' : View)
     (inside : InArea (journal_pages v.blocks) pages) (ascends : Ascends pages) (changes : Changes pages v v')
-    (texts : HasTexts current v') (says : Says current v) where
+    (texts : HasTexts current v') (encodes : Encodes current v) where
   out : (p : ℕ) → (InMeta (journal_pages v.blocks) (p / PAGE) → ⊥) → laid pages current p ≡ current p
   out p away = laid_out pages current (journal_pages v.blocks) p inside away
 
   same_journal : journal_pages v'.blocks ≡ journal_pages v.blocks
   same_journal = ap journal_pages changes.others.blocks
 
-  state_there : Stands (laid pages current) (state_place v.blocks) PAGE (state_page v'.version v'.next)
-  state_there = stands_said pages current (λ (s : Version × ℕ). state_page s.0 s.1) (v.version, v.next)
+  state_there : AreAt (laid pages current) (state_place v.blocks) PAGE (state_page v'.version v'.next)
+  state_there = at_or_same pages current (λ (s : Version × ℕ). state_page s.0 s.1) (v.version, v.next)
       (v'.version, v'.next) (state_number v.blocks) 0 PAGE (state_place v.blocks) ascends (omega arith) (omega arith)
-      changes.others.state says.state
+      changes.others.state encodes.state
 
-  slot_there : (s : ℕ) → s < SLOTS → Stands (laid pages current) (slot_place v.blocks s) 2048
+  slot_there : (s : ℕ) → s < SLOTS → AreAt (laid pages current) (slot_place v.blocks s) 2048
       (slot_bytes v'.version (slot_at v' s))
-  slot_there s lt = stands_said pages current (λ (x : Version × Option SlotRecord). slot_bytes x.0 x.1)
+  slot_there s lt = at_or_same pages current (λ (x : Version × Option SlotRecord). slot_bytes x.0 x.1)
       (v.version, slot_at v s) (v'.version, slot_at v' s) (record_number v.blocks s) (2048 * (s % 2)) 2048
-      (slot_place v.blocks s) ascends (omega arith) (omega arith) (changes.others.slots s lt) (says.slots s lt)
+      (slot_place v.blocks s) ascends (omega arith) (omega arith) (changes.others.slots s lt) (encodes.slots s lt)
 
-  row_there : (b : ℕ) → b < ROWS * (journal_pages v.blocks - 257) → Stands (laid pages current) (row_place v.blocks b) 8
+  row_there : (b : ℕ) → b < ROWS * (journal_pages v.blocks - 257) → AreAt (laid pages current) (row_place v.blocks b) 8
       (row_bytes (get_or v'.rows b None))
-  row_there b lt = stands_said pages current row_bytes (get_or v.rows b None) (get_or v'.rows b None)
+  row_there b lt = at_or_same pages current row_bytes (get_or v.rows b None) (get_or v'.rows b None)
       (row_number v.blocks b) (8 * (b % ROWS)) 8 (row_place v.blocks b) ascends (omega arith) (omega arith)
-      (changes.rows b lt) (says.rows b lt)
+      (changes.rows b lt) (encodes.rows b lt)
 
-  laid_says : Says (laid pages current) v'
-  laid_says = record {
+  laid_encodes : Encodes (laid pages current) v'
+  laid_encodes = record {
     first = rw changes.others.blocks (record {
-      each = λ i lt. out (0 + i) (λ within. omega (arith, within.from, lt)) ∙ says.first.each i lt;
+      each = λ i lt. out (0 + i) (λ within. omega (arith, within.from, lt)) ∙ encodes.first.each i lt;
     });
     area = λ i lt. rw (changes.others.blocks, changes.others.indexes)
-        (out (index_place v.blocks + i) (λ within. omega (arith, within.from, lt)) ∙ says.area i lt);
+        (out (index_place v.blocks + i) (λ within. omega (arith, within.from, lt)) ∙ encodes.area i lt);
     state = rw changes.others.blocks state_there;
     slots = λ s lt. rw changes.others.blocks (slot_there s lt);
     rows = λ b lt. rw changes.others.blocks (row_there b (omega (arith, lt, same_journal)));
@@ -139,9 +139,9 @@ module _ (pages : List (ℕ × List ℕ)) (current : ℕ → ℕ) (v v' : View)
   }
 
 -- a commit of them makes the new view of the old one
-pub changed_says : {n : ℕ} {pages : List (ℕ × List ℕ)} {current : ℕ → ℕ} {unsynced : ℕ → Type 0} {v v' : View}
+pub changed_encodes : {n : ℕ} {pages : List (ℕ × List ℕ)} {current : ℕ → ℕ} {unsynced : ℕ → Type 0} {v v' : View}
     → v.blocks ≡ n
     → InArea (journal_pages n) pages → Rests v current unsynced → Ascends pages → Changes pages v v'
-    → HasTexts current v' → Says (laid pages current) v'
-changed_says {pages = pages} {current = current} {v = v} {v' = v'} size inside rests ascends changes texts =
-    laid_says pages current v v' (rw size inside) ascends changes texts (rests_says rests)
+    → HasTexts current v' → Encodes (laid pages current) v'
+changed_encodes {pages = pages} {current = current} {v = v} {v' = v'} size inside rests ascends changes texts =
+    laid_encodes pages current v v' (rw size inside) ascends changes texts (rests_encodes rests)

@@ -1,7 +1,7 @@
 pub mod Bytes
 pub mod Blank
 pub mod Numbers
-pub mod Says
+pub mod Encodes
 pub mod RecordBytes
 pub mod RowBytes
 pub mod PageIn

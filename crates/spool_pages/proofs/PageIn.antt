@@ -4,7 +4,7 @@ use Rattle.std.proofs.Common.{length, get_or, refl, sym, ◌∙◌, ap, arith, �
 use Rattle.std.specs.List.{insert}
 use Rattle.std.proofs.lemmas.Bool.{cases_eq}
 use Rattle.std.proofs.lemmas.Bool.Decides.{nat_tests}
-use Rattle.spool_journal.specs.Image.{IsPut, page_number}
+use Rattle.spool_journal.specs.Image.{IsPagePut, page_number}
 use Rattle.spool_pages.specs.Changes.{page_in}
 
 -- BY NUMBER
@@ -92,10 +92,10 @@ none_same q old new long numbers none =
 -- A PAGE PUT AMONG THEM
 
 module _ {old : List (ℕ × List ℕ)} {page : ℕ} {bytes : List ℕ} {new : List (ℕ × List ℕ)} where
-  pub in_put : IsPut old page bytes new → page_in page old ≡ None → page_in page new ≡ Some bytes
+  pub in_put : IsPagePut old page bytes new → page_in page old ≡ None → page_in page new ≡ Some bytes
   in_put is none = ap (page_in page) is.put ∙ put_here page bytes old is.at none
 
-  pub in_put_else : IsPut old page bytes new → (q : ℕ) → (page ≡ q → ⊥) → page_in q new ≡ page_in q old
+  pub in_put_else : IsPagePut old page bytes new → (q : ℕ) → (page ≡ q → ⊥) → page_in q new ≡ page_in q old
   in_put_else is q other = ap (page_in q) is.put ∙ put_else page bytes q other old is.at
 
 pub in_none : (q : ℕ) (pages : List (ℕ × List ℕ)) → pages ≡ [] → page_in q pages ≡ None

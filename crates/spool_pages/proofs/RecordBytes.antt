@@ -10,7 +10,7 @@ use Rattle.common.specs.declared.limits.TheConstants.{MOST_METADATA}
 use Rattle.spool_journal.specs.Image.{byte_of}
 use Rattle.spool_pages.specs.Bytes.{IsPadded}
 use Rattle.spool_pages.proofs.Bytes.{padded_zeros}
-use Rattle.spool_pages.specs.View.{SlotRecord, Stands, length_number, length_tag, record_bytes, slot_bytes}
+use Rattle.spool_pages.specs.View.{SlotRecord, AreAt, length_number, length_tag, record_bytes, slot_bytes}
 use Rattle.spool_pages.specs.declared.version.Version.{Version}
 use Rattle.spool_pages.specs.declared.version.Version.TheVariants.{One, Two}
 use Rattle.spool_pages.specs.Fits.{FitsLength, FitsSlotOf}
@@ -65,17 +65,17 @@ module _ (version : Version) (r : SlotRecord) where
 
 -- PARTS
 
-pub stands_prefix : {f : ℕ → ℕ} {place size : ℕ} (xs ys : List ℕ) (k : ℕ) → length xs ≡ k → k ≤ size
-    → Stands f place size (xs ++ ys) → Stands f place k xs
-stands_prefix xs ys k long fits stands = record { each = λ i lt. grind (arith, common_steps, stands.each i) }
+pub at_prefix : {f : ℕ → ℕ} {place size : ℕ} (xs ys : List ℕ) (k : ℕ) → length xs ≡ k → k ≤ size
+    → AreAt f place size (xs ++ ys) → AreAt f place k xs
+at_prefix xs ys k long fits are_at = record { each = λ i lt. grind (arith, common_steps, are_at.each i) }
 
-pub stands_beyond : {f : ℕ → ℕ} {place size : ℕ} (xs ys : List ℕ) (k m : ℕ) → length xs ≡ k → k + m ≤ size
-    → Stands f place size (xs ++ ys) → Stands f (place + k) m ys
-stands_beyond xs ys k m long fits stands = record { each = λ i lt. grind (arith, common_steps, stands.each (k + i)) }
+pub at_beyond : {f : ℕ → ℕ} {place size : ℕ} (xs ys : List ℕ) (k m : ℕ) → length xs ≡ k → k + m ≤ size
+    → AreAt f place size (xs ++ ys) → AreAt f (place + k) m ys
+at_beyond xs ys k m long fits are_at = record { each = λ i lt. grind (arith, common_steps, are_at.each (k + i)) }
 
-pub stands_both : {f : ℕ → ℕ} {place : ℕ} (xs ys : List ℕ) (k m : ℕ) → length xs ≡ k → Stands f place k xs
-    → Stands f (place + k) m ys → Stands f place (k + m) (xs ++ ys)
-stands_both xs ys k m long first second = record {
+pub at_both : {f : ℕ → ℕ} {place : ℕ} (xs ys : List ℕ) (k m : ℕ) → length xs ≡ k → AreAt f place k xs
+    → AreAt f (place + k) m ys → AreAt f place (k + m) (xs ++ ys)
+at_both xs ys k m long first second = record {
   each = λ i lt. grind (arith, common_steps, cases_lt, first.each i, second.each (i - k));
 }
 
@@ -83,23 +83,23 @@ pub length-range : (bytes : List ℕ) (at end : ℕ) → end ≤ length bytes �
 length-range bytes at end fits = grind (arith, common_steps)
 
 -- the bytes of a range stand there
-pub range_stands : (bytes : List ℕ) (at end size : ℕ) → at + size ≡ end
-    → Stands (byte_of bytes) at size (slice_range bytes at end)
-range_stands bytes at end size is = record { each = λ i lt. grind (arith, common_steps) }
+pub range_at : (bytes : List ℕ) (at end size : ℕ) → at + size ≡ end
+    → AreAt (byte_of bytes) at size (slice_range bytes at end)
+range_at bytes at end size is = record { each = λ i lt. grind (arith, common_steps) }
 
-pub padded_stands : {page xs : List ℕ} (size : ℕ) → IsPadded page xs → Stands (byte_of page) 0 size xs
-padded_stands size padded = record { each = λ i lt. grind (arith, padded.each i) }
+pub padded_at : {page xs : List ℕ} (size : ℕ) → IsPadded page xs → AreAt (byte_of page) 0 size xs
+padded_at size padded = record { each = λ i lt. grind (arith, padded.each i) }
 
 -- zeros stand where nothing stands
 module _ {f : ℕ → ℕ} {place : ℕ} (n : ℕ) where
-  pub to_zeros : Stands f place n [] → Stands f place n (replicate n 0)
-  to_zeros stands = record { each = λ i lt. grind (arith, common_steps, stands.each i) }
+  pub to_zeros : AreAt f place n [] → AreAt f place n (replicate n 0)
+  to_zeros are_at = record { each = λ i lt. grind (arith, common_steps, are_at.each i) }
 
-  pub of_zeros : Stands f place n (replicate n 0) → Stands f place n []
-  of_zeros stands = record { each = λ i lt. grind (arith, common_steps, stands.each i) }
+  pub of_zeros : AreAt f place n (replicate n 0) → AreAt f place n []
+  of_zeros are_at = record { each = λ i lt. grind (arith, common_steps, are_at.each i) }
 
-one_stands : {f : ℕ → ℕ} {place x : ℕ} → f place ≡ x → Stands f place 1 (x ∷ [])
-one_stands e = record { each = λ i lt. grind (arith, common_steps) }
+one_at : {f : ℕ → ℕ} {place x : ℕ} → f place ≡ x → AreAt f place 1 (x ∷ [])
+one_at e = record { each = λ i lt. grind (arith, common_steps) }
 
 -- a length's number fits its eight bytes
 pub number_fits : (version : Version) (declared : Option ℕ) → FitsLength declared
@@ -110,14 +110,14 @@ number_fits Two None fits = omega arith
 
 -- where a record's parts stand
 pub record PartsAt (f : ℕ → ℕ) (version : Version) (r : SlotRecord) : Type 0 where
-  pub number : Stands f 0 8 (to_be_bytes w64 r.number)
-  pub declared : Stands f 8 8 (to_be_bytes w64 (length_number version r.declared))
-  pub accepted : Stands f 16 8 (to_be_bytes w64 r.accepted)
-  pub text_len : Stands f 24 8 (to_be_bytes w64 r.text_len)
-  pub state : Stands f 32 32 r.state
-  pub metadata_len : Stands f 64 2 (to_be_bytes w16 (length r.metadata))
-  pub metadata : Stands f 66 (length r.metadata) r.metadata
-  pub room : Stands f (66 + length r.metadata) (MOST_METADATA - length r.metadata) []
+  pub number : AreAt f 0 8 (to_be_bytes w64 r.number)
+  pub declared : AreAt f 8 8 (to_be_bytes w64 (length_number version r.declared))
+  pub accepted : AreAt f 16 8 (to_be_bytes w64 r.accepted)
+  pub text_len : AreAt f 24 8 (to_be_bytes w64 r.text_len)
+  pub state : AreAt f 32 32 r.state
+  pub metadata_len : AreAt f 64 2 (to_be_bytes w16 (length r.metadata))
+  pub metadata : AreAt f 66 (length r.metadata) r.metadata
+  pub room : AreAt f (66 + length r.metadata) (MOST_METADATA - length r.metadata) []
   pub tag : f 1602 ≡ length_tag version r.declared
 
 module _ (f : ℕ → ℕ) (version : Version) (r : SlotRecord) (size : length r.state ≡ 32)
@@ -125,57 +125,57 @@ module _ (f : ℕ → ℕ) (version : Version) (r : SlotRecord) (size : length r
   at : 0 + (66 + length r.metadata) ≡ 66 + length r.metadata
   at = omega arith
 
-  pub parts_of : Stands f 0 2048 (record_bytes version r) → PartsAt f version r
+  pub parts_of : AreAt f 0 2048 (record_bytes version r) → PartsAt f version r
   parts_of whole =
       let all = rw (sym (record_is version r)) at whole in
       let long = length-metadata_end version r size in
-      let room = stands_prefix (room_end version r) _ 1602 (length-room_end version r size few) (omega arith) all in
-      let metadata = stands_prefix (metadata_end version r) _ (66 + length r.metadata) long (omega (arith, few)) room in
-      let head = stands_prefix (head_of version r) _ 66 (length-head version r size) (omega arith) metadata in
-      let state = stands_prefix (state_end version r) _ 64 (length-state_end version r size) (omega arith) head in
-      let four = stands_prefix (four_of version r) _ 32 refl (omega arith) state in
-      let three = stands_prefix (three_of version r) _ 24 refl (omega arith) four in
-      let two = stands_prefix (two_of version r) _ 16 refl (omega arith) three in
-      let tag = stands_beyond (room_end version r) _ 1602 1 (length-room_end version r size few) (omega arith) all in
+      let room = at_prefix (room_end version r) _ 1602 (length-room_end version r size few) (omega arith) all in
+      let metadata = at_prefix (metadata_end version r) _ (66 + length r.metadata) long (omega (arith, few)) room in
+      let head = at_prefix (head_of version r) _ 66 (length-head version r size) (omega arith) metadata in
+      let state = at_prefix (state_end version r) _ 64 (length-state_end version r size) (omega arith) head in
+      let four = at_prefix (four_of version r) _ 32 refl (omega arith) state in
+      let three = at_prefix (three_of version r) _ 24 refl (omega arith) four in
+      let two = at_prefix (two_of version r) _ 16 refl (omega arith) three in
+      let tag = at_beyond (room_end version r) _ 1602 1 (length-room_end version r size few) (omega arith) all in
       record {
-        number = stands_prefix (to_be_bytes w64 r.number) _ 8 refl (omega arith) two;
-        declared = stands_beyond (to_be_bytes w64 r.number) _ 8 8 refl (omega arith) two;
-        accepted = stands_beyond (two_of version r) _ 16 8 refl (omega arith) three;
-        text_len = stands_beyond (three_of version r) _ 24 8 refl (omega arith) four;
-        state = stands_beyond (four_of version r) _ 32 32 refl (omega arith) state;
-        metadata_len = stands_beyond (state_end version r) _ 64 2 (length-state_end version r size) (omega arith) head;
-        metadata = stands_beyond (head_of version r) _ 66 (length r.metadata) (length-head version r size) (omega arith)
+        number = at_prefix (to_be_bytes w64 r.number) _ 8 refl (omega arith) two;
+        declared = at_beyond (to_be_bytes w64 r.number) _ 8 8 refl (omega arith) two;
+        accepted = at_beyond (two_of version r) _ 16 8 refl (omega arith) three;
+        text_len = at_beyond (three_of version r) _ 24 8 refl (omega arith) four;
+        state = at_beyond (four_of version r) _ 32 32 refl (omega arith) state;
+        metadata_len = at_beyond (state_end version r) _ 64 2 (length-state_end version r size) (omega arith) head;
+        metadata = at_beyond (head_of version r) _ 66 (length r.metadata) (length-head version r size) (omega arith)
             metadata;
-        room = rw at at (of_zeros (MOST_METADATA - length r.metadata) (stands_beyond (metadata_end version r) _
+        room = rw at at (of_zeros (MOST_METADATA - length r.metadata) (at_beyond (metadata_end version r) _
             (66 + length r.metadata) (MOST_METADATA - length r.metadata) long (omega (arith, few)) room));
         tag = tag.each 0 (omega arith);
       }
 
-  pub of_parts : PartsAt f version r → Stands f 0 1603 (record_bytes version r)
+  pub of_parts : PartsAt f version r → AreAt f 0 1603 (record_bytes version r)
   of_parts parts =
-      let two = stands_both (to_be_bytes w64 r.number) _ 8 8 refl parts.number parts.declared in
-      let three = stands_both (two_of version r) _ 16 8 refl two parts.accepted in
-      let four = stands_both (three_of version r) _ 24 8 refl three parts.text_len in
-      let state = stands_both (four_of version r) _ 32 32 refl four parts.state in
+      let two = at_both (to_be_bytes w64 r.number) _ 8 8 refl parts.number parts.declared in
+      let three = at_both (two_of version r) _ 16 8 refl two parts.accepted in
+      let four = at_both (three_of version r) _ 24 8 refl three parts.text_len in
+      let state = at_both (four_of version r) _ 32 32 refl four parts.state in
       let head =
-      stands_both (state_end version r) _ 64 2 (length-state_end version r size) state parts.metadata_len in
+      at_both (state_end version r) _ 64 2 (length-state_end version r size) state parts.metadata_len in
       let metadata =
-      stands_both (head_of version r) _ 66 (length r.metadata) (length-head version r size) head parts.metadata in
-      let room = stands_both (metadata_end version r) _ (66 + length r.metadata) (MOST_METADATA - length r.metadata)
+      at_both (head_of version r) _ 66 (length r.metadata) (length-head version r size) head parts.metadata in
+      let room = at_both (metadata_end version r) _ (66 + length r.metadata) (MOST_METADATA - length r.metadata)
       (length-metadata_end version r size) metadata (to_zeros (MOST_METADATA - length r.metadata)
       (rw (sym at) at parts.room)) in
       let full : 66 + length r.metadata + (MOST_METADATA - length r.metadata) ≡ 1602 = omega (arith, few) in
-      rw (record_is version r) at (stands_both (room_end version r) _ 1602 1 (length-room_end version r size few)
-      (rw full at room) (one_stands parts.tag))
+      rw (record_is version r) at (at_both (room_end version r) _ 1602 1 (length-room_end version r size few)
+      (rw full at room) (one_at parts.tag))
 
 -- the bytes of a range
-pub range_is : (bytes xs : List ℕ) (at end size : ℕ) → Stands (byte_of bytes) at size xs → length xs ≤ size
+pub range_is : (bytes xs : List ℕ) (at end size : ℕ) → AreAt (byte_of bytes) at size xs → length xs ≤ size
     → at + length xs ≡ end → end ≤ length bytes → slice_range bytes at end ≡ xs
-range_is bytes xs at end size stands few is fits =
+range_is bytes xs at end size are_at few is fits =
     ext_get_or 0 (slice_range bytes at end) xs (grind (arith, common_steps))
-    (λ i lt. grind (arith, common_steps, stands.each i, length-range bytes at end fits))
+    (λ i lt. grind (arith, common_steps, are_at.each i, length-range bytes at end fits))
 
-pub no_number : (bytes : List ℕ) → IsPadded bytes [] → Stands (byte_of bytes) 0 8 (to_be_bytes w64 0)
+pub no_number : (bytes : List ℕ) → IsPadded bytes [] → AreAt (byte_of bytes) 0 8 (to_be_bytes w64 0)
 no_number bytes padded = record { each = λ i lt. grind (arith, padded.each i, (padded_zeros 8).each i) }
 
 pub record_eq : (r : SlotRecord) (n : ℕ) (d : Option ℕ) (a t : ℕ) (s m : List ℕ) → n ≡ r.number → d ≡ r.declared → a

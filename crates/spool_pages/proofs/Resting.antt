@@ -2,17 +2,17 @@
 use Rattle.std.proofs.Common.{◌≡◌, inl, inr, ℕ, zero, suc, ◌+◌, ◌*◌, ◌/◌, ◌≤◌, ◌++◌, Bool, true, false, cond, List, []}
 use Rattle.std.proofs.Common.{◌∷◌, Option, None, Some, get_or, take, refl, sym, ◌∙◌, ap, arith, ⊎_elim}
 use Rattle.spool_journal.specs.declared.TheConstants.{PAGE}
-use Rattle.spool_disk.specs.Disk.{IsImage, Keeps}
+use Rattle.spool_disk.specs.Disk.{IsImage, Preserves}
 use Rattle.spool_disk.proofs.Span.{span_same}
 use Rattle.spool_journal.specs.Image.{journal_pages, Outside, overlaid, text_page}
 use Rattle.spool_journal.specs.Phases.{Idle, Settled, IsBefore, ReadsAs}
-use Rattle.spool_texts.specs.Texts.{owns, block_at, block_bytes, joined, text_shown}
+use Rattle.spool_texts.specs.Texts.{owns, block_at, block_bytes, joined_blocks, text_shown}
 use Rattle.spool_journal.proofs.Gate.{shut_view}
 use Rattle.spool_texts.specs.Written.{InBlocks, WritesIn, IsImageBut, aside_blocks}
 use Rattle.spool_texts.proofs.Asides.{aside_blocks_else}
 use Rattle.spool_pages.specs.Rests.{OnFree, Rests, Unowned}
-use Rattle.spool_pages.specs.View.{View, Says, IsViewOf, index_place, state_place, slot_place, row_place}
-use Rattle.spool_pages.proofs.Says.{some_journal, stands_same, says_same}
+use Rattle.spool_pages.specs.View.{View, Encodes, IsViewOf, index_place, state_place, slot_place, row_place}
+use Rattle.spool_pages.proofs.Encodes.{some_journal, at_same, encodes_same}
 
 -- TEXTS
 
@@ -41,11 +41,11 @@ module _ (a b : ℕ → ℕ) (first : ℕ) where
       either false y z here rest = rest
 
   owned_joined : (rows : List (Option (ℕ × ℕ))) → AgreeFrom 0 rows → (slot ordinal n : ℕ)
-      → joined a first rows slot ordinal n ≡ joined b first rows slot ordinal n
-  unfolding joined
+      → joined_blocks a first rows slot ordinal n ≡ joined_blocks b first rows slot ordinal n
+  unfolding joined_blocks
   owned_joined rows agree slot ordinal zero = refl
   owned_joined rows agree slot ordinal (suc n) =
-      ap (λ (xs : List ℕ). xs ++ joined a first rows slot (ordinal + 1) n) (owned_block slot ordinal rows 0 agree)
+      ap (λ (xs : List ℕ). xs ++ joined_blocks a first rows slot (ordinal + 1) n) (owned_block slot ordinal rows 0 agree)
       ∙ ap (λ (xs : List ℕ). block_bytes b first (block_at slot ordinal rows 0) ++ xs)
       (owned_joined rows agree slot (ordinal + 1) n)
 
@@ -63,37 +63,37 @@ pub not_free : (v : View) (p : ℕ) → p / PAGE + 1 ≤ text_page v.blocks → 
 not_free v p below free = omega (arith, free.here, below)
 
 -- neither gate and journal nor the blocks that no row owns matter
-pub says_frees : (a b : ℕ → ℕ) (v : View)
-    → ((p : ℕ) → Outside (journal_pages v.blocks) p → (OnFree v p → ⊥) → a p ≡ b p) → Says b v → Says a v
-says_frees a b v same says =
+pub encodes_frees : (a b : ℕ → ℕ) (v : View)
+    → ((p : ℕ) → Outside (journal_pages v.blocks) p → (OnFree v p → ⊥) → a p ≡ b p) → Encodes b v → Encodes a v
+encodes_frees a b v same encodes =
     let j = some_journal v.blocks in
     record {
-      first = stands_same (λ i lt. same (0 + i) (inl (omega (arith, lt))) (not_free v _ (omega (arith, lt))))
-          says.first;
+      first = at_same (λ i lt. same (0 + i) (inl (omega (arith, lt))) (not_free v _ (omega (arith, lt))))
+          encodes.first;
       area = λ i lt. same (index_place v.blocks + i) (inr (omega arith)) (not_free v _ (omega (arith, lt, j)))
-          ∙ says.area i lt;
-      state = stands_same (λ i lt. same (state_place v.blocks + i) (inr (omega arith))
-          (not_free v _ (omega (arith, lt, j)))) says.state;
-      slots = λ s lt. stands_same
+          ∙ encodes.area i lt;
+      state = at_same (λ i lt. same (state_place v.blocks + i) (inr (omega arith))
+          (not_free v _ (omega (arith, lt, j)))) encodes.state;
+      slots = λ s lt. at_same
           (λ i below. same (slot_place v.blocks s + i) (inr (omega arith)) (not_free v _ (omega (arith, lt, below, j))))
-          (says.slots s lt);
-      rows = λ r lt. stands_same
+          (encodes.slots s lt);
+      rows = λ r lt. at_same
           (λ i below. same (row_place v.blocks r + i) (inr (omega arith)) (not_free v _ (omega (arith, lt, below, j))))
-          (says.rows r lt);
-      texts = λ s r e. says.texts s r e ∙ sym
+          (encodes.rows r lt);
+      texts = λ s r e. encodes.texts s r e ∙ sym
           (owned_shown a b (text_page v.blocks) v.rows
           (λ x p owned here. same p (inr (omega (arith, here, j)))
           (λ free. owned (grind (arith, free.here, free.free))))
           s r.text_len);
     }
 
-pub shut_says : (image : ℕ → ℕ) (v : View) → (image PAGE ≡ 165 → ⊥) → IsViewOf image v → Says image v
-shut_says image v shut is = says_same image (overlaid image) v (λ p outside. sym (shut_view image p shut)) is.says
+pub shut_encodes : (image : ℕ → ℕ) (v : View) → (image PAGE ≡ 165 → ⊥) → IsViewOf image v → Encodes image v
+shut_encodes image v shut is = encodes_same image (overlaid image) v (λ p outside. sym (shut_view image p shut)) is.encodes
 
-pub shut_is : (image : ℕ → ℕ) (v : View) → (image PAGE ≡ 165 → ⊥) → Says image v → IsViewOf image v
-shut_is image v shut says = record {
+pub shut_is : (image : ℕ → ℕ) (v : View) → (image PAGE ≡ 165 → ⊥) → Encodes image v → IsViewOf image v
+shut_is image v shut encodes = record {
   form = λ ajar. absurd (shut ajar);
-  says = says_same (overlaid image) image v (λ p outside. shut_view image p shut) says;
+  encodes = encodes_same (overlaid image) image v (λ p outside. shut_view image p shut) encodes;
 }
 
 -- a place in a block that no row owns
@@ -108,13 +108,13 @@ in_free {blocks = blocks} p size unowned within = record {
 -- A SPOOL AT REST
 
 module _ {v : View} {current : ℕ → ℕ} {unsynced : ℕ → Type 0} where
-  pub rests_says : Rests v current unsynced → Says current v
-  rests_says rests = shut_says current v rests.closed rests.is
+  pub rests_encodes : Rests v current unsynced → Encodes current v
+  rests_encodes rests = shut_encodes current v rests.closed rests.is
 
   -- an image that agrees with it but for gate, journal and the blocks that no row owns
   pub rests_is : (image : ℕ → ℕ) → Rests v current unsynced → (image PAGE ≡ 165 → ⊥)
       → ((p : ℕ) → Outside (journal_pages v.blocks) p → (OnFree v p → ⊥) → image p ≡ current p) → IsViewOf image v
-  rests_is image rests shut same = shut_is image v shut (says_frees image current v same (rests_says rests))
+  rests_is image rests shut same = shut_is image v shut (encodes_frees image current v same (rests_encodes rests))
 
   pub rests_agrees : (image : ℕ → ℕ) → Rests v current unsynced → ((p : ℕ) → (OnFree v p → ⊥) → image p ≡ current p)
       → IsViewOf image v
@@ -125,13 +125,13 @@ module _ {v : View} {current : ℕ → ℕ} {unsynced : ℕ → Type 0} where
   pub rests_image : (image : ℕ → ℕ) → Rests v current unsynced → IsImage current unsynced image → IsViewOf image v
   rests_image image rests is = rests_agrees image rests (λ p taken. is.same p (λ l. taken (rests.is_synced p l)))
 
-  pub rests_keeps : {current' : ℕ → ℕ} {unsynced' : ℕ → Type 0} → Rests v current unsynced
-      → Keeps current current' unsynced unsynced'
+  pub rests_preserve : {current' : ℕ → ℕ} {unsynced' : ℕ → Type 0} → Rests v current unsynced
+      → Preserves current current' unsynced unsynced'
       → Rests v current' unsynced'
-  rests_keeps {current' = current'} rests keeps = record {
-    closed = λ ajar. rests.closed (sym (keeps.same PAGE) ∙ ajar);
-    is_synced = λ p l. rests.is_synced p (keeps.unsyncs p l);
-    is = rests_agrees current' rests (λ p taken. keeps.same p);
+  rests_preserve {current' = current'} rests preserves = record {
+    closed = λ ajar. rests.closed (sym (preserves.same PAGE) ∙ ajar);
+    is_synced = λ p l. rests.is_synced p (preserves.unsyncs p l);
+    is = rests_agrees current' rests (λ p taken. preserves.same p);
   }
 
   pub rests_writes : {n : ℕ} {current' : ℕ → ℕ} {unsynced' : ℕ → Type 0} (blocks : List ℕ) → v.blocks ≡ n
@@ -162,13 +162,13 @@ module _ {v : View} {current : ℕ → ℕ} {unsynced : ℕ → Type 0} where
   }
 
   pub settled_rests : {n : ℕ} {bytes : ℕ → ℕ} → v.blocks ≡ n → Settled (journal_pages n) bytes current unsynced
-      → Says bytes v
+      → Encodes bytes v
       → Rests v current unsynced
-  settled_rests {bytes = bytes} size settled says = record {
+  settled_rests {bytes = bytes} size settled encodes = record {
     closed = settled.closed;
     is_synced = λ p l. absurd (settled.is_synced p l);
     is = shut_is current v settled.closed
-        (says_same current bytes v (λ p outside. settled.same p (rw size at outside)) says);
+        (encodes_same current bytes v (λ p outside. settled.same p (rw size at outside)) encodes);
   }
 
   pub rests_idle : {n : ℕ} → v.blocks ≡ n → Rests v current unsynced → Idle (journal_pages n) current unsynced
@@ -186,8 +186,8 @@ module _ {v : View} {current : ℕ → ℕ} {unsynced : ℕ → Type 0} where
 
 -- the plain reading of the image encodes what the bytes encode
 pub reads_is : {n : ℕ} (image bytes : ℕ → ℕ) (v : View) → v.blocks ≡ n → ReadsAs (journal_pages n) image bytes
-    → Says bytes v → IsViewOf image v
-reads_is image bytes v size reads says = record {
+    → Encodes bytes v → IsViewOf image v
+reads_is image bytes v size reads encodes = record {
   form = λ ajar. rw size (reads.form ajar);
-  says = says_same (overlaid image) bytes v (λ p outside. reads.same p (rw size at outside)) says;
+  encodes = encodes_same (overlaid image) bytes v (λ p outside. reads.same p (rw size at outside)) encodes;
 }

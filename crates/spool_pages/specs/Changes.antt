@@ -5,7 +5,7 @@ use Rattle.common.specs.declared.limits.TheConstants.{ROWS, SLOTS}
 use Rattle.spool_journal.specs.declared.TheConstants.{PAGE}
 use Rattle.spool_blocks.specs.Blocks.{Row}
 use Rattle.spool_journal.specs.Image.{byte_of, journal_pages}
-use Rattle.spool_pages.specs.View.{SlotRecord, View, Stands, slot_at, state_page, slot_bytes, row_bytes}
+use Rattle.spool_pages.specs.View.{SlotRecord, View, AreAt, slot_at, state_page, slot_bytes, row_bytes}
 use Rattle.spool_pages.specs.declared.version.Version.{Version}
 use Rattle.spool_pages.specs.declared.version.Version.TheVariants.{Two}
 
@@ -15,9 +15,9 @@ page_in page [] = None
 page_in page (entry ∷ pages) = if entry.0 == page then Some entry.1 else page_in page pages
 
 -- A changed page encodes the new value. A value whose page isn't changed stays.
-abbrev pub Said : {A : Type 0} → Option (List ℕ) → (List ℕ → A → Type 0) → A → A → Type 0
-Said None says old new = new ≡ old
-Said (Some bytes) says old new = says bytes new
+abbrev pub UpdatedBy : {A : Type 0} → Option (List ℕ) → (List ℕ → A → Type 0) → A → A → Type 0
+UpdatedBy None encodes old new = new ≡ old
+UpdatedBy (Some bytes) encodes old new = encodes bytes new
 
 -- The page numbers of a spool of n blocks.
 
@@ -36,16 +36,16 @@ row_number n block = 282 + journal_pages n + block / ROWS
 -- What the pages encode.
 
 -- The version and the next number.
-abbrev pub SaysState : List ℕ → Version × ℕ → Type 0
-SaysState bytes state = Stands (byte_of bytes) 0 PAGE (state_page state.0 state.1)
+abbrev pub EncodesState : List ℕ → Version × ℕ → Type 0
+EncodesState bytes state = AreAt (byte_of bytes) 0 PAGE (state_page state.0 state.1)
 
 -- A slot, in a version.
-abbrev pub SaysSlot : ℕ → List ℕ → Version × Option SlotRecord → Type 0
-SaysSlot slot bytes kept = Stands (byte_of bytes) (2048 * (slot % 2)) 2048 (slot_bytes kept.0 kept.1)
+abbrev pub EncodesSlot : ℕ → List ℕ → Version × Option SlotRecord → Type 0
+EncodesSlot slot bytes own = AreAt (byte_of bytes) (2048 * (slot % 2)) 2048 (slot_bytes own.0 own.1)
 
 -- A row.
-abbrev pub SaysRow : ℕ → List ℕ → Row → Type 0
-SaysRow block bytes row = Stands (byte_of bytes) (8 * (block % ROWS)) 8 (row_bytes row)
+abbrev pub EncodesRow : ℕ → List ℕ → Row → Type 0
+EncodesRow block bytes row = AreAt (byte_of bytes) (8 * (block % ROWS)) 8 (row_bytes row)
 
 -- A change leaves the size and the index files. The version only changes if all pages that depend on it do.
 
@@ -53,8 +53,8 @@ SaysRow block bytes row = Stands (byte_of bytes) (8 * (block % ROWS)) 8 (row_byt
 pub record ChangesButRows (pages : List (ℕ × List ℕ)) (v v' : View) : Type 0 where
   pub blocks : v'.blocks ≡ v.blocks
   pub indexes : v'.indexes ≡ v.indexes
-  pub state : Said (page_in (state_number v.blocks) pages) SaysState (v.version, v.next) (v'.version, v'.next)
-  pub slots : (s : ℕ) → s < SLOTS → Said (page_in (record_number v.blocks s) pages) (SaysSlot s)
+  pub state : UpdatedBy (page_in (state_number v.blocks) pages) EncodesState (v.version, v.next) (v'.version, v'.next)
+  pub slots : (s : ℕ) → s < SLOTS → UpdatedBy (page_in (record_number v.blocks s) pages) (EncodesSlot s)
       (v.version, slot_at v s) (v'.version, slot_at v' s)
   pub rows : (b : ℕ) → b < ROWS * (journal_pages v.blocks - 257) → page_in (row_number v.blocks b) pages ≡ None
       → get_or v'.rows b None ≡ get_or v.rows b None
@@ -62,14 +62,14 @@ pub record ChangesButRows (pages : List (ℕ × List ℕ)) (v v' : View) : Type 
 -- The pages are changed to those of view v'.
 pub record Changes (pages : List (ℕ × List ℕ)) (v v' : View) : Type 0 where
   pub others : ChangesButRows pages v v'
-  pub rows : (b : ℕ) → b < ROWS * (journal_pages v.blocks - 257) → Said (page_in (row_number v.blocks b) pages)
-      (SaysRow b) (get_or v.rows b None) (get_or v'.rows b None)
+  pub rows : (b : ℕ) → b < ROWS * (journal_pages v.blocks - 257) → UpdatedBy (page_in (row_number v.blocks b) pages)
+      (EncodesRow b) (get_or v.rows b None) (get_or v'.rows b None)
 
 -- The new view.
 
 -- The view with another record in the slot, or with the slot free.
 abbrev pub with_slot : View → ℕ → Option SlotRecord → View
-with_slot v slot kept = record v { slots = slice_set v.slots slot kept }
+with_slot v slot own = record v { slots = slice_set v.slots slot own }
 
 -- The view with another record in the slot.
 abbrev pub with_record : View → ℕ → SlotRecord → View

@@ -6,7 +6,7 @@ use Rattle.spool_journal.specs.declared.TheConstants.{PAGE}
 use Rattle.common.specs.declared.limits.TheConstants.{MOST_METADATA, ROWS, SLOTS}
 use Rattle.enc_model.specs.Indexes.{IndexSet}
 use Rattle.enc_index.specs.Area.{area_byte}
-use Rattle.spool_journal.specs.Image.{byte_of, journal_pages, InForm, count, number, overlaid, text_page}
+use Rattle.spool_journal.specs.Image.{byte_of, journal_pages, InForm, count, journal_number, overlaid, text_page}
 use Rattle.spool_texts.specs.Texts.{text_shown}
 use Rattle.spool_pages.specs.declared.version.Version.{Version}
 use Rattle.spool_pages.specs.declared.version.Version.TheVariants.{One, Two}
@@ -104,19 +104,19 @@ abbrev pub row_place : ℕ → ℕ → ℕ
 row_place n b = state_place n + PAGE * 257 + 8 * b
 
 -- From this place on the image has these bytes, and zeros up to the size.
-pub record Stands (image : ℕ → ℕ) (place size : ℕ) (bytes : List ℕ) : Type 0 where
+pub record AreAt (image : ℕ → ℕ) (place size : ℕ) (bytes : List ℕ) : Type 0 where
   pub each : (i : ℕ) → i < size → image (place + i) ≡ byte_of bytes i
 
 -- The view of an image.
 
 -- The bytes encode this view.
-pub record Says (image : ℕ → ℕ) (v : View) : Type 0 where
-  pub first : Stands image 0 PAGE (first_page v.blocks)
+pub record Encodes (image : ℕ → ℕ) (v : View) : Type 0 where
+  pub first : AreAt image 0 PAGE (first_page v.blocks)
   pub area : (i : ℕ) → i < 90112 → image (index_place v.blocks + i) ≡ area_byte v.indexes i
-  pub state : Stands image (state_place v.blocks) PAGE (state_page v.version v.next)
-  pub slots : (s : ℕ) → s < SLOTS → Stands image (slot_place v.blocks s) 2048
+  pub state : AreAt image (state_place v.blocks) PAGE (state_page v.version v.next)
+  pub slots : (s : ℕ) → s < SLOTS → AreAt image (slot_place v.blocks s) 2048
       (slot_bytes v.version (slot_at v s))
-  pub rows : (b : ℕ) → b < ROWS * (journal_pages v.blocks - 257) → Stands image (row_place v.blocks b) 8
+  pub rows : (b : ℕ) → b < ROWS * (journal_pages v.blocks - 257) → AreAt image (row_place v.blocks b) 8
       (row_bytes (get_or v.rows b None))
   pub texts : (s : ℕ) (r : SlotRecord) → slot_at v s ≡ Some r → v.texts s ≡ text_shown image (text_page v.blocks) v.rows
       s r.text_len
@@ -124,5 +124,5 @@ pub record Says (image : ℕ → ℕ) (v : View) : Type 0 where
 -- The plain reading of the image has this view: if its gate is open, the journal's head is valid and its pages lie over
 -- their places.
 pub record IsViewOf (image : ℕ → ℕ) (v : View) : Type 0 where
-  pub form : image PAGE ≡ 165 → InForm (journal_pages v.blocks) (count image) (number image)
-  pub says : Says (overlaid image) v
+  pub form : image PAGE ≡ 165 → InForm (journal_pages v.blocks) (count image) (journal_number image)
+  pub encodes : Encodes (overlaid image) v

@@ -10,7 +10,7 @@ ghost use Rattle.spool_pages.specs.View.{View, slot_at};
 
 use crate::places::{first_row_number, record_number, row_number, state_number};
 use crate::slot_pages::page_with;
-use crate::{SlotRecord, Version, blank_page, row_page, state_page};
+use crate::{BorrowedRecord, Version, blank_page, row_page, state_page};
 use common::{MOST_METADATA, SLOTS};
 use spool_blocks::{BlockNo, Row};
 use spool_journal::{Layout, Pages};
@@ -28,23 +28,23 @@ pub fn pages_of_new(
     version: Version,
     next: u64,
     slot: u32,
-    kept: &SlotRecord<'_>,
-    beside: Option<&SlotRecord<'_>>,
+    own: &BorrowedRecord<'_>,
+    beside: Option<&BorrowedRecord<'_>>,
 ) -> Result<Pages, AllocError>
     requires slot { slot < SLOTS }
-    requires kept { length kept.now.metadata ≤ MOST_METADATA }
+    requires own { length own.now.metadata ≤ MOST_METADATA }
     requires beside { IfSome beside (λ r. length r.now.metadata ≤ MOST_METADATA) }
     ensures area { IfOk result (λ pages. InArea (journal_pages layout.now) pages) }
     ensures some { IfOk result (λ pages. 1 ≤ length pages) }
     ensures changes { (v : View) → v.blocks ≡ layout.now → v.version ≡ version → length v.slots ≡ SLOTS
         → slot_at v (neighbour slot) ≡ option_copied beside.entry
-        → IfOk result (λ pages. Changes pages v (record (with_record v slot kept.now) { next = next })) }
+        → IfOk result (λ pages. Changes pages v (record (with_record v slot own.now) { next = next })) }
 {
     let mut pages = Pages::new(alloc);
     pages.put(state_number(layout), &state_page(version, next))?;
     pages.put(
         record_number(layout, slot),
-        &page_with(version, slot, Some(kept), beside),
+        &page_with(version, slot, Some(own), beside),
     )?;
     Ok(pages)
 }
@@ -83,12 +83,12 @@ pub fn pages_of_change(
     layout: &Layout,
     version: Version,
     slot: u32,
-    kept: Option<&SlotRecord<'_>>,
-    beside: Option<&SlotRecord<'_>>,
+    own: Option<&BorrowedRecord<'_>>,
+    beside: Option<&BorrowedRecord<'_>>,
     blocks: &[BlockNo],
 ) -> Result<Pages, AllocError>
     requires slot { slot < SLOTS }
-    requires kept { IfSome kept (λ r. length r.now.metadata ≤ MOST_METADATA) }
+    requires own { IfSome own (λ r. length r.now.metadata ≤ MOST_METADATA) }
     requires beside { IfSome beside (λ r. length r.now.metadata ≤ MOST_METADATA) }
     requires blocks { (i : ℕ) → i < length blocks.now → get_or blocks.now i 0 < layout.now }
     ensures area { IfOk result (λ pages. InArea (journal_pages layout.now) pages) }
@@ -97,11 +97,11 @@ pub fn pages_of_change(
         → slot_at v (neighbour slot) ≡ option_copied beside.entry
         → (rows : List HeldRow) → SameRowsBut blocks.now v.rows rows
         → IfOk result (λ pages. ChangesButRows pages v
-        (record (with_slot v slot (option_copied kept.entry)) { rows = rows })) }
+        (record (with_slot v slot (option_copied own.entry)) { rows = rows })) }
 {
     let mut pages = Pages::new(alloc);
     let mut last = record_number(layout, slot);
-    pages.put(last, &page_with(version, slot, kept, beside))?;
+    pages.put(last, &page_with(version, slot, own, beside))?;
     for block in blocks {
         let page = row_number(layout, *block);
         make_room(&mut pages, page, last)?;

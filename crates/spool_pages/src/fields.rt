@@ -4,7 +4,7 @@ ghost use Rattle.std.specs.Int.{to_be_bytes, w16, w32, w64};
 ghost use Rattle.spool_disk.specs.Disk.{In};
 ghost use Rattle.spool_journal.specs.Image.{byte_of};
 ghost use Rattle.spool_pages.specs.Bytes.{IsPadded};
-ghost use Rattle.spool_pages.specs.View.{Stands};
+ghost use Rattle.spool_pages.specs.View.{AreAt};
 
 /// Copies bytes into a page.
 #[tactic(auto, using(crate::proofs::Bytes::padded_more))]
@@ -23,8 +23,8 @@ pub(crate) fn put(page: &mut [u8], at: usize, bytes: &[u8])
 #[tactic(auto, using(crate::proofs::Numbers::two_are))]
 pub(crate) fn get_u16(page: &[u8], at: usize) -> u16
     requires { at + 2 ≤ length page.now }
-    ensures is { (n : ℕ) → n < 2 ^ 16 → Stands (byte_of page.now) at 2 (to_be_bytes w16 n) → result ≡ n }
-    ensures there { Stands (byte_of page.now) at 2 (to_be_bytes w16 result) }
+    ensures is { (n : ℕ) → n < 2 ^ 16 → AreAt (byte_of page.now) at 2 (to_be_bytes w16 n) → result ≡ n }
+    ensures there { AreAt (byte_of page.now) at 2 (to_be_bytes w16 result) }
 {
     u16::from_be_bytes([page[at], page[at + 1]])
 }
@@ -33,8 +33,8 @@ pub(crate) fn get_u16(page: &[u8], at: usize) -> u16
 #[tactic(auto, using(crate::proofs::Numbers::four_are))]
 pub(crate) fn get_u32(page: &[u8], at: usize) -> u32
     requires { at + 4 ≤ length page.now }
-    ensures is { (n : ℕ) → n < 2 ^ 32 → Stands (byte_of page.now) at 4 (to_be_bytes w32 n) → result ≡ n }
-    ensures there { Stands (byte_of page.now) at 4 (to_be_bytes w32 result) }
+    ensures is { (n : ℕ) → n < 2 ^ 32 → AreAt (byte_of page.now) at 4 (to_be_bytes w32 n) → result ≡ n }
+    ensures there { AreAt (byte_of page.now) at 4 (to_be_bytes w32 result) }
 {
     u32::from_be_bytes([page[at], page[at + 1], page[at + 2], page[at + 3]])
 }
@@ -43,8 +43,8 @@ pub(crate) fn get_u32(page: &[u8], at: usize) -> u32
 #[tactic(auto, using(crate::proofs::Numbers::eight_are))]
 pub(crate) fn get_u64(page: &[u8], at: usize) -> u64
     requires { at + 8 ≤ length page.now }
-    ensures is { (n : ℕ) → n < 2 ^ 64 → Stands (byte_of page.now) at 8 (to_be_bytes w64 n) → result ≡ n }
-    ensures there { Stands (byte_of page.now) at 8 (to_be_bytes w64 result) }
+    ensures is { (n : ℕ) → n < 2 ^ 64 → AreAt (byte_of page.now) at 8 (to_be_bytes w64 n) → result ≡ n }
+    ensures there { AreAt (byte_of page.now) at 8 (to_be_bytes w64 result) }
 {
     u64::from_be_bytes([
         page[at],

@@ -18,11 +18,11 @@ pub use changes::{fill_rows, pages_of_change, pages_of_new};
 pub use changing::change;
 pub use damaged::Damaged;
 pub use pages::{
-    MAGIC, blank_page, blocks_said, first_page, is_blank, is_blank_after_fields, state_page,
+    MAGIC, blank_page, blocks_encoded, first_page, is_blank, is_blank_after_fields, state_page,
     version_and_next,
 };
 pub use places::{index_place, row_pages, rows_place, slot_place, state_place};
-pub use records::{RECORD, SlotRecord};
+pub use records::{BorrowedRecord, RECORD};
 pub use rests::{resting_images, resting_writes, settled_rests};
 pub use rows::{are_free, row_at, row_page};
 pub use upgrading::pages_of_upgrade;

@@ -4,7 +4,7 @@ ghost use Rattle.std.specs.Prelude.{ℕ, [], None, Some, IfSome, IsTrue, true, l
 ghost use Rattle.std.specs.Int.{to_be_bytes, w32};
 ghost use Rattle.spool_journal.specs.Image.{byte_of};
 ghost use Rattle.spool_pages.specs.Bytes.{IsPadded};
-ghost use Rattle.spool_pages.specs.View.{Stands, first_page, state_page, version_number};
+ghost use Rattle.spool_pages.specs.View.{AreAt, first_page, state_page, version_number};
 ghost use Rattle.spool_pages.specs.declared.version.Version.{Version as Known};
 
 use crate::Version;
@@ -92,11 +92,11 @@ pub fn is_blank(bytes: &[u8]) -> bool
 
 /// The version and the next number on a state page; None if the version is unknown.
 pub fn version_and_next(page: &[u8; PAGE]) -> Option<(Version, u64)>
-    ensures said { (version : Known) (next : ℕ) → next < 2 ^ 64 → IsPadded page.now (state_page version next)
+    ensures encoded { (version : Known) (next : ℕ) → next < 2 ^ 64 → IsPadded page.now (state_page version next)
         → result ≡ Some (version, next) }
-    ensures there { IfSome result (λ said. Stands (byte_of page.now) 0 12 (state_page said.0 said.1)) }
+    ensures there { IfSome result (λ encoded. AreAt (byte_of page.now) 0 12 (state_page encoded.0 encoded.1)) }
     ensures unknown { result ≡ None → (version : Known)
-        → Stands (byte_of page.now) 0 4 (to_be_bytes w32 (version_number version)) → ⊥ }
+        → AreAt (byte_of page.now) 0 4 (to_be_bytes w32 (version_number version)) → ⊥ }
 {
     match Version::of(get_u32(page, 0)) {
         Some(version) => Some((version, get_u64(page, 4))),
@@ -106,17 +106,17 @@ pub fn version_and_next(page: &[u8; PAGE]) -> Option<(Version, u64)>
 
 /// Whether only zeros follow the 12 bytes of fields on page 0 or on the state page.
 pub fn is_blank_after_fields(page: &[u8; PAGE]) -> bool
-    ensures first { (blocks : ℕ) → Stands (byte_of page.now) 0 12 (first_page blocks)
-        → (IsTrue result ↔ Stands (byte_of page.now) 0 PAGE (first_page blocks)) }
-    ensures state { (version : Known) (next : ℕ) → Stands (byte_of page.now) 0 12 (state_page version next)
-        → (IsTrue result ↔ Stands (byte_of page.now) 0 PAGE (state_page version next)) }
+    ensures first { (blocks : ℕ) → AreAt (byte_of page.now) 0 12 (first_page blocks)
+        → (IsTrue result ↔ AreAt (byte_of page.now) 0 PAGE (first_page blocks)) }
+    ensures state { (version : Known) (next : ℕ) → AreAt (byte_of page.now) 0 12 (state_page version next)
+        → (IsTrue result ↔ AreAt (byte_of page.now) 0 PAGE (state_page version next)) }
 {
     is_blank(&page[12..])
 }
 
 /// The number of text blocks on page 0, of which the first 12 bytes are given; None if they aren't a spool's.
-pub fn blocks_said(prefix: &[u8; 12]) -> Option<u32>
-    ensures said { (blocks : ℕ) → blocks < 2 ^ 32
+pub fn blocks_encoded(prefix: &[u8; 12]) -> Option<u32>
+    ensures encoded { (blocks : ℕ) → blocks < 2 ^ 32
         → ((i : ℕ) → i < 12 → get_or prefix.now i 0 ≡ get_or (first_page blocks) i 0) → result ≡ Some blocks }
     ensures only { IfSome result (λ blocks. (i : ℕ) → i < 12
         → get_or prefix.now i 0 ≡ get_or (first_page blocks) i 0) }

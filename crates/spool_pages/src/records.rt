@@ -3,7 +3,7 @@ ghost use Rattle.std.specs.Prelude.{◌≡◌, ◌≤◌, ℕ, Option, [], lengt
 ghost use Rattle.std.specs.Int.{to_be_bytes};
 ghost use Rattle.spool_pages.specs.Bytes.{IsPadded};
 ghost use Rattle.spool_pages.specs.Fits.{FitsLength, FitsSlot};
-ghost use Rattle.spool_pages.specs.View.{SlotRecord as Said, length_number, length_tag, record_bytes, slot_bytes};
+ghost use Rattle.spool_pages.specs.View.{SlotRecord as UpdatedBy, length_number, length_tag, record_bytes, slot_bytes};
 
 use crate::fields::{get_u16, get_u64, put};
 use crate::{Damaged, Version, is_blank};
@@ -50,7 +50,7 @@ fn declared_in(version: Version, number: u64, tag: u8) -> Result<Option<u64>, Da
 
 /// The record of an upload in its slot.
 #[derive(Drop)]
-pub struct SlotRecord<'a> {
+pub struct BorrowedRecord<'a> {
     /// The upload's number, from 1 on.
     pub number: u64,
     /// The length, if it is known.
@@ -65,8 +65,8 @@ pub struct SlotRecord<'a> {
     pub metadata: &'a [u8],
 }
 
-impl<'a> Model for SlotRecord<'a> {
-    ghost Value = { Said };
+impl<'a> Model for BorrowedRecord<'a> {
+    ghost Value = { UpdatedBy };
 
     ghost view = { λ r. record {
       number = r.number;
@@ -78,7 +78,7 @@ impl<'a> Model for SlotRecord<'a> {
     } };
 }
 
-impl<'a> SlotRecord<'a> {
+impl<'a> BorrowedRecord<'a> {
     /// The slot's bytes in a spool of this version.
     pub fn to_bytes(&self, version: Version) -> [u8; RECORD]
         requires { length self.now.metadata ≤ MOST_METADATA }
@@ -105,9 +105,9 @@ impl<'a> SlotRecord<'a> {
     pub fn from_bytes(
         version: Version,
         bytes: &'a [u8; RECORD],
-    ) -> Result<Option<SlotRecord<'a>>, Damaged>
+    ) -> Result<Option<BorrowedRecord<'a>>, Damaged>
         ensures free { IsPadded bytes.now [] → result ≡ Ok None }
-        ensures used { (r : Said) → FitsSlot r → IsPadded bytes.now (record_bytes version r) → result ≡ Ok (Some r) }
+        ensures used { (r : UpdatedBy) → FitsSlot r → IsPadded bytes.now (record_bytes version r) → result ≡ Ok (Some r) }
         ensures valid { IfOk result (λ found. IsPadded bytes.now (slot_bytes version found)) }
         ensures fits { IfOk result (λ found. IfSome found FitsSlot) }
     {
@@ -126,7 +126,7 @@ impl<'a> SlotRecord<'a> {
         let declared = declared_in(version, get_u64(bytes, 8), bytes[TAG])?;
         let mut state = [0; 32];
         state.copy_from_slice(&bytes[32..64]);
-        Ok(Some(SlotRecord {
+        Ok(Some(BorrowedRecord {
             number,
             declared,
             accepted: get_u64(bytes, 16),

@@ -6,7 +6,7 @@ ghost use Rattle.spool_disk.specs.Disk.{In};
 ghost use Rattle.spool_journal.specs.Image.{byte_of};
 ghost use Rattle.spool_pages.specs.Bytes.{IsPadded};
 ghost use Rattle.spool_pages.specs.Fits.{FitsRow};
-ghost use Rattle.spool_pages.specs.View.{Stands, row_bytes};
+ghost use Rattle.spool_pages.specs.View.{AreAt, row_bytes};
 
 use crate::fields::{get_u32, put};
 use crate::{Damaged, blank_page, is_blank};
@@ -19,8 +19,8 @@ use spool_journal::PAGE;
 #[tactic(auto, using(crate::proofs::RowBytes::owned_at, crate::proofs::RowBytes::free_of_zeros))]
 fn fields_of(row: Row) -> (u32, u32)
     requires { FitsRow row }
-    ensures { (image : ℕ → ℕ) → (at : ℕ) → Stands image at 4 (to_be_bytes w32 result.0)
-        → Stands image (at + 4) 4 (to_be_bytes w32 result.1) → Stands image at 8 (row_bytes row) }
+    ensures { (image : ℕ → ℕ) → (at : ℕ) → AreAt image at 4 (to_be_bytes w32 result.0)
+        → AreAt image (at + 4) 4 (to_be_bytes w32 result.1) → AreAt image at 8 (row_bytes row) }
 {
     match row {
         Some((slot, ordinal)) => (slot + 1, ordinal),
@@ -35,7 +35,7 @@ fn put_row(page: &mut [u8], at: usize, row: Row)
     requires room { at + 8 ≤ length page.old }
     requires fits { FitsRow row }
     ensures outside { (p : ℕ) → (In at 8 p → ⊥) → get_or page.new p 0 ≡ get_or page.old p 0 }
-    ensures stands { Stands (byte_of page.new) at 8 (row_bytes row) }
+    ensures are_at { AreAt (byte_of page.new) at 8 (row_bytes row) }
 {
     let (slot, ordinal) = fields_of(row);
     put(page, at, &slot.to_be_bytes());
@@ -47,7 +47,7 @@ fn write_rows(page: &mut [u8; PAGE], rows: &[Row])
     requires blank { IsPadded page.old [] }
     requires few { length rows.now ≤ ROWS }
     requires fits { (b : ℕ) → FitsRow (get_or rows.now b None) }
-    ensures { (k : ℕ) → k < ROWS → Stands (byte_of page.new) (8 * k) 8 (row_bytes (get_or rows.now k None)) }
+    ensures { (k : ℕ) → k < ROWS → AreAt (byte_of page.new) (8 * k) 8 (row_bytes (get_or rows.now k None)) }
 {
     for k in 0..rows.len() {
         put_row(page, 8 * k, rows[k]);
@@ -85,9 +85,9 @@ fn up_to_owned(rows: &[Row]) -> &[Row]
 /// `Damaged` if there is an ordinal without a slot.
 pub fn row_at(page: &[u8], at: usize) -> Result<Row, Damaged>
     requires { at + 8 ≤ length page.now }
-    ensures said { (row : Option (ℕ × ℕ)) → FitsRow row → Stands (byte_of page.now) at 8 (row_bytes row)
+    ensures encoded { (row : Option (ℕ × ℕ)) → FitsRow row → AreAt (byte_of page.now) at 8 (row_bytes row)
         → result ≡ Ok row }
-    ensures valid { IfOk result (λ row. Stands (byte_of page.now) at 8 (row_bytes row)) }
+    ensures valid { IfOk result (λ row. AreAt (byte_of page.now) at 8 (row_bytes row)) }
     ensures fits { IfOk result (λ row. FitsRow row) }
 {
     let slot = get_u32(page, at);
@@ -103,9 +103,9 @@ pub fn row_at(page: &[u8], at: usize) -> Result<Row, Damaged>
 
 /// Whether all 512 rows of a page are free.
 pub fn are_free(page: &[u8; PAGE]) -> bool
-    ensures free { IsTrue result ↔ ((k : ℕ) → k < ROWS → Stands (byte_of page.now) (8 * k) 8 (row_bytes None)) }
+    ensures free { IsTrue result ↔ ((k : ℕ) → k < ROWS → AreAt (byte_of page.now) (8 * k) 8 (row_bytes None)) }
     ensures only { result ≡ true → (k : ℕ) → k < ROWS → (row : Option (ℕ × ℕ)) → FitsRow row
-        → Stands (byte_of page.now) (8 * k) 8 (row_bytes row) → row ≡ None }
+        → AreAt (byte_of page.now) (8 * k) 8 (row_bytes row) → row ≡ None }
 {
     is_blank(page)
 }
@@ -115,7 +115,7 @@ pub fn row_page(rows: &[Row], page: usize) -> [u8; PAGE]
     requires page { page < 128 }
     requires fits { (b : ℕ) → FitsRow (get_or rows.now b None) }
     ensures { (k : ℕ) → k < ROWS
-        → Stands (byte_of result) (8 * k) 8 (row_bytes (get_or rows.now (ROWS * page + k) None)) }
+        → AreAt (byte_of result) (8 * k) 8 (row_bytes (get_or rows.now (ROWS * page + k) None)) }
 {
     let mut bytes = blank_page();
     write_rows(&mut bytes, up_to_owned(rows_of(rows, page)));

@@ -2,22 +2,22 @@
 ghost use Rattle.std.specs.Prelude.{◌≡◌, ◌≤◌, ◌<◌, ◌+◌, ℕ, None, IfOk, IfSome, length, get_or};
 ghost use Rattle.spool_journal.specs.Image.{byte_of, journal_pages, InArea};
 ghost use Rattle.spool_pages.specs.Changes.{Changes, upgraded};
-ghost use Rattle.spool_pages.specs.View.{View, Stands, slot_bytes};
+ghost use Rattle.spool_pages.specs.View.{View, AreAt, slot_bytes};
 ghost use Rattle.spool_pages.specs.declared.version.Version.TheVariants.{Two};
 
 use crate::places::{record_number, state_number};
 use crate::slot_pages::record_page;
-use crate::{SlotRecord, Version, state_page};
+use crate::{BorrowedRecord, Version, state_page};
 use common::{MOST_METADATA, SLOTS};
 use spool_journal::{Layout, PAGE, Pages};
 use std::alloc::{AllocError, Global};
 
 // The page of a slot and the next one, in version 2.
-fn pair_page(slots: &[Option<SlotRecord<'_>>], slot: usize) -> [u8; PAGE]
+fn pair_page(slots: &[Option<BorrowedRecord<'_>>], slot: usize) -> [u8; PAGE]
     requires within { slot + 1 < length slots.now }
     requires metadata { (s : ℕ) → IfSome (get_or slots.now s None) (λ r. length r.metadata ≤ MOST_METADATA) }
-    ensures first { Stands (byte_of result) 0 2048 (slot_bytes Two (get_or slots.now slot None)) }
-    ensures second { Stands (byte_of result) 2048 2048 (slot_bytes Two (get_or slots.now (slot + 1) None)) }
+    ensures first { AreAt (byte_of result) 0 2048 (slot_bytes Two (get_or slots.now slot None)) }
+    ensures second { AreAt (byte_of result) 2048 2048 (slot_bytes Two (get_or slots.now (slot + 1) None)) }
 {
     record_page(Version::Two, slots[slot].as_ref(), slots[slot + 1].as_ref())
 }
@@ -32,7 +32,7 @@ pub fn pages_of_upgrade(
     alloc: Global,
     layout: &Layout,
     next: u64,
-    slots: &[Option<SlotRecord<'_>>],
+    slots: &[Option<BorrowedRecord<'_>>],
 ) -> Result<Pages, AllocError>
     requires slots { length slots.now ≡ SLOTS }
     requires metadata { (s : ℕ) → IfSome (get_or slots.now s None) (λ r. length r.metadata ≤ MOST_METADATA) }

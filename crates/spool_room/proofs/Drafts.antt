@@ -57,12 +57,12 @@ module _ (b : ℕ) where
       away ne rest zero lt = ne
       away ne rest (suc i) lt = rest i (omega (arith, lt))
 
-  kept_set : (list : List ℕ) (flags : List Bool) → IsAway b list → get_or flags b false ≡ true
+  set_unchanged : (list : List ℕ) (flags : List Bool) → IsAway b list → get_or flags b false ≡ true
       → get_or (unset flags list) b false ≡ true
   unfolding unset IsAway
-  kept_set [] flags away flagged = flagged
-  kept_set (a ∷ list) flags away flagged =
-      kept_set list (slice_set flags a false) (λ i lt. away (suc i) (omega (arith, lt)))
+  set_unchanged [] flags away flagged = flagged
+  set_unchanged (a ∷ list) flags away flagged =
+      set_unchanged list (slice_set flags a false) (λ i lt. away (suc i) (omega (arith, lt)))
       (get_or-set_other flags a b false false (λ e. away 0 (omega arith) (sym e)) ∙ flagged)
 
 -- reserved blocks are as many fewer
@@ -96,7 +96,7 @@ other_list : (rows : List Row) (flags : List Bool) (list other : List ℕ) → N
 unfolding IsAway
 other_list rows flags list other none reserved = record {
   below = reserved.below;
-  reserved = λ i lt. kept_set (get_or other i 0) list flags (λ k lt'. none k i lt' lt) (reserved.reserved i lt);
+  reserved = λ i lt. set_unchanged (get_or other i 0) list flags (λ k lt'. none k i lt' lt) (reserved.reserved i lt);
   no_owner = reserved.no_owner;
   distinct = reserved.distinct;
 }

@@ -7,7 +7,7 @@ use Rattle.enc_model.specs.Indexes.{IndexSet}
 use Rattle.upload_rules.specs.Store.{text_of}
 use Rattle.upload_rules.specs.World.{Patch, patch_text, is_there}
 use Rattle.upload_rules.specs.Room.{need_of, text_need, wants}
-use Rattle.spool_room.specs.Holdings.{added}
+use Rattle.spool_room.specs.Holdings.{added_count}
 
 wants_is : (x : IndexSet) (p : Patch) (done : Bool) → wants x p done ≡ text_need (length (text_of x p.began))
     (patch_text x p done)
@@ -24,14 +24,14 @@ needs_some t a some = rw (ne_eqb a 0 (λ e. absurd (omega (arith, some, e)))) (a
     after t a = omega arith
 
 module _ (x : IndexSet) (p : Patch) (done : Bool) where
-  pub wants_some : (patch_text x p done).fault ≡ None → 1 ≤ added x p done
-      → wants x p done ≡ (length (text_of x p.began) % PAGE + added x p done + 4095) / PAGE
-  wants_some fine some = wants_is x p done ∙ rw fine (needs_some (length (text_of x p.began)) (added x p done) some)
+  pub wants_some : (patch_text x p done).fault ≡ None → 1 ≤ added_count x p done
+      → wants x p done ≡ (length (text_of x p.began) % PAGE + added_count x p done + 4095) / PAGE
+  wants_some fine some = wants_is x p done ∙ rw fine (needs_some (length (text_of x p.began)) (added_count x p done) some)
 
-  pub wants_none : added x p done ≡ 0 → wants x p done ≡ 0
+  pub wants_none : added_count x p done ≡ 0 → wants x p done ≡ 0
   wants_none none = wants_is x p done ∙ by_fault (patch_text x p done).fault
     where
-      by_fault : (f : Option ℕ) → (if is_there f then 0 else need_of (length (text_of x p.began)) (added x p done)) ≡ 0
+      by_fault : (f : Option ℕ) → (if is_there f then 0 else need_of (length (text_of x p.began)) (added_count x p done)) ≡ 0
       by_fault None = rw none refl
       by_fault (Some c) = refl
 

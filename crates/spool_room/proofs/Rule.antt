@@ -7,7 +7,7 @@ use Rattle.spool_blocks.proofs.Counts.{rows_count}
 use Rattle.spool_blocks.proofs.Totals.{none_free}
 use Rattle.upload_rules.specs.World.{Patch, World}
 use Rattle.upload_rules.specs.Room.{used, needs_but, wants, is_short}
-use Rattle.spool_room.specs.Holdings.{IsHeldBy, IsFull, RuleHolds, taken}
+use Rattle.spool_room.specs.Holdings.{IsHeldBy, IsFull, RuleHolds, blocks_taken}
 use Rattle.spool_room.proofs.Texts.{owned_used}
 use Rattle.spool_room.proofs.Drafts.{reserved_needs}
 
@@ -49,7 +49,7 @@ module _ (w : World) (d : ℕ) (p : Patch) (done : Bool) where
 
 module _ (w : World) (slots : ℕ → ℕ) (lists : ℕ → List ℕ) (d : ℕ) (h : Held) (size : length h.reserved ≡ length h.rows)
     (held : IsHeldBy w slots lists d h) where
-  total : free_count h.rows h.reserved + taken w d (lists d) ≡ length h.rows
+  total : free_count h.rows h.reserved + blocks_taken w d (lists d) ≡ length h.rows
   total = omega (
     arith,
     rows_count h.rows h.reserved size,
@@ -57,7 +57,7 @@ module _ (w : World) (slots : ℕ → ℕ) (lists : ℕ → List ℕ) (d : ℕ) 
     reserved_needs w.store.indexes w.patches lists d h held.drafts,
   )
 
-  at_full : IsFull h → taken w d (lists d) ≡ length h.rows
+  at_full : IsFull h → blocks_taken w d (lists d) ≡ length h.rows
   at_full full = omega (arith, total, none_free h.rows h.reserved full)
 
   pub rule_holds : RuleHolds w d (lists d) h

@@ -10,9 +10,9 @@ use Rattle.spool_room.specs.Holdings.{IsInUse, OwnsTexts}
 use Rattle.spool_room.proofs.Numbers.{first_found, found_after, is_other, found_later}
 
 -- one slot's blocks are nobody's any more, and another slot owns the same
-kept_each : (slot other n : ℕ) (rows : List Row) → other ≢ slot → OwnsOneEach rows other n
+each_unchanged : (slot other n : ℕ) (rows : List Row) → other ≢ slot → OwnsOneEach rows other n
     → OwnsOneEach (rows_without slot rows) other n
-kept_each slot other n rows ne owns = record {
+each_unchanged slot other n rows ne owns = record {
   there = λ i lt. let at = owns.there i lt in (at.0, owns_without slot rows at.0 other i ne at.1);
   once = λ a b i own own'. owns.once a b i (owned_with slot rows a other i own).1
       (owned_with slot rows b other i own').1;
@@ -41,7 +41,7 @@ module _ (x : IndexSet) (entry : ℕ × Upload) (uploads : List (ℕ × Upload))
   others_own : OwnsTexts x uploads slots (rows_without (slots entry.0) rows)
   others_own = record {
     apart = owns.apart.1;
-    texts = λ n u there. kept_each (slots entry.0) (slots n) (blocks_of (length (text_of x u))) rows
+    texts = λ n u there. each_unchanged (slots entry.0) (slots n) (blocks_of (length (text_of x u))) rows
         (other_slot n u there) (owns.texts n u (later n u there));
     distinct = λ m n u v there there'. owns.distinct m n u v (later m u there) (later n v there');
     owners = λ b slot ordinal own. let was =

@@ -54,13 +54,13 @@ abbrev pub IsFull : Held → Type 0
 IsFull h = (b : ℕ) → IsFree h b → ⊥
 
 -- The blocks of the texts, of the other patches and of draft d.
-abbrev pub taken : World → ℕ → List ℕ → ℕ
-taken w d list = used w.store.indexes w.store.uploads + needs_but d w.store.indexes w.patches + length list
+abbrev pub blocks_taken : World → ℕ → List ℕ → ℕ
+blocks_taken w d list = used w.store.indexes w.store.uploads + needs_but d w.store.indexes w.patches + length list
 
 -- The rule of room, by the draft's list and the free blocks.
 pub record RuleHolds (w : World) (d : ℕ) (list : List ℕ) (h : Held) : Type 0 where
-  pub fits : taken w d list ≤ length h.rows
-  pub full : IsFull h → taken w d list ≡ length h.rows
+  pub fits : blocks_taken w d list ≤ length h.rows
+  pub full : IsFull h → blocks_taken w d list ≡ length h.rows
   pub enough : (p : Patch) (done : Bool) → p.short ≡ false → wants w.store.indexes p done ≤ length list
       → is_short w d p done ≡ false
   pub lacking : (p : Patch) (done : Bool) → IsFull h → length list < wants w.store.indexes p done
@@ -68,5 +68,5 @@ pub record RuleHolds (w : World) (d : ℕ) (list : List ℕ) (h : Held) : Type 0
   pub stays : (p : Patch) (done : Bool) → p.short ≡ true → is_short w d p done ≡ true
 
 -- How many bytes the patch adds to the text.
-abbrev pub added : IndexSet → Patch → Bool → ℕ
-added x p done = length (patch_text x p done).bytes - length (text_of x p.began)
+abbrev pub added_count : IndexSet → Patch → Bool → ℕ
+added_count x p done = length (patch_text x p done).bytes - length (text_of x p.began)

@@ -1,9 +1,9 @@
 //! Laws about room. The functions do nothing; their contracts are the laws.
 ghost use Rattle.std.specs.Prelude.{◌≡◌, ◌≤◌, ◌<◌, ◌+◌, ◌/◌, ◌%◌, ℕ, List, Bool, Some, None, length, map};
 ghost use Rattle.enc_model.specs.Indexes.{IndexSet};
-ghost use Rattle.spool_blocks.specs.Blocks.{Row, Held, CountLaw, IsWhole, owned_count, reserved_count, slot_count};
+ghost use Rattle.spool_blocks.specs.Blocks.{Row, Held, CountLaw, IsWholeText, owned_count, reserved_count, slot_count};
 ghost use Rattle.spool_blocks.specs.Chains.{Owns, OwnsOneEach};
-ghost use Rattle.spool_room.specs.Holdings.{OwnsTexts, Reserves, IsHeldBy, RuleHolds, added};
+ghost use Rattle.spool_room.specs.Holdings.{OwnsTexts, Reserves, IsHeldBy, RuleHolds, added_count};
 ghost use Rattle.upload_rules.specs.Apart.{IsApart};
 ghost use Rattle.upload_rules.specs.Room.{used, needs_but, wants};
 ghost use Rattle.upload_rules.specs.Slots.{IsRising};
@@ -17,7 +17,7 @@ use spool_journal::PAGE;
 /// A slot with one block at each ordinal below n owns n blocks.
 pub fn slot_counts()
     ensures count { (rows : List Row) (slot n : ℕ) → OwnsOneEach rows slot n → slot_count slot rows ≡ n }
-    ensures whole { (rows : List Row) (slot n : ℕ) → OwnsOneEach rows slot n → IsWhole slot rows }
+    ensures whole { (rows : List Row) (slot n : ℕ) → OwnsOneEach rows slot n → IsWholeText slot rows }
 {}
 
 /// Rising numbers differ.
@@ -61,9 +61,9 @@ pub fn room(blocks: &Blocks)
 /// The number of blocks that a patch wants: those of its new text from the committed text's unfinished block on, or
 /// none if nothing is added or a character is unmappable.
 pub fn draft_needs()
-    ensures some { (x : IndexSet) (p : Patch) (done : Bool) → (patch_text x p done).fault ≡ None → 1 ≤ added x p done
-        → wants x p done ≡ (length (text_of x p.began) % PAGE + added x p done + 4095) / PAGE }
-    ensures none { (x : IndexSet) (p : Patch) (done : Bool) → added x p done ≡ 0 → wants x p done ≡ 0 }
+    ensures some { (x : IndexSet) (p : Patch) (done : Bool) → (patch_text x p done).fault ≡ None → 1 ≤ added_count x p done
+        → wants x p done ≡ (length (text_of x p.began) % PAGE + added_count x p done + 4095) / PAGE }
+    ensures none { (x : IndexSet) (p : Patch) (done : Bool) → added_count x p done ≡ 0 → wants x p done ≡ 0 }
     ensures fault { (x : IndexSet) (p : Patch) (done : Bool) (c : ℕ) → (patch_text x p done).fault ≡ Some c
         → wants x p done ≡ 0 }
 {}

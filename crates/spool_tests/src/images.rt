@@ -6,7 +6,7 @@ use enc_model::{Encoding, Mode};
 use enc_stream::Transcoder;
 use spool_disk::{Disk, MemoryDisk};
 use spool_image::{FormatError, OpenFault, Spool, format, pages_of};
-use spool_pages::{SlotRecord, Version};
+use spool_pages::{BorrowedRecord, Version};
 use std::alloc::Global;
 use std::process::Abort;
 use upload_rules::{UploadError, UploadRefusal, Uploads};
@@ -36,7 +36,7 @@ pub(crate) fn put(rt: &impl Abort, disk: &mut MemoryDisk, at: u64, bytes: &[u8])
 /// as many accepted bytes as are allowed. The text of upload 7 has 4,097 bytes, in the blocks 3 and 9.
 fn write_uploads(rt: &impl Abort, disk: &mut MemoryDisk) {
     let transcoder = Transcoder::new(Encoding::Utf8, Encoding::ShiftJis, Mode::Fatal);
-    let mut record = SlotRecord {
+    let mut record = BorrowedRecord {
         number: 7,
         declared: Some(5000),
         accepted: 0,
@@ -187,7 +187,7 @@ fn with_uploads(rt: &impl Abort, alloc: Global) -> MemoryDisk {
 }
 
 /// The output encoding and the declared length of an upload.
-fn told(spool: &Spool<MemoryDisk>, number: u64) -> Option<(Encoding, Option<u64>)> {
+fn recorded(spool: &Spool<MemoryDisk>, number: u64) -> Option<(Encoding, Option<u64>)> {
     spool.record(number).map(|it| (it.to, it.declared))
 }
 
@@ -212,7 +212,10 @@ fn uploads_are_told_of_and_read(rt: HostRuntime) {
         (3, Some(5000), Some(7)),
         (7, Some(5000), None),
     ] {
-        assert_eq!(rt; told(&spool, number), Some((Encoding::ShiftJis, declared)));
+        assert_eq!(rt;
+            recorded(&spool, number),
+            Some((Encoding::ShiftJis, declared))
+        );
         assert_eq!(rt; after_it(&spool, number), after);
     }
     let mut buf = [0; 4];

@@ -1,7 +1,7 @@
 //! The spool in use.
 
 ghost use Rattle.std.specs.Prelude.{◌≡◌};
-ghost use Rattle.upload_rules.specs.Records.{IsWellFormed};
+ghost use Rattle.upload_rules.specs.Records.{IsValidNew};
 
 use common::Stop;
 use enc_index::IndexSet;
@@ -17,7 +17,7 @@ pub(crate) const POWERS: [u64; 12] = [2048, 1024, 512, 256, 128, 64, 32, 16, 8, 
 
 /// The fields of an upload from UTF-8 to UTF-8 with this length.
 pub(crate) fn plain(alloc: Global, declared: u64) -> New
-    ensures form { IsWellFormed result }
+    ensures form { IsValidNew result }
     ensures from { result.from ≡ Encoding.Utf8 }
     ensures to { result.to ≡ Encoding.Utf8 }
 {
@@ -29,7 +29,7 @@ pub(crate) fn plain(alloc: Global, declared: u64) -> New
 
 /// The fields of an upload from UTF-8 to UTF-8 with a deferred length.
 pub(crate) fn deferred(alloc: Global) -> New
-    ensures form { IsWellFormed result }
+    ensures form { IsValidNew result }
     ensures from { result.from ≡ Encoding.Utf8 }
     ensures to { result.to ≡ Encoding.Utf8 }
 {

@@ -7,7 +7,7 @@ use Rattle.spool_journal.specs.declared.TheConstants.{PAGE}
 use Rattle.spool_disk.specs.Disk.{span}
 use Rattle.spool_disk.proofs.Span.{length-span}
 use Rattle.spool_texts.proofs.Shown.{text_joined}
-use Rattle.spool_texts.specs.Drafts.{Draft, bytes_of, content_on, full_count}
+use Rattle.spool_texts.specs.Drafts.{Draft, draft_bytes, content_on, full_count}
 use Rattle.spool_texts.specs.Drafts.{len_of, prefix_on, unread_count, unread_on}
 use Rattle.spool_texts.specs.declared.block_text.Unread.{Unread}
 use Rattle.spool_texts.specs.TextOn.{blocks_on, text_on}
@@ -24,7 +24,7 @@ content_empty current first d text none is =
 pub begun_bytes : (current current' : ℕ → ℕ) (first : ℕ) (u : Unread) (old new : Draft) → old.unread ≡ Some u
     → length old.blocks ≡ 0 → old.unfinished ≡ [] → new.blocks ≡ old.blocks
     → new.unfinished ≡ prefix_on current first u.block u.len
-    → content_on current' first new ≡ bytes_of current first old
+    → content_on current' first new ≡ draft_bytes current first old
 begun_bytes current current' first u old new some empty none same is =
     let prefix = prefix_on current first u.block u.len in
     let nil = nil_from_length old.blocks empty in

@@ -6,7 +6,7 @@ use Rattle.std.proofs.lemmas.List.{take-take}
 use Rattle.std.proofs.Math.Seq.{take-add}
 use Rattle.spool_journal.specs.declared.TheConstants.{PAGE}
 use Rattle.spool_texts.specs.TextOn.{blocks_on, text_on}
-use Rattle.spool_texts.specs.Drafts.{Draft, bytes_of, content_on, full_count, held_count, len_of, unread_count}
+use Rattle.spool_texts.specs.Drafts.{Draft, draft_bytes, content_on, full_count, held_count, len_of, unread_count}
 use Rattle.spool_texts.specs.Drafts.{unread_on}
 use Rattle.spool_texts.specs.declared.block_text.Unread.{Unread}
 use Rattle.spool_texts.proofs.Shown.{text_prefix}
@@ -79,6 +79,6 @@ pub begun_held : (d : Draft) → d.unread ≡ None → len_of d ≡ held_count d
 begun_held d begun = omega (arith, ap unread_count begun)
 
 pub begun_content : (current : ℕ → ℕ) (first : ℕ) (d : Draft) → d.unread ≡ None
-    → bytes_of current first d ≡ content_on current first d
+    → draft_bytes current first d ≡ content_on current first d
 begun_content current first d begun =
     ap (λ (o : Option Unread). unread_on current first o ++ content_on current first d) begun

@@ -6,7 +6,7 @@ use Rattle.std.proofs.lemmas.Bool.{cases_lt}
 use Rattle.std.proofs.lemmas.List.{get_or_append_left, get_or-append_right, get_or-drop, get_or-take, ext_get_or}
 use Rattle.spool_journal.specs.declared.TheConstants.{PAGE}
 use borrow.Rule.Slice.PartMut.{put_mid}
-use Rattle.spool_disk.specs.Disk.{span, Keeps, IsImage}
+use Rattle.spool_disk.specs.Disk.{span, Preserves, IsImage}
 use Rattle.spool_disk.proofs.Span.{length-span}
 use Rattle.spool_texts.specs.Reading.{IsRead, IsPiece, Follow, byte_on}
 use Rattle.spool_texts.specs.TextOn.{blocks_on, text_on, AllBelow}
@@ -90,7 +90,7 @@ mid_after buf sub from size k le same fits =
 
 -- one piece more of a text
 module _ {current mid : ℕ → ℕ} {unsynced unsynced' : ℕ → Type 0} (first : ℕ) (list : List ℕ) (at from to n : ℕ)
-    (old buf sub : List ℕ) (keeps : Keeps current mid unsynced unsynced') (upto : from ≤ to) (fits : to ≤ length buf)
+    (old buf sub : List ℕ) (preserves : Preserves current mid unsynced unsynced') (upto : from ≤ to) (fits : to ≤ length buf)
     (few : n ≤ length (take (to - from) (drop from buf)))
     (piece : IsPiece mid first list (at + from) n (take (to - from) (drop from buf)) sub) where
   sub_size : length sub ≡ to - from
@@ -109,7 +109,7 @@ module _ {current mid : ℕ → ℕ} {unsynced unsynced' : ℕ → Type 0} (firs
       (mid_inside buf sub from (to - from) (k - from) (omega (arith, lt, after, piece.size, few))
       (omega (arith, upto, fits))
       ∙ piece.bytes (k - from) (omega (arith, lt, after))
-      ∙ keeps.same (PAGE * (first + get_or list ((at + from + (k - from)) / PAGE) 0) + (at + from + (k - from)) % PAGE)
+      ∙ preserves.same (PAGE * (first + get_or list ((at + from + (k - from)) / PAGE) 0) + (at + from + (k - from)) % PAGE)
       ∙ ap (byte_on current first list) e'))
       (cases_lt k from)
 
@@ -204,12 +204,12 @@ all_read current first list len at n old buf long is same bytes rest = record {
     )
 
 -- a call that changes nothing, after another
-pub keeps_on : {current mid current' : ℕ → ℕ} {unsynced between unsynced' : ℕ → Type 0}
-    → Keeps current mid unsynced between
-    → Keeps mid current' between unsynced' → Keeps current current' unsynced unsynced'
-keeps_on a b = record { same = λ p. b.same p ∙ a.same p; unsyncs = λ p l. a.unsyncs p (b.unsyncs p l) }
+pub preserves_on : {current mid current' : ℕ → ℕ} {unsynced between unsynced' : ℕ → Type 0}
+    → Preserves current mid unsynced between
+    → Preserves mid current' between unsynced' → Preserves current current' unsynced unsynced'
+preserves_on a b = record { same = λ p. b.same p ∙ a.same p; unsyncs = λ p l. a.unsyncs p (b.unsyncs p l) }
 
 -- its images are those from before
-pub image_keeps : {current mid image : ℕ → ℕ} {unsynced between : ℕ → Type 0} → Keeps current mid unsynced between
+pub image_preserves : {current mid image : ℕ → ℕ} {unsynced between : ℕ → Type 0} → Preserves current mid unsynced between
     → IsImage mid between image → IsImage current unsynced image
-image_keeps a is = record { same = λ p is_synced. is.same p (λ l. is_synced (a.unsyncs p l)) ∙ a.same p }
+image_preserves a is = record { same = λ p is_synced. is.same p (λ l. is_synced (a.unsyncs p l)) ∙ a.same p }

@@ -3,7 +3,7 @@ use Rattle.std.proofs.Common.{◌≡◌, ◌≢◌, inl, inr, ℕ, zero, suc, �
 use Rattle.std.proofs.Common.{length, get_or, take, refl, sym, ◌∙◌, ap, arith, ⊎_elim, length-append, length-take}
 use Rattle.std.proofs.lemmas.List.{take_more, take_all, append-nil, get_or-take, get_or_append_left}
 use Rattle.spool_journal.specs.declared.TheConstants.{PAGE}
-use Rattle.spool_disk.specs.Disk.{span, In, IsImage, Keeps, Writes}
+use Rattle.spool_disk.specs.Disk.{span, In, IsImage, Preserves, Writes}
 use Rattle.spool_disk.proofs.Span.{span_same}
 use Rattle.spool_journal.specs.Phases.{Idle}
 use Rattle.spool_texts.specs.TextOn.{blocks_on, text_on}
@@ -93,11 +93,11 @@ pub writes_none : {current : ℕ → ℕ} {unsynced : ℕ → Type 0} (first : �
 writes_none first blocks = record { outside = λ p away. refl; unsyncs = λ p l. inl l }
 
 -- nothing is written where the disk is only read
-pub writes_keeps : {current current' : ℕ → ℕ} {unsynced unsynced' : ℕ → Type 0} (first : ℕ) (blocks : List ℕ)
-    → Keeps current current' unsynced unsynced' → WritesIn first blocks current current' unsynced unsynced'
-writes_keeps first blocks keeps = record {
-  outside = λ p away. keeps.same p;
-  unsyncs = λ p l. inl (keeps.unsyncs p l);
+pub writes_preserve : {current current' : ℕ → ℕ} {unsynced unsynced' : ℕ → Type 0} (first : ℕ) (blocks : List ℕ)
+    → Preserves current current' unsynced unsynced' → WritesIn first blocks current current' unsynced unsynced'
+writes_preserve first blocks preserves = record {
+  outside = λ p away. preserves.same p;
+  unsyncs = λ p l. inl (preserves.unsyncs p l);
 }
 
 pub idle_in : {j : ℕ} {current current' : ℕ → ℕ} {unsynced unsynced' : ℕ → Type 0} {blocks : List ℕ}
@@ -162,9 +162,9 @@ but_on more grown a is = record {
 }
 
 -- where only other blocks were written
-pub blocks_kept : (current current' : ℕ → ℕ) (first : ℕ) (list blocks : List ℕ)
+pub blocks_unchanged : (current current' : ℕ → ℕ) (first : ℕ) (list blocks : List ℕ)
     → SameOutside first blocks current current'
     → NoneOf list blocks → blocks_on current' first list ≡ blocks_on current first list
-blocks_kept current current' first list blocks same apart =
+blocks_unchanged current current' first list blocks same apart =
     blocks_same current' current first list
     (λ i p lt e. same p (λ within. apart i within.at lt within.below (omega (arith, e, within.here))))

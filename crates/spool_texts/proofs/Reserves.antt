@@ -91,7 +91,7 @@ takes_none h list list' same = record {
   free = λ i lt. absurd (omega (arith, lt));
   taken = λ i lt. absurd (omega (arith, lt));
   others = λ b away. refl;
-  keeps = λ b e. e;
+  preserves = λ b e. e;
 }
 
 -- the list grew, and then again
@@ -104,13 +104,13 @@ takes_on {a = a} {b = b} {c = c} {first = first} x y = record {
   size = y.size ∙ x.size;
   free = in_either (IsFree a) x.more y.more x.free (λ i lt. earlier (get_or y.more i 0) (y.free i lt));
   taken = in_either (λ (n : ℕ). get_or c.reserved n false ≡ true) x.more y.more
-      (λ i lt. y.keeps (get_or x.more i 0) (x.taken i lt)) y.taken;
+      (λ i lt. y.preserves (get_or x.more i 0) (x.taken i lt)) y.taken;
   others = λ n away.
       y.others n (λ i lt e. away (length x.more + i) (omega (arith, lt, length-append x.more y.more))
       (get_or-append-add x.more y.more i 0 ∙ e))
       ∙ x.others n (λ i lt e. away i (omega (arith, lt, length-append x.more y.more))
       (get_or_append_left x.more y.more 0 i lt ∙ e));
-  keeps = λ n e. y.keeps n (x.keeps n e);
+  preserves = λ n e. y.preserves n (x.preserves n e);
 }
   where
     earlier : (n : ℕ) → IsFree b n → IsFree a n
@@ -121,5 +121,5 @@ takes_on {a = a} {b = b} {c = c} {first = first} x y = record {
     }
       where
         unset : (t : Bool) → t ≡ get_or a.reserved n false → get_or a.reserved n false ≡ false
-        unset true e = absurd (both_ways (get_or b.reserved n false) free.not_reserved (x.keeps n (sym e)))
+        unset true e = absurd (both_ways (get_or b.reserved n false) free.not_reserved (x.preserves n (sym e)))
         unset false e = sym e

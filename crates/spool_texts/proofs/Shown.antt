@@ -7,7 +7,7 @@ use Rattle.std.proofs.lemmas.List.{append_assoc, take-append-le, take_all, take-
 use Rattle.spool_journal.specs.declared.TheConstants.{PAGE}
 use Rattle.spool_disk.specs.Disk.{span}
 use Rattle.spool_disk.proofs.Span.{length-span}
-use Rattle.spool_texts.specs.Texts.{owns, block_at, block_bytes, joined, text_shown}
+use Rattle.spool_texts.specs.Texts.{owns, block_at, block_bytes, joined_blocks, text_shown}
 use Rattle.spool_texts.specs.TextOn.{blocks_on, text_on, IsListed}
 
 -- the slot's block at the ordinal is owned
@@ -72,8 +72,8 @@ blocks_on-append current first (b ∷ list) more =
 -- the blocks that are found for the ordinals from one on are the listed ones
 joined_on : (image : ℕ → ℕ) (first : ℕ) (rows : List (Option (ℕ × ℕ))) (slot ordinal : ℕ) (list : List ℕ)
     → ((i : ℕ) → i < length list → block_at slot (ordinal + i) rows 0 ≡ Some (get_or list i 0))
-    → joined image first rows slot ordinal (length list) ≡ blocks_on image first list
-unfolding joined blocks_on block_bytes
+    → joined_blocks image first rows slot ordinal (length list) ≡ blocks_on image first list
+unfolding joined_blocks blocks_on block_bytes
 joined_on image first rows slot ordinal [] here = refl
 joined_on image first rows slot ordinal (b ∷ list) here =
     both
@@ -91,9 +91,9 @@ pub shown : (image : ℕ → ℕ) (first : ℕ) (rows : List (Option (ℕ × ℕ
     first rows slot len
 shown image first rows slot len list listed size =
     ap (λ (xs : List ℕ). take len xs)
-    (sym (subst (λ (n : ℕ). joined image first rows slot 0 n ≡ blocks_on image first list) size all))
+    (sym (subst (λ (n : ℕ). joined_blocks image first rows slot 0 n ≡ blocks_on image first list) size all))
   where
-    all : joined image first rows slot 0 (length list) ≡ blocks_on image first list
+    all : joined_blocks image first rows slot 0 (length list) ≡ blocks_on image first list
     all = joined_on image first rows slot 0 list (λ i lt.
         let same : i ≡ 0 + i = omega arith in
         subst (λ (o : ℕ). block_at slot o rows 0 ≡ Some (get_or list i 0)) same

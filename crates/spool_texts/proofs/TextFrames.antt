@@ -3,7 +3,7 @@ use Rattle.std.proofs.Common.{◌≡◌, ℕ, zero, suc, ◌+◌, ◌*◌, ◌/�
 use Rattle.std.proofs.Common.{Option, None, Some, get_or, take, refl, sym, ◌∙◌, ap, arith, ⊎_elim}
 use Rattle.std.proofs.lemmas.Bool.{cases_eq}
 use Rattle.spool_disk.proofs.Span.{span_same}
-use Rattle.spool_texts.specs.Texts.{owns, block_at, block_bytes, joined, aside, SameBut, Frame}
+use Rattle.spool_texts.specs.Texts.{owns, block_at, block_bytes, joined_blocks, aside, SameBut, Frame}
 use Rattle.std.proofs.lemmas.Bool.Decides.{nat_tests}
 use Rattle.spool_journal.specs.declared.TheConstants.{PAGE}
 use Rattle.spool_journal.proofs.Gate.{open_view, shut_view, SameJournal, form_on, replay_on}
@@ -38,8 +38,8 @@ module _ (image image' : ℕ → ℕ) (first x slot ordinal : ℕ) (same : SameB
 
 same_joined : (image image' : ℕ → ℕ) (first x slot : ℕ) (rows : List (Option (ℕ × ℕ)))
     → SameBut (first + x) image image' → get_or rows x None ≡ None → (ordinal n : ℕ)
-    → joined image first rows slot ordinal n ≡ joined image' first rows slot ordinal n
-unfolding joined
+    → joined_blocks image first rows slot ordinal n ≡ joined_blocks image' first rows slot ordinal n
+unfolding joined_blocks
 same_joined image image' first x slot rows same none ordinal zero = refl
 same_joined image image' first x slot rows same none ordinal (suc n) =
     let first_same = same_block image image' first x slot ordinal same rows 0

@@ -60,8 +60,8 @@ abbrev pub len_of : Draft → ℕ
 len_of d = unread_count d.unread + held_count d
 
 -- The bytes of the draft.
-abbrev pub bytes_of : (ℕ → ℕ) → ℕ → Draft → List ℕ
-bytes_of current first d = unread_on current first d.unread ++ content_on current first d
+abbrev pub draft_bytes : (ℕ → ℕ) → ℕ → Draft → List ℕ
+draft_bytes current first d = unread_on current first d.unread ++ content_on current first d
 
 -- Nothing was added yet to the text of this length on the listed blocks.
 pub record IsNothingAfter (len : ℕ) (list : List ℕ) (d : Draft) : Type 0 where
@@ -70,7 +70,7 @@ pub record IsNothingAfter (len : ℕ) (list : List ℕ) (d : Draft) : Type 0 whe
   pub tail : (i : ℕ) → i < length (tail_on d.unread)
       → (len / PAGE < length list) × (get_or (tail_on d.unread) i 0 ≡ get_or list (len / PAGE) 0)
   pub bytes : (current : ℕ → ℕ) (first : ℕ)
-      → text_on current first list (PAGE * (len / PAGE)) ++ bytes_of current first d ≡ text_on current first list len
+      → text_on current first list (PAGE * (len / PAGE)) ++ draft_bytes current first d ≡ text_on current first list len
 
 -- How many bytes are on the listed blocks, with the last ones, which have yet to be written.
 abbrev pub count_with : List ℕ → List ℕ → ℕ
@@ -98,7 +98,7 @@ pub record Takes (old new : Held) (list list' : List ℕ) : Type 0 where
   pub taken : (i : ℕ) → i < length more → get_or new.reserved (get_or more i 0) false ≡ true
   pub others : (b : ℕ) → ((i : ℕ) → i < length more → get_or more i 0 ≢ b)
       → get_or new.reserved b false ≡ get_or old.reserved b false
-  pub keeps : (b : ℕ) → get_or old.reserved b false ≡ true → get_or new.reserved b false ≡ true
+  pub preserves : (b : ℕ) → get_or old.reserved b false ≡ true → get_or new.reserved b false ≡ true
 
 -- The listed blocks aren't reserved any more. All others are unchanged.
 pub record GivesBack (old new : Held) (list : List ℕ) : Type 0 where

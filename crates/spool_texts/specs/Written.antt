@@ -1,7 +1,7 @@
 -- The effect of writes to listed blocks. The text blocks begin at page `first`.
 use Rattle.std.specs.Prelude.{◌≡◌, ◌≢◌, ◌⊎◌, ℕ, ◌+◌, ◌/◌, ◌<◌, List, [], ◌∷◌, Option, None, length, get_or}
 use Rattle.spool_journal.specs.declared.TheConstants.{PAGE}
-use Rattle.spool_journal.specs.Image.{InForm, count, number, overlaid}
+use Rattle.spool_journal.specs.Image.{InForm, count, journal_number, overlaid}
 use Rattle.spool_texts.specs.Texts.{text_shown, aside}
 
 -- The place is in one of these blocks.
@@ -39,6 +39,6 @@ pub record FrameBlocks (j first : ℕ) (blocks : List ℕ) (a b : ℕ → ℕ) :
   pub texts : (rows : List (Option (ℕ × ℕ))) (slot len : ℕ)
       → ((i : ℕ) → i < length blocks → get_or rows (get_or blocks i 0) None ≡ None)
       → text_shown a first rows slot len ≡ text_shown b first rows slot len
-  pub form : (b PAGE ≡ 165 → InForm j (count b) (number b)) → a PAGE ≡ 165 → InForm j (count a) (number a)
-  pub others : (b PAGE ≡ 165 → InForm j (count b) (number b)) → (p : ℕ) → (InBlocks first blocks p → ⊥)
+  pub form : (b PAGE ≡ 165 → InForm j (count b) (journal_number b)) → a PAGE ≡ 165 → InForm j (count a) (journal_number a)
+  pub others : (b PAGE ≡ 165 → InForm j (count b) (journal_number b)) → (p : ℕ) → (InBlocks first blocks p → ⊥)
       → overlaid a p ≡ overlaid b p

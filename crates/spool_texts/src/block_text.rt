@@ -5,12 +5,12 @@ ghost use Rattle.std.specs.Prelude.{OnOk, OnErr, vec_len, vec_capacity};
 ghost use Rattle.common.specs.declared.limits.TheConstants.{MOST_BLOCKS};
 ghost use Rattle.spool_journal.specs.declared.TheConstants.{PAGE};
 ghost use Rattle.spool_blocks.specs.Blocks.{IsFree};
-ghost use Rattle.spool_disk.specs.Disk.{Counts, IsImage, Keeps};
+ghost use Rattle.spool_disk.specs.Disk.{Counts, IsImage, Preserves};
 ghost use Rattle.spool_disk.specs.Views.{Lasts};
 ghost use Rattle.spool_journal.specs.Image.{journal_pages, all_pages, text_page};
 ghost use Rattle.spool_journal.specs.Phases.{Idle};
 ghost use Rattle.spool_texts.specs.Drafts.{Draft, full_count, held_count, content_on, bytes_with, IsReserved, Takes};
-ghost use Rattle.spool_texts.specs.Drafts.{GivesBack, prefix_on, tail_list, tail_on, len_of, bytes_of, count_with};
+ghost use Rattle.spool_texts.specs.Drafts.{GivesBack, prefix_on, tail_list, tail_on, len_of, draft_bytes, count_with};
 ghost use Rattle.spool_texts.specs.Drafts.{without_block, IsNothingAfter};
 ghost use Rattle.spool_texts.specs.TextOn.{text_on, AllBelow};
 ghost use Rattle.spool_texts.specs.Written.{WritesIn, IsImageBut, aside_blocks};
@@ -149,8 +149,8 @@ impl BlockText {
         ensures tail { (self.new.unread ≡ self.old.unread) ⊎ (self.new.unread ≡ None) }
         ensures len { OnOk result (len_of self.new ≡ len_of self.old + length bytes.now) }
         ensures content { D.honest disk.old → OnOk result
-            (bytes_of (D.current disk.new) (text_page layout.now) self.new
-            ≡ bytes_of (D.current disk.old) (text_page layout.now) self.old ++ bytes.now) }
+            (draft_bytes (D.current disk.new) (text_page layout.now) self.new
+            ≡ draft_bytes (D.current disk.old) (text_page layout.now) self.old ++ bytes.now) }
 
         // Out of memory, nothing is done.
         ensures memory { IsErrOf result (DraftError.Stop Stop.NoMemory) → (self.new ≡ record self.old
@@ -221,9 +221,9 @@ impl BlockText {
         ensures len { len_of self.new ≡ len_of self.old }
         ensures few { OnOk result (length self.new.unfinished < PAGE) }
         ensures content { D.honest disk.old → OnOk result
-            (bytes_of (D.current disk.new) (text_page layout.now) self.new
-            ≡ bytes_of (D.current disk.old) (text_page layout.now) self.old) }
-        ensures keeps { D.honest disk.old → Keeps (D.current disk.old) (D.current disk.new) (D.unsynced disk.old)
+            (draft_bytes (D.current disk.new) (text_page layout.now) self.new
+            ≡ draft_bytes (D.current disk.old) (text_page layout.now) self.old) }
+        ensures preserves { D.honest disk.old → Preserves (D.current disk.old) (D.current disk.new) (D.unsynced disk.old)
             (D.unsynced disk.new) }
         ensures lasts { D.honest disk.old → Lasts D.Disk disk.old disk.new
             (IsImage (D.current disk.old) (D.unsynced disk.old)) }
@@ -323,7 +323,7 @@ impl BlockText {
             → count_with self.new.blocks last.items ≡ len_of self.old + length bytes.now) }
         ensures content { D.honest disk.old → IfOk result (λ last. 1 ≤ length self.new.blocks
             → bytes_with (D.current disk.new) (text_page layout.now) self.new.blocks last.items
-            ≡ bytes_of (D.current disk.old) (text_page layout.now) self.old ++ bytes.now) }
+            ≡ draft_bytes (D.current disk.old) (text_page layout.now) self.old ++ bytes.now) }
         ensures fits { IfOk result
             (λ last. 1 ≤ length self.new.blocks → (length last.items + 4095) / PAGE ≤ length self.new.blocks) }
 
@@ -338,7 +338,7 @@ impl BlockText {
 
         // Nothing is written. Nothing is read either if the committed text has no unfinished block.
         ensures unread { tail_on self.old.unread ≡ [] → disk.new ≡ disk.old }
-        ensures keeps { D.honest disk.old → Keeps (D.current disk.old) (D.current disk.new) (D.unsynced disk.old)
+        ensures preserves { D.honest disk.old → Preserves (D.current disk.old) (D.current disk.new) (D.unsynced disk.old)
             (D.unsynced disk.new) }
         ensures lasts { D.honest disk.old → Lasts D.Disk disk.old disk.new
             (IsImage (D.current disk.old) (D.unsynced disk.old)) }
@@ -421,8 +421,8 @@ fn read_tail<D: Disk>(
     ensures unread { tail_list tail ≡ [] → disk.new ≡ disk.old }
     ensures tail { D.honest disk.old → OnOk result
         (take len page.new ≡ prefix_on (D.current disk.old) (text_page layout.now) tail len) }
-    ensures keeps { D.honest disk.old
-        → Keeps (D.current disk.old) (D.current disk.new) (D.unsynced disk.old) (D.unsynced disk.new) }
+    ensures preserves { D.honest disk.old
+        → Preserves (D.current disk.old) (D.current disk.new) (D.unsynced disk.old) (D.unsynced disk.new) }
     ensures lasts { D.honest disk.old → Lasts D.Disk disk.old disk.new
         (IsImage (D.current disk.old) (D.unsynced disk.old)) }
 {

@@ -2,7 +2,7 @@
 ghost use Rattle.std.specs.Prelude.{◌≡◌, ◌≤◌, ◌+◌, ◌*◌, ◌/◌, ◌++◌, ℕ, List, Option, length, take};
 ghost use Rattle.spool_journal.specs.Image.{journal_pages, text_page};
 ghost use Rattle.spool_texts.specs.Texts.{text_shown};
-ghost use Rattle.spool_texts.specs.Drafts.{Draft, bytes_of, tail_on};
+ghost use Rattle.spool_texts.specs.Drafts.{Draft, draft_bytes, tail_on};
 ghost use Rattle.spool_texts.specs.TextOn.{text_on, IsListed};
 ghost use Rattle.spool_texts.specs.Written.{FrameBlocks, NoneOf, SameOutside, aside_blocks};
 
@@ -20,13 +20,13 @@ pub fn shown_texts()
 {}
 
 /// Writing some blocks doesn't change what is on others: the texts on lists, and the bytes of drafts.
-pub fn kept_texts()
+pub fn texts_unchanged()
     ensures text { (current current' : ℕ → ℕ) (first len : ℕ) (list blocks : List ℕ)
         → SameOutside first blocks current current'
         → NoneOf list blocks → text_on current' first list len ≡ text_on current first list len }
     ensures bytes { (current current' : ℕ → ℕ) (first : ℕ) (draft : Draft) (blocks : List ℕ)
         → SameOutside first blocks current current' → NoneOf draft.blocks blocks → NoneOf (tail_on draft.unread) blocks
-        → bytes_of current' first draft ≡ bytes_of current first draft }
+        → draft_bytes current' first draft ≡ draft_bytes current first draft }
 {}
 
 /// An image shows the same texts if blocks that no row owns are set back, and nothing outside the blocks reads

@@ -13,5 +13,5 @@ mod reads;
 
 pub use block_text::{BlockText, write_last};
 pub use error::DraftError;
-pub use laws::{kept_texts, same_but_blocks, shown_texts};
+pub use laws::{same_but_blocks, shown_texts, texts_unchanged};
 pub use reads::read_text;

@@ -1,6 +1,6 @@
 //! Reading a piece of a text.
 ghost use Rattle.std.specs.Prelude.{◌≡◌, ◌≢◌, ◌<◌, ◌≤◌, ◌*◌, ◌+◌, ◌-◌, ◌↔◌, length, get_or, min, IsErr, IfOk};
-ghost use Rattle.spool_disk.specs.Disk.{Counts, IsImage, Keeps};
+ghost use Rattle.spool_disk.specs.Disk.{Counts, IsImage, Preserves};
 ghost use Rattle.spool_disk.specs.Views.{Lasts};
 ghost use Rattle.spool_journal.specs.Image.{all_pages, text_page};
 ghost use Rattle.spool_texts.specs.Reading.{IsRead, IsPiece, Follow};
@@ -35,8 +35,8 @@ pub fn read_text<D: Disk>(
     ensures read { D.honest disk.old → IfOk result
         (λ n. IsRead (text_on (D.current disk.old) (text_page layout.now) list.now len) at n buf.old
         buf.new) }
-    ensures keeps { D.honest disk.old
-        → Keeps (D.current disk.old) (D.current disk.new) (D.unsynced disk.old) (D.unsynced disk.new) }
+    ensures preserves { D.honest disk.old
+        → Preserves (D.current disk.old) (D.current disk.new) (D.unsynced disk.old) (D.unsynced disk.new) }
     ensures lasts { D.honest disk.old → Lasts D.Disk disk.old disk.new
         (IsImage (D.current disk.old) (D.unsynced disk.old)) }
 {
@@ -68,8 +68,8 @@ fn read_piece<D: Disk>(
     ensures within { IfOk result (λ n. n ≤ length buf.old) }
     ensures piece { D.honest disk.old → IfOk result
         (λ n. IsPiece (D.current disk.old) (text_page layout.now) list.now at n buf.old buf.new) }
-    ensures keeps { D.honest disk.old
-        → Keeps (D.current disk.old) (D.current disk.new) (D.unsynced disk.old) (D.unsynced disk.new) }
+    ensures preserves { D.honest disk.old
+        → Preserves (D.current disk.old) (D.current disk.new) (D.unsynced disk.old) (D.unsynced disk.new) }
     ensures lasts { D.honest disk.old → Lasts D.Disk disk.old disk.new
         (IsImage (D.current disk.old) (D.unsynced disk.old)) }
 {

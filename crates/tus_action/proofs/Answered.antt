@@ -7,8 +7,8 @@ use Rattle.upload_rules.specs.declared.errors.UploadError.TheVariants as errors
 use Rattle.upload_rules.specs.declared.errors.UploadError.TheVariants.{Refused}
 use Rattle.upload_rules.specs.declared.uploads.Uploads.{Ghosts}
 use Rattle.upload_rules.specs.Errors.{stop_of}
-use Rattle.tus_action.specs.Faults.{fault_of}
-use Rattle.tus_action.specs.Serves.{Ends, Feeds, Finishes, Serves, RepliesOnly, RepliesTo}
+use Rattle.tus_action.specs.Faults.{reply_fault_of}
+use Rattle.tus_action.specs.Serves.{CutCommits, Feeds, Finishes, Serves, RepliesOnly, RepliesTo}
 use Rattle.tus_action.specs.declared.bodies.OpenPatch.{OpenPatch}
 use Rattle.common.specs.declared.stop.Stop.{Stop}
 use Rattle.common.specs.declared.stop.Stop.TheVariants.{NoMemory, DiskFault}
@@ -20,7 +20,7 @@ use Rattle.upload_rules.specs.Answers.{Answers, IsLate, Limits}
 use Rattle.tus_action.specs.Acts.{fed, fed_patch, Acted, replied}
 use Rattle.upload_rules.specs.Store.{Store, find, replaced}
 use Rattle.upload_rules.specs.World.{Patch, World}
-use Rattle.upload_rules.specs.Calls.{longer, appended, appended_at, dropped, spent, outcome}
+use Rattle.upload_rules.specs.Calls.{longer_patch, appended, appended_at, dropped, spent, outcome}
 
 same_number : (n : ℕ) → (n == n) ≡ true
 same_number n = grind (arith)
@@ -42,9 +42,9 @@ find_replaced n x y (entry ∷ es) e =
     find_case n entry.0 x y entry.1 es (entry.0 == n) refl e (λ h. find_replaced n x y es h)
 
 pub find_appended : (w : World) (d : ℕ) (p : Patch) (piece : List ℕ) → find d w.patches ≡ Some p
-    → find d (appended w d piece).patches ≡ Some (longer w d p piece)
+    → find d (appended w d piece).patches ≡ Some (longer_patch w d p piece)
 find_appended w d p piece e =
-    ap (λ o. find d (appended_at w d piece o).patches) e ∙ find_replaced d (longer w d p piece) p w.patches e
+    ap (λ o. find d (appended_at w d piece o).patches) e ∙ find_replaced d (longer_patch w d p piece) p w.patches e
 
 -- a refused commit leaves the world without the patch
 pub spent_refused : (S : World → Type 0) (w : World) (d : ℕ) (p : Patch) (r : Option UploadRefusal) (e : UploadRefusal)
@@ -57,7 +57,7 @@ fed_some w d [] some = absurd (some refl)
 fed_some w d (b ∷ piece) some = refl
 
 pub fed_patch_some : (w : World) (d : ℕ) (p : Patch) (piece : List ℕ) → (piece ≡ [] → ⊥)
-    → longer w d p piece ≡ fed_patch w d p piece
+    → longer_patch w d p piece ≡ fed_patch w d p piece
 fed_patch_some w d p [] some = absurd (some refl)
 fed_patch_some w d p (b ∷ piece) some = refl
 
@@ -79,10 +79,10 @@ some_items b list is not_empty none = let e : true ≡ false =
 -- bytes that were not taken: the draft is dropped
 pub fed_gone : {U B : Type 0} {sure : Bool} (u : Ghosts U B) (store next : U) (w : World) (e : UploadError) (d d' : ℕ)
     (w' : World) (b : OpenPatch B) (p : Patch) (done : Unit {0} → Type 0) → Answers {T = Unit {0}} None (Err e) done
-    (u.stands store sure w) → (u.stands store sure w → u.stands next sure (dropped w d')) → d' ≡ d
+    (u.represents store sure w) → (u.represents store sure w → u.represents next sure (dropped w d')) → d' ≡ d
     → Feeds u sure next (Err (stop_of e)) (dropped w d) w' b p
 fed_gone {sure = sure} u store next w (errors.Stop NoMemory) d d' w' b p done a drops same = subst
-    (λ x. u.stands next sure (dropped w x)) same (drops a.1)
+    (λ x. u.represents next sure (dropped w x)) same (drops a.1)
 fed_gone {sure = sure} u store next w (errors.Stop DiskFault) d d' w' b p done a drops same = tt {0}
 fed_gone {sure = sure} u store next w (Refused f) d d' w' b p done a drops same = let e : None ≡ Some f = a.0 in absurd
     (cc)
@@ -90,9 +90,9 @@ fed_gone {sure = sure} u store next w (Refused f) d d' w' b p done a drops same 
 -- a cut body that isn't committed: out of memory, the patch is gone
 pub stops_ends : {U B T : Type 0} (u : Ghosts U B) (sure : Bool) (store : U) (gone w : World) (stop : Stop)
     (refusal : Option UploadRefusal) (e : UploadError) (done : T → Type 0) → e ≡ errors.Stop stop
-    → Answers {T = T} refusal (Err e) done (u.stands store sure gone) → Ends u sure store (Err stop) gone w
+    → Answers {T = T} refusal (Err e) done (u.represents store sure gone) → CutCommits u sure store (Err stop) gone w
 stops_ends u sure store gone w NoMemory refusal e done is answered =
-    (memory_answer done (u.stands store sure gone) refusal e is answered).1
+    (memory_answer done (u.represents store sure gone) refusal e is answered).1
 stops_ends u sure store gone w DiskFault refusal e done is answered = tt {0}
 
 -- what was appended is taken back
@@ -101,17 +101,17 @@ taken_back old more new n is e = e ∙ (ap (λ k. take k (old ++ more)) is ∙ t
 
 -- a call that stops, out of memory where the patch is gone
 stops_as : {U B : Type 0} (u : Ghosts U B) (sure : Bool) (store : U) (gone : World) (m : Acted) (stop : Stop)
-    (old new : List ℕ) → (stop ≡ NoMemory → u.stands store sure gone) → new ≡ old
+    (old new : List ℕ) → (stop ≡ NoMemory → u.represents store sure gone) → new ≡ old
     → Finishes u sure store (Err stop) old new gone m
-stops_as u sure store gone m NoMemory old new stands same = (stands refl, same)
-stops_as u sure store gone m DiskFault old new stands same = same
+stops_as u sure store gone m NoMemory old new represents same = (represents refl, same)
+stops_as u sure store gone m DiskFault old new represents same = same
 
 -- a call on the uploads that gave no answer, where its refusal changes nothing but what is gone
 pub refused_finishes : {U B : Type 0} (u : Ghosts U B) (sure : Bool) (store : U) (gone : World)
     (m : Option UploadRefusal → Acted) (refusal : Option UploadRefusal) (e : UploadError)
     (result : Result (Unit {0}) Stop) (on_files bare closes : Bool) (old new : List ℕ) {T : Type 0} (done : T → Type 0)
-    → ((f : UploadRefusal) → m (Some f) ≡ replied gone (reply_refused (fault_of f) on_files bare closes) closes)
-    → Answers {T = T} refusal (Err e) done (u.stands store sure gone) → RepliesTo result e on_files bare closes old new
+    → ((f : UploadRefusal) → m (Some f) ≡ replied gone (reply_refused (reply_fault_of f) on_files bare closes) closes)
+    → Answers {T = T} refusal (Err e) done (u.represents store sure gone) → RepliesTo result e on_files bare closes old new
     → Finishes u sure store result old new gone (m refusal)
 refused_finishes u sure store gone m refusal (Refused f) (Ok a) on_files bare closes old new done replies_to answered
     replies
@@ -124,7 +124,7 @@ refused_finishes u sure store gone m refusal (Refused f) (Err stop) on_files bar
 refused_finishes u sure store gone m refusal (errors.Stop why) (Err stop) on_files bare closes old new done replies_to
     answered replies =
     stops_as u sure store gone (m refusal) stop old new
-    (λ none. (memory_answer done (u.stands store sure gone) refusal (errors.Stop why)
+    (λ none. (memory_answer done (u.represents store sure gone) refusal (errors.Stop why)
     (ap errors.Stop (sym replies.0 ∙ none)) answered).1) replies.1
 refused_finishes u sure store gone m refusal (errors.Stop why) (Ok a) on_files bare closes old new done replies_to
     answered replies =
@@ -135,16 +135,16 @@ pub refused_serves : {U B : Type 0} (u : Ghosts U B) (sure : Bool) (store : U) (
     (m : Option UploadRefusal → Acted) (refusal : Option UploadRefusal) (e : UploadError)
     (result : Result (code.Done B) Stop) (on_files bare closes : Bool) (old new : List ℕ) {T : Type 0}
     (done : T → Type 0) → ((f : UploadRefusal) → m (Some f) ≡ replied gone
-    (reply_refused (fault_of f) on_files bare closes) closes) → Answers {T = T} refusal (Err e) done
-    (u.stands store sure gone) → RepliesOnly result e on_files bare closes old new
+    (reply_refused (reply_fault_of f) on_files bare closes) closes) → Answers {T = T} refusal (Err e) done
+    (u.represents store sure gone) → RepliesOnly result e on_files bare closes old new
     → Serves u sure store result old new gone (m refusal)
 refused_serves u sure store gone m refusal (Refused f) (Ok a) on_files bare closes old new done replies_to answered
     refuses =
     subst (λ x. Serves u sure store (Ok a) old new gone (m x)) (sym answered.0)
     (subst (λ x. Serves u sure store (Ok a) old new gone x) (sym (replies_to f))
     (subst (λ x. Serves u sure store (Ok x) old new gone
-    (replied gone (reply_refused (fault_of f) on_files bare closes) closes)) (sym refuses.nothing)
-    (record { stands = answered.1; draft = tt {0}; giving = tt {0}; closes = refl; bytes = refuses.replies })))
+    (replied gone (reply_refused (reply_fault_of f) on_files bare closes) closes)) (sym refuses.nothing)
+    (record { represents = answered.1; draft = tt {0}; giving = tt {0}; closes = refl; bytes = refuses.replies })))
 refused_serves u sure store gone m refusal (errors.Stop why) (Ok a) on_files bare closes old new done replies_to
     answered refuses =
     absurd refuses.replies

@@ -19,7 +19,7 @@ use Rattle.tus_action.proofs.Answered.{memory_answer}
 use Rattle.upload_rules.specs.declared.errors.UploadRefusal.{UploadRefusal}
 use Rattle.tus_action.specs.Acts.{Giving, piece_of, pending_of, pending_after}
 use Rattle.tus_action.specs.Serves.{Appends, AppendsPiece, AppendsText, GivesAs, IsGiving, GivingIs}
-use Rattle.tus_action.specs.Serves.{IsGiven, Gives, given_after, left_of}
+use Rattle.tus_action.specs.Serves.{IsGiven, GivesMore, given_after, left_of}
 use Rattle.tus_action.specs.declared.acts.Giving as given
 use Rattle.tus_action.specs.declared.acts.Given.{Given}
 use Rattle.tus_action.specs.declared.acts.Given.TheVariants.{Piece, Last, Gone}
@@ -223,13 +223,13 @@ refused_gone sure m n h e old same refused =
 -- a text whose read stopped
 pub stops_read : {U B T : Type 0} (u : Ghosts U B) (sure : Bool) (store : U) (w : World) (n : ℕ) (h : Giving)
     (stop : Stop) (e : UploadError) (old : List ℕ) (done : T → Type 0) → n ≡ h.number → e ≡ errors.Stop stop
-    → Answers {T = T} (no_such (upload_of w.store n)) (Err e) done (u.stands store sure w)
-    → Gives u sure store (Err stop) old old w h
+    → Answers {T = T} (no_such (upload_of w.store n)) (Err e) done (u.represents store sure w)
+    → GivesMore u sure store (Err stop) old old w h
 stops_read u sure store w n h NoMemory e old done same is answered =
-    let a = memory_answer done (u.stands store sure w) (no_such (upload_of w.store n)) e is answered in
+    let a = memory_answer done (u.represents store sure w) (no_such (upload_of w.store n)) e is answered in
     (late_there w.store n h.number same a.0, a.1, refl)
 stops_read {T = T} u sure store w n h DiskFault e old done same is answered = (
   late_there w.store n h.number same (subst (λ x. Answers {T = T} (no_such (upload_of w.store n)) (Err x) done
-      (u.stands store sure w)) is answered),
+      (u.represents store sure w)) is answered),
   refl,
 )

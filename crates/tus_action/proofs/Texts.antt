@@ -5,7 +5,7 @@ use Rattle.std.proofs.lemmas.List.{take_all}
 use Rattle.std.proofs.lemmas.Option.{same_Some}
 use Rattle.upload_rules.specs.Store.{Store, Upload, upload_of, text_of}
 use Rattle.upload_rules.specs.World.{World}
-use Rattle.upload_rules.specs.Records.{Tells, TellsOf, with_number}
+use Rattle.upload_rules.specs.Records.{Represents, RepresentsOf, with_number}
 use Rattle.upload_rules.specs.declared.records.Record.{Record}
 use Rattle.upload_rules.specs.declared.uploads.Uploads.{Ghosts}
 use Rattle.tus_request.specs.Requests.{Request}
@@ -13,7 +13,7 @@ use Rattle.tus_request.specs.Replies.{reply_text}
 use Rattle.tus_action.specs.Acts.{Acted, Giving, pending_of, pending_after, is_pending, get}
 use Rattle.tus_action.specs.declared.reads.TheConstants.{PIECE}
 use Rattle.tus_action.specs.Serves.{Appends, GivesAs, IsGiving, GivingIs, DraftIs, ActedAs, Serves}
-use Rattle.tus_action.specs.Serves.{Gives, IsGiven, left_of, replied_giving}
+use Rattle.tus_action.specs.Serves.{GivesMore, IsGiven, left_of, replied_giving}
 use Rattle.tus_action.proofs.Pieces.{appends, left_is_given}
 use Rattle.tus_action.specs.Serves.{draft_in, giving_in, closes_in}
 use Rattle.tus_action.specs.declared.acts.Done.TheVariants as done
@@ -31,24 +31,24 @@ abbrev pub whole_text : ℕ → List ℕ → Bool → Giving
 whole_text n text closes = record { number = n; left = text; closes = closes }
 
 starts_as : (m : Store) (n : ℕ) (rec : Record) (up : Upload) (closes : Bool) → upload_of m n ≡ Some up
-    → Tells m.indexes n rec up
+    → Represents m.indexes n rec up
     → GivesAs m (at_start n rec.text_len closes) (whole_text n (text_of m.indexes up) closes) up
-starts_as m n rec up closes found tells =
+starts_as m n rec up closes found is_record =
     let text : List ℕ = text_of m.indexes up in
-    let size : rec.text_len ≡ length text = tells.text_len in
+    let size : rec.text_len ≡ length text = is_record.text_len in
     let all : take rec.text_len text ≡ text = take_all rec.text_len text (omega arith) in
     record { number = refl; found = found; some = omega arith; within = omega arith; left = sym all; closes = refl }
 
 -- the text of an upload, with nothing given
 pub starts : (m : Store) (n : ℕ) (rec : Record) (up : Upload) (closes : Bool) → n < m.next → upload_of m n ≡ Some up
-    → Tells m.indexes n rec up
+    → Represents m.indexes n rec up
     → IsGiving m (at_start n rec.text_len closes) (whole_text n (text_of m.indexes up) closes)
-starts m n rec up closes below found tells = record {
+starts m n rec up closes below found is_record = record {
   number = refl;
   below = below;
   closes = refl;
   there = λ v is. subst (λ w. GivesAs m (at_start n rec.text_len closes) (whole_text n (text_of m.indexes up) closes) w)
-      (same_Some up v (sym found ∙ is)) (starts_as m n rec up closes found tells);
+      (same_Some up v (sym found ∙ is)) (starts_as m n rec up closes found is_record);
 }
 
 given_closes : (B : Type 0) (m : Store) (left : Option given.Giving) (p : Option Giving) (closes : Bool)
@@ -75,23 +75,23 @@ no_draft u w (Some g) closes = tt {0}
 pub get_acts : {U B : Type 0} {sure : Bool} (u : Ghosts U B) (store : U) (w : World) (r : Request) (n : ℕ)
     (rec : Record) (gave : Given) (old mid new : List ℕ) (o : Option Upload)
     → ((v : Upload) → upload_of w.store n ≡ Some v → n < w.store.next) → upload_of w.store n ≡ o
-    → TellsOf w.store.indexes (with_number n o) (Some rec) → r.bare ≡ false
+    → RepresentsOf w.store.indexes (with_number n o) (Some rec) → r.bare ≡ false
     → mid ≡ old ++ reply_text rec.to rec.text_len false r.closes
-    → ((h : Giving) → IsGiving w.store (at_start n rec.text_len r.closes) h → Gives u sure store (Ok gave) mid new w h)
+    → ((h : Giving) → IsGiving w.store (at_start n rec.text_len r.closes) h → GivesMore u sure store (Ok gave) mid new w h)
     → ActedAs u sure store (replied_giving (left_of gave) r.closes) old new (get w r n o)
-get_acts u store w r n rec gave old mid new None below e tells bare head gives = absurd tells
-get_acts {B = B} {sure = sure} u store w r n rec gave old mid new (Some up) below e tells bare head gives =
+get_acts u store w r n rec gave old mid new None below e is_record bare head gives = absurd is_record
+get_acts {B = B} {sure = sure} u store w r n rec gave old mid new (Some up) below e is_record bare head gives =
     let text : List ℕ = text_of w.store.indexes up in
     let h : Giving = whole_text n text r.closes in
-    let g = gives h (starts w.store n rec up r.closes (below up e) e tells) in
+    let g = gives h (starts w.store n rec up r.closes (below up e) e is_record) in
     let here = left_is_given w.store gave mid new h up (subst (IsGiven sure w.store gave mid new h) e g.1) in
     let pend : pending_after h ≡ pending_of n (if r.bare then [] else drop PIECE text) r.closes =
     ap (λ b. pending_of n (if b then [] else drop PIECE text) r.closes) (sym bare) in
     let is : GivingIs w.store (left_of gave) (pending_of n (if r.bare then [] else drop PIECE text) r.closes) =
     subst (λ p. GivingIs w.store (left_of gave) p) pend here.0 in
     let reply : reply_text rec.to rec.text_len false r.closes ≡ reply_text up.to (length text) false r.closes =
-    ap (λ t. reply_text t rec.text_len false r.closes) tells.to ∙ ap (λ l. reply_text up.to l false r.closes)
-    tells.text_len in
+    ap (λ t. reply_text t rec.text_len false r.closes) is_record.to ∙ ap (λ l. reply_text up.to l false r.closes)
+    is_record.text_len in
     let piece : List ℕ = here.1.0 in
     let bytes : new ≡ old ++ (reply_text up.to (length text) false r.closes ++ piece) =
     here.1.1 ∙ (ap (λ x. x ++ piece) (head ∙ ap (λ x. old ++ x) reply)
@@ -107,7 +107,7 @@ get_acts {B = B} {sure = sure} u store w r n rec gave old mid new (Some up) belo
       are = here.1.2;
     }) in
     record {
-      stands = g.0;
+      represents = g.0;
       draft = no_draft u w (left_of gave) r.closes;
       giving = given_is B w.store (left_of gave) _ r.closes is;
       closes = given_closes B w.store (left_of gave) _ r.closes is;
@@ -120,34 +120,34 @@ get_acts {B = B} {sure = sure} u store w r n rec gave old mid new (Some up) belo
 pub get_stops : {U B : Type 0} (u : Ghosts U B) (sure : Bool) (store : U) (w : World) (closes : Bool) (n : ℕ)
     (rec : Record) (stop : Stop) (old more mid out new : List ℕ) (k : ℕ) (m : Acted) (o : Option Upload)
     → ((v : Upload) → upload_of w.store n ≡ Some v → n < w.store.next) → upload_of w.store n ≡ o
-    → TellsOf w.store.indexes (with_number n o) (Some rec) → mid ≡ old ++ more → k ≡ length old → new ≡ take k out
-    → ((h : Giving) → IsGiving w.store (at_start n rec.text_len closes) h → Gives u sure store (Err stop) mid out w h)
+    → RepresentsOf w.store.indexes (with_number n o) (Some rec) → mid ≡ old ++ more → k ≡ length old → new ≡ take k out
+    → ((h : Giving) → IsGiving w.store (at_start n rec.text_len closes) h → GivesMore u sure store (Err stop) mid out w h)
     → Serves {B = B} u sure store (Err stop) old new w m
-get_stops u sure store w closes n rec stop old more mid out new k m None below e tells head size cut gives = absurd
-    tells
-get_stops u sure store w closes n rec Stops.NoMemory old more mid out new k m (Some up) below e tells head size cut
+get_stops u sure store w closes n rec stop old more mid out new k m None below e is_record head size cut gives = absurd
+    is_record
+get_stops u sure store w closes n rec Stops.NoMemory old more mid out new k m (Some up) below e is_record head size cut
     gives =
     let g = gives (whole_text n (text_of w.store.indexes up) closes)
-    (starts w.store n rec up closes (below up e) e tells) in
+    (starts w.store n rec up closes (below up e) e is_record) in
     (g.1, taken_back old more new k size (cut ∙ ap (take k) (g.2 ∙ head)))
-get_stops u sure store w closes n rec Stops.DiskFault old more mid out new k m (Some up) below e tells head size cut
+get_stops u sure store w closes n rec Stops.DiskFault old more mid out new k m (Some up) below e is_record head size cut
     gives =
     let g = gives (whole_text n (text_of w.store.indexes up) closes)
-    (starts w.store n rec up closes (below up e) e tells) in
+    (starts w.store n rec up closes (below up e) e is_record) in
     taken_back old more new k size (cut ∙ ap (take k) (g.1 ∙ head))
 
 -- the same with the flags that the code was given
 pub get_acts_as : {U B : Type 0} {sure : Bool} (u : Ghosts U B) (store : U) (w : World) (r : Request) (n : ℕ)
     (rec : Record) (gave : Given) (old mid new : List ℕ) (bare closes : Bool) (o : Option Upload)
     → ((v : Upload) → upload_of w.store n ≡ Some v → n < w.store.next) → upload_of w.store n ≡ o
-    → TellsOf w.store.indexes (with_number n o) (Some rec) → bare ≡ r.bare → bare ≡ false → closes ≡ r.closes
+    → RepresentsOf w.store.indexes (with_number n o) (Some rec) → bare ≡ r.bare → bare ≡ false → closes ≡ r.closes
     → mid ≡ old ++ reply_text rec.to rec.text_len bare closes
-    → ((h : Giving) → IsGiving w.store (at_start n rec.text_len closes) h → Gives u sure store (Ok gave) mid new w h)
+    → ((h : Giving) → IsGiving w.store (at_start n rec.text_len closes) h → GivesMore u sure store (Ok gave) mid new w h)
     → ActedAs u sure store (replied_giving (left_of gave) closes) old new (get w r n o)
-get_acts_as {sure = sure} u store w r n rec gave old mid new bare closes o below e tells bare_is not_bare closes_is
+get_acts_as {sure = sure} u store w r n rec gave old mid new bare closes o below e is_record bare_is not_bare closes_is
     head gives =
     subst (λ c. ActedAs u sure store (replied_giving (left_of gave) c) old new (get w r n o)) (sym closes_is)
-    (get_acts u store w r n rec gave old mid new o below e tells (sym bare_is ∙ not_bare)
+    (get_acts u store w r n rec gave old mid new o below e is_record (sym bare_is ∙ not_bare)
     (head ∙ (ap (λ b. old ++ reply_text rec.to rec.text_len b closes) not_bare
     ∙ ap (λ c. old ++ reply_text rec.to rec.text_len false c) closes_is))
     (λ h is. gives h (subst (λ c. IsGiving w.store (at_start n rec.text_len c) h) (sym closes_is) is)))
@@ -158,15 +158,15 @@ q_of r bare closes = record r { bare = bare; closes = closes }
 -- the reply's head alone
 pub get_bare : {U B : Type 0} (u : Ghosts U B) (sure : Bool) (store : U) (w : World) (r : Request) (n : ℕ)
     (rec : Record) (old new : List ℕ) (bare closes : Bool) (o : Option Upload)
-    → TellsOf w.store.indexes (with_number n o) (Some rec) → bare ≡ r.bare → bare ≡ true → closes ≡ r.closes
-    → new ≡ old ++ reply_text rec.to rec.text_len bare closes → u.stands store sure w
+    → RepresentsOf w.store.indexes (with_number n o) (Some rec) → bare ≡ r.bare → bare ≡ true → closes ≡ r.closes
+    → new ≡ old ++ reply_text rec.to rec.text_len bare closes → u.represents store sure w
     → ActedAs u sure store (done.Replied closes) old new (get w r n o)
-get_bare u sure store w r n rec old new bare closes None tells bare_is is_bare closes_is head stands = absurd tells
-get_bare {B = B} u sure store w r n rec old new bare closes (Some up) tells bare_is is_bare closes_is head stands =
+get_bare u sure store w r n rec old new bare closes None is_record bare_is is_bare closes_is head represents = absurd is_record
+get_bare {B = B} u sure store w r n rec old new bare closes (Some up) is_record bare_is is_bare closes_is head represents =
     let text : List ℕ = text_of w.store.indexes up in
     let bytes : new ≡ old ++ (reply_text up.to (length text) bare closes ++ []) =
-    head ∙ ap (λ t. old ++ reply_text t rec.text_len bare closes) tells.to
-    ∙ ap (λ l. old ++ reply_text up.to l bare closes) tells.text_len
+    head ∙ ap (λ t. old ++ reply_text t rec.text_len bare closes) is_record.to
+    ∙ ap (λ l. old ++ reply_text up.to l bare closes) is_record.text_len
     ∙ ap (λ x. old ++ x) (sym (append-nil (reply_text up.to (length text) bare closes))) in
     subst (λ (q : Request). ActedAs u sure store (done.Replied closes) old new (get w q n (Some up)))
     (same r bare closes bare_is closes_is)
@@ -178,5 +178,5 @@ get_bare {B = B} u sure store w r n rec old new bare closes (Some up) tells bare
     by_bare : (b : Bool) → b ≡ true → new ≡ old ++
         (reply_text up.to (length (text_of w.store.indexes up)) b closes ++ [])
         → ActedAs u sure store (done.Replied closes) old new (get w (q_of r b closes) n (Some up))
-    by_bare true is bytes = record { stands = stands; draft = tt {0}; giving = tt {0}; closes = refl; bytes = bytes }
+    by_bare true is bytes = record { represents = represents; draft = tt {0}; giving = tt {0}; closes = refl; bytes = bytes }
     by_bare false is bytes = absurd cc

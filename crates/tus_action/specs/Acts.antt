@@ -11,9 +11,9 @@ use Rattle.upload_rules.specs.declared.errors.UploadRefusal.{UploadRefusal}
 use Rattle.upload_rules.specs.Store.{New, Upload, upload_of, text_of, accepted_count}
 use Rattle.upload_rules.specs.World.{Patch, World, free_number, reached}
 use Rattle.upload_rules.specs.Calls.{create_refusal, created, terminate_refusal, terminated, begin_refusal, begun}
-use Rattle.upload_rules.specs.Calls.{longer, appended, commit_refusal, spent}
+use Rattle.upload_rules.specs.Calls.{longer_patch, appended, commit_refusal, spent}
 use Rattle.tus_action.specs.declared.reads.TheConstants.{PIECE}
-use Rattle.tus_action.specs.Faults.{fault_of}
+use Rattle.tus_action.specs.Faults.{reply_fault_of}
 
 -- A text of which more is to be given: its upload, the bytes that are left, and whether the connection then closes.
 pub record Giving : Type 0 where
@@ -53,12 +53,12 @@ new_of c = record { declared = c.declared; from = c.from; to = c.to; mode = c.mo
 -- The result of a POST.
 abbrev pub post : World → Request → New → Option UploadRefusal → Acted
 post w r new None = replied (created w new) (reply_created w.store.next r.bare r.closes) r.closes
-post w r new (Some f) = replied w (reply_refused (fault_of f) true r.bare r.closes) r.closes
+post w r new (Some f) = replied w (reply_refused (reply_fault_of f) true r.bare r.closes) r.closes
 
 -- The result of a DELETE.
 abbrev pub delete : World → Request → ℕ → Option UploadRefusal → Acted
 delete w r number None = replied (terminated w number) (reply_deleted r.closes) r.closes
-delete w r number (Some f) = refused_at w (fault_of f) r r.closes
+delete w r number (Some f) = refused_at w (reply_fault_of f) r r.closes
 
 -- The result of a HEAD.
 abbrev pub head : World → Request → Option Upload → Acted
@@ -94,7 +94,7 @@ get w r number (Some u) =
 
 -- The result of a PATCH at its head. If it is refused, a client that expects 100 Continue also gets a close.
 abbrev pub patch : World → Request → ℕ → Option ℕ → Option UploadRefusal → Acted
-patch w r number declare (Some f) = refused_at w (fault_of f) r (r.closes || r.expects)
+patch w r number declare (Some f) = refused_at w (reply_fault_of f) r (r.closes || r.expects)
 patch w r number declare None = record {
   world = begun w number r.length declare;
   draft = Some (free_number w);
@@ -128,7 +128,7 @@ fed w d (b ∷ piece) = appended w d (b ∷ piece)
 -- The reply at the body moment.
 abbrev pub patched_reply : Patch → Request → Option UploadRefusal → List ℕ
 patched_reply p r None = reply_patched (reached p) r.closes
-patched_reply p r (Some f) = reply_refused (fault_of f) false r.bare r.closes
+patched_reply p r (Some f) = reply_refused (reply_fault_of f) false r.bare r.closes
 
 -- The commit with this result: the patch is spent and answered.
 abbrev pub committed_as : World → ℕ → Patch → Request → Option UploadRefusal → Acted
@@ -142,7 +142,7 @@ commit_with w d v _ = replied w [] false
 -- The patch after these bytes of its body.
 abbrev pub fed_patch : World → ℕ → Patch → List ℕ → Patch
 fed_patch w d p [] = p
-fed_patch w d p (b ∷ piece) = longer w d p (b ∷ piece)
+fed_patch w d p (b ∷ piece) = longer_patch w d p (b ∷ piece)
 
 -- The next piece of a text.
 abbrev pub piece_of : Giving → List ℕ

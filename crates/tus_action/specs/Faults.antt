@@ -5,12 +5,12 @@ use Rattle.upload_rules.specs.declared.errors.UploadRefusal.{UploadRefusal}
 use Rattle.upload_rules.specs.declared.errors.UploadRefusal.TheVariants as uploads
 
 -- The reply's refusal for one of the rules.
-abbrev pub fault_of : UploadRefusal → Fault
-fault_of uploads.Unencodable = faults.Unencodable
-fault_of uploads.NoSuch = faults.NoSuch
-fault_of uploads.Offset = faults.Offset
-fault_of uploads.TooLong = faults.TooLong
-fault_of uploads.Slots = faults.Slots
-fault_of uploads.TooLarge = faults.TooLarge
-fault_of uploads.Full = faults.Full
-fault_of uploads.LengthSet = faults.LengthSet
+abbrev pub reply_fault_of : UploadRefusal → Fault
+reply_fault_of uploads.Unencodable = faults.Unencodable
+reply_fault_of uploads.NoSuch = faults.NoSuch
+reply_fault_of uploads.Offset = faults.Offset
+reply_fault_of uploads.TooLong = faults.TooLong
+reply_fault_of uploads.Slots = faults.Slots
+reply_fault_of uploads.TooLarge = faults.TooLarge
+reply_fault_of uploads.Full = faults.Full
+reply_fault_of uploads.LengthSet = faults.LengthSet

@@ -5,11 +5,11 @@ use Rattle.upload_rules.specs.Store.{Store, Upload, upload_of, text_of, find}
 use Rattle.upload_rules.specs.World.{Patch, World, is_there}
 use Rattle.upload_rules.specs.declared.uploads.Uploads.{Ghosts}
 use Rattle.tus_request.specs.Requests.{Action, Create}
-use Rattle.upload_rules.specs.Records.{IsWellFormed, IsOffered}
+use Rattle.upload_rules.specs.Records.{IsValidNew, IsOffered}
 use Rattle.upload_rules.specs.declared.errors.UploadError.{UploadError}
 use Rattle.upload_rules.specs.declared.errors.UploadError.TheVariants as errors
 use Rattle.tus_request.specs.Replies.{reply_refused}
-use Rattle.tus_action.specs.Faults.{fault_of}
+use Rattle.tus_action.specs.Faults.{reply_fault_of}
 use Rattle.tus_action.specs.Acts.{Acted, Giving, new_of, piece_of, pending_after}
 use Rattle.tus_action.specs.declared.acts.Done as code
 use Rattle.tus_action.specs.declared.acts.Done.TheVariants as done
@@ -87,7 +87,7 @@ Appends sure old new bytes (b ∷ text) = AppendsText sure old new bytes (b ∷ 
 -- The call did what the rules give.
 pub record ActedAs {U B : Type 0} (u : Ghosts U B) (sure : Bool) (store : U) (a : code.Done B) (old new : List ℕ)
     (m : Acted) : Type 0 where
-  pub stands : u.stands store sure m.world
+  pub represents : u.represents store sure m.world
   pub draft : DraftIs u m.world (draft_in a) m.draft
   pub giving : GivingIs m.world.store (giving_in a) m.pending
   pub closes : closes_in a ≡ m.closes
@@ -98,16 +98,16 @@ pub record ActedAs {U B : Type 0} (u : Ghosts U B) (sure : Bool) (store : U) (a 
 abbrev pub Serves : {U B : Type 0} → Ghosts U B → Bool → U → Result (code.Done B) Stop → List ℕ → List ℕ → World → Acted
     → Type 0
 Serves u sure store (Ok a) old new gone m = ActedAs u sure store a old new m
-Serves u sure store (Err NoMemory) old new gone m = u.stands store sure gone × (new ≡ old)
+Serves u sure store (Err NoMemory) old new gone m = u.represents store sure gone × (new ≡ old)
 Serves u sure store (Err DiskFault) old new gone m = new ≡ old
 
 -- The patch took the bytes: nothing but its draft changed, and that has the same number.
-pub record Fed {U B : Type 0} (u : Ghosts U B) (sure : Bool) (store : U) (b b' : OpenPatch B) (w : World)
+pub record FedPatch {U B : Type 0} (u : Ghosts U B) (sure : Bool) (store : U) (b b' : OpenPatch B) (w : World)
     (p : Patch) : Type 0 where
   pub number : u.number_of b'.draft ≡ u.number_of b.draft
   pub holds : u.holds b'.draft p
   pub found : find (u.number_of b.draft) w.patches ≡ Some p
-  pub shown : u.stands store sure w
+  pub shown : u.represents store sure w
   pub reached : b'.reached ≡ b.reached
   pub bare : b'.bare ≡ b.bare
   pub closes : b'.closes ≡ b.closes
@@ -115,22 +115,22 @@ pub record Fed {U B : Type 0} (u : Ghosts U B) (sure : Bool) (store : U) (b b' :
 -- The same result for the patch: out of memory, its draft is gone.
 abbrev pub Feeds : {U B : Type 0} → Ghosts U B → Bool → U → Result (OpenPatch B) Stop → World → World → OpenPatch B
     → Patch → Type 0
-Feeds u sure store (Ok b') gone w b p = Fed u sure store b b' w p
-Feeds u sure store (Err NoMemory) gone w b p = u.stands store sure gone
+Feeds u sure store (Ok b') gone w b p = FedPatch u sure store b b' w p
+Feeds u sure store (Err NoMemory) gone w b p = u.represents store sure gone
 Feeds u sure store (Err DiskFault) gone w b p = Unit {0}
 
 -- The body's end was answered by a commit or a refusal. Out of memory, the patch is gone.
 abbrev pub Finishes : {U : Type 0} {B : Type 0} → Ghosts U B → Bool → U → Result (Unit {0}) Stop → List ℕ → List ℕ
     → World → Acted → Type 0
-Finishes u sure store (Ok x) old new gone m = u.stands store sure m.world × (new ≡ old ++ m.bytes)
-Finishes u sure store (Err NoMemory) old new gone m = u.stands store sure gone × (new ≡ old)
+Finishes u sure store (Ok x) old new gone m = u.represents store sure m.world × (new ≡ old ++ m.bytes)
+Finishes u sure store (Err NoMemory) old new gone m = u.represents store sure gone × (new ≡ old)
 Finishes u sure store (Err DiskFault) old new gone m = new ≡ old
 
 -- The bytes received of a cut body are committed. Out of memory, the patch is gone.
-abbrev pub Ends : {U B : Type 0} → Ghosts U B → Bool → U → Result (Unit {0}) Stop → World → World → Type 0
-Ends u sure store (Ok x) gone w = u.stands store sure w
-Ends u sure store (Err NoMemory) gone w = u.stands store sure gone
-Ends u sure store (Err DiskFault) gone w = Unit {0}
+abbrev pub CutCommits : {U B : Type 0} → Ghosts U B → Bool → U → Result (Unit {0}) Stop → World → World → Type 0
+CutCommits u sure store (Ok x) gone w = u.represents store sure w
+CutCommits u sure store (Err NoMemory) gone w = u.represents store sure gone
+CutCommits u sure store (Err DiskFault) gone w = Unit {0}
 
 -- The piece was appended to the output.
 abbrev pub AppendsPiece : Bool → List ℕ → List ℕ → List ℕ → Type 0
@@ -146,17 +146,17 @@ IsGiven sure m Gone old new h None = new ≡ old
 IsGiven sure m _ old new h _ = ⊥
 
 -- The result of asking for more of a text. Errors occur only if the upload is there, and leave the output unchanged.
-abbrev pub Gives : {U B : Type 0} → Ghosts U B → Bool → U → Result Given Stop → List ℕ → List ℕ → World → Giving
+abbrev pub GivesMore : {U B : Type 0} → Ghosts U B → Bool → U → Result Given Stop → List ℕ → List ℕ → World → Giving
     → Type 0
-Gives u sure store (Ok given) old new w h =
-    u.stands store sure w × IsGiven sure w.store given old new h (upload_of w.store h.number)
-Gives u sure store (Err NoMemory) old new w h =
-    (is_there (upload_of w.store h.number) ≡ true) × u.stands store sure w × (new ≡ old)
-Gives u sure store (Err DiskFault) old new w h = (is_there (upload_of w.store h.number) ≡ true) × (new ≡ old)
+GivesMore u sure store (Ok given) old new w h =
+    u.represents store sure w × IsGiven sure w.store given old new h (upload_of w.store h.number)
+GivesMore u sure store (Err NoMemory) old new w h =
+    (is_there (upload_of w.store h.number) ≡ true) × u.represents store sure w × (new ≡ old)
+GivesMore u sure store (Err DiskFault) old new w h = (is_there (upload_of w.store h.number) ≡ true) × (new ≡ old)
 
 -- The metadata that a POST asks for fits a record, and its target has an encoder.
 abbrev pub CanBeMade : Action → Type 0
-CanBeMade (Create c) = IsWellFormed (new_of c)
+CanBeMade (Create c) = IsValidNew (new_of c)
 CanBeMade _ = Unit {0}
 
 -- The index set offers the encodings that a POST asks for.
@@ -167,7 +167,7 @@ CanBeRead w _ = Unit {0}
 -- A refusal of the rules is answered, unless memory runs out; the other errors stop the call.
 abbrev pub RepliesTo : {T : Type 0} → Result T Stop → UploadError → Bool → Bool → Bool → List ℕ → List ℕ → Type 0
 RepliesTo (Ok a) (errors.Refused f) on_files bare closes old new =
-    new ≡ old ++ reply_refused (fault_of f) on_files bare closes
+    new ≡ old ++ reply_refused (reply_fault_of f) on_files bare closes
 RepliesTo (Err stop) (errors.Refused f) on_files bare closes old new = (stop ≡ NoMemory) × (new ≡ old)
 RepliesTo (Err stop) (errors.Stop why) on_files bare closes old new = (stop ≡ why) × (new ≡ old)
 RepliesTo (Ok a) (errors.Stop why) on_files bare closes old new = ⊥

@@ -6,7 +6,7 @@ ghost use Rattle.upload_rules.specs.Calls.{commit_refusal, commit_outcome, spent
 ghost use Rattle.upload_rules.specs.Answers.{Counts, Limits, Quiet};
 ghost use Rattle.tus_request.specs.Requests.{Request};
 ghost use Rattle.tus_action.specs.Acts.{fed, fed_patch, committed_as};
-ghost use Rattle.tus_action.specs.Serves.{Feeds, Finishes, Ends};
+ghost use Rattle.tus_action.specs.Serves.{Feeds, Finishes, CutCommits};
 ghost use Rattle.tus_request.specs.Replies.{longest_reply, GrowsBy};
 
 use crate::refusals::refuse;
@@ -37,13 +37,13 @@ pub fn feed<U: Uploads>(
     patch: OpenPatch<U::Draft>,
     piece: &[u8],
 ) -> Result<OpenPatch<U::Draft>, Stop>
-    ensures answer { (sure : Bool) (w : World) (p : Patch) → U.stands store.old sure w
+    ensures answer { (sure : Bool) (w : World) (p : Patch) → U.represents store.old sure w
         → find (U.number_of patch.draft) w.patches ≡ Some p
         → U.holds patch.draft p
         → length p.body + length piece.now ≤ p.count
         → Feeds U.Uploads sure store.new result (dropped w (U.number_of patch.draft))
         (fed w (U.number_of patch.draft) piece.now) patch (fed_patch w (U.number_of patch.draft) p piece.now) }
-    ensures crash { (w : World) (p : Patch) → U.stands store.old true w
+    ensures crash { (w : World) (p : Patch) → U.represents store.old true w
         → find (U.number_of patch.draft) w.patches ≡ Some p
         → U.holds patch.draft p
         → Quiet (U.moment store.old) (U.moment store.new) (U.left_only store.old) (U.left_only store.new) }
@@ -84,17 +84,17 @@ pub fn finish<U: Uploads>(
     patch: OpenPatch<U::Draft>,
     out: &mut Vec<u8>,
 ) -> Result<(), Stop>
-    ensures answer { (sure : Bool) (w : World) (p : Patch) (r : Request) → U.stands store.old sure w
+    ensures answer { (sure : Bool) (w : World) (p : Patch) (r : Request) → U.represents store.old sure w
         → find (U.number_of patch.draft) w.patches ≡ Some p → U.holds patch.draft p
         → patch.reached ≡ reached p → patch.bare ≡ r.bare → patch.closes ≡ r.closes
         → Finishes U.Uploads sure store.new result out.old.items out.new.items (dropped w (U.number_of patch.draft))
         (committed_as w (U.number_of patch.draft) p r (commit_refusal w (U.number_of patch.draft) p)) }
-    ensures crash { (w : World) (p : Patch) → U.stands store.old true w
+    ensures crash { (w : World) (p : Patch) → U.represents store.old true w
         → find (U.number_of patch.draft) w.patches ≡ Some p
         → U.holds patch.draft p
         → Limits (U.moment store.old) (U.moment store.new) (U.left_only store.old) (U.left_only store.new) w.store
         (commit_outcome w (U.number_of patch.draft) p) }
-    ensures unmade { (w : World) (p : Patch) → U.stands store.old true w
+    ensures unmade { (w : World) (p : Patch) → U.represents store.old true w
         → find (U.number_of patch.draft) w.patches ≡ Some p
         → U.holds patch.draft p → IsErrOf result Stop.NoMemory
         → Limits (U.moment store.old) (U.moment store.new) (U.left_only store.old)
@@ -129,17 +129,17 @@ pub fn finish<U: Uploads>(
 ///
 /// `NoMemory`, with nothing committed; `DiskFault`.
 pub fn cut<U: Uploads>(store: &mut U, patch: OpenPatch<U::Draft>) -> Result<(), Stop>
-    ensures answer { (sure : Bool) (w : World) (p : Patch) → U.stands store.old sure w
+    ensures answer { (sure : Bool) (w : World) (p : Patch) → U.represents store.old sure w
         → find (U.number_of patch.draft) w.patches ≡ Some p
         → U.holds patch.draft p
-        → Ends U.Uploads sure store.new result (dropped w (U.number_of patch.draft))
+        → CutCommits U.Uploads sure store.new result (dropped w (U.number_of patch.draft))
         (spent w (U.number_of patch.draft) p (commit_refusal w (U.number_of patch.draft) p)) }
-    ensures crash { (w : World) (p : Patch) → U.stands store.old true w
+    ensures crash { (w : World) (p : Patch) → U.represents store.old true w
         → find (U.number_of patch.draft) w.patches ≡ Some p
         → U.holds patch.draft p
         → Limits (U.moment store.old) (U.moment store.new) (U.left_only store.old) (U.left_only store.new) w.store
         (commit_outcome w (U.number_of patch.draft) p) }
-    ensures unmade { (w : World) (p : Patch) → U.stands store.old true w
+    ensures unmade { (w : World) (p : Patch) → U.represents store.old true w
         → find (U.number_of patch.draft) w.patches ≡ Some p
         → U.holds patch.draft p → IsErrOf result Stop.NoMemory
         → Limits (U.moment store.old) (U.moment store.new) (U.left_only store.old)

@@ -5,7 +5,7 @@ ghost use Rattle.upload_rules.specs.World.{World};
 ghost use Rattle.upload_rules.specs.Answers.{Counts, Quiet};
 ghost use Rattle.tus_request.specs.Requests.{Request};
 ghost use Rattle.tus_action.specs.Acts.{head, get, Giving as Pending};
-ghost use Rattle.tus_action.specs.Serves.{Serves, Gives, IsGiving};
+ghost use Rattle.tus_action.specs.Serves.{Serves, GivesMore, IsGiving};
 ghost use Rattle.tus_request.specs.Replies.{longest_reply, GrowsBy};
 
 use crate::acts::{Done, Given, Giving};
@@ -30,7 +30,7 @@ pub(crate) fn show<U: Uploads>(
     closes: bool,
     out: &mut Vec<u8>,
 ) -> Result<Done<U::Draft>, Stop>
-    ensures answer { (sure : Bool) (w : World) (r : Request) → U.stands store.old sure w → bare ≡ r.bare
+    ensures answer { (sure : Bool) (w : World) (r : Request) → U.represents store.old sure w → bare ≡ r.bare
         → closes ≡ r.closes
         → Serves U.Uploads sure store.new result out.old.items out.new.items w (head w r (upload_of w.store number)) }
     ensures same { store.new ≡ store.old }
@@ -73,8 +73,8 @@ pub fn give_more<U: Uploads>(
     buffer: &mut PieceBuffer,
     out: &mut Vec<u8>,
 ) -> Result<Given, Stop>
-    ensures answer { (sure : Bool) (w : World) (h : Pending) → U.stands store.old sure w → IsGiving w.store giving h
-        → Gives U.Uploads sure store.new result out.old.items out.new.items w h }
+    ensures answer { (sure : Bool) (w : World) (h : Pending) → U.represents store.old sure w → IsGiving w.store giving h
+        → GivesMore U.Uploads sure store.new result out.old.items out.new.items w h }
     ensures crash { Quiet (U.moment store.old) (U.moment store.new) (U.left_only store.old) (U.left_only store.new) }
     ensures counts { Counts (IsErrOf result Stop.DiskFault) (U.failures store.old) (U.failures store.new) }
     ensures few { GrowsBy PIECE out.old.items out.new.items }
@@ -103,7 +103,7 @@ pub(crate) fn give_text<U: Uploads>(
     buffer: &mut PieceBuffer,
     out: &mut Vec<u8>,
 ) -> Result<Done<U::Draft>, Stop>
-    ensures answer { (sure : Bool) (w : World) (r : Request) → U.stands store.old sure w → bare ≡ r.bare
+    ensures answer { (sure : Bool) (w : World) (r : Request) → U.represents store.old sure w → bare ≡ r.bare
         → closes ≡ r.closes
         → Serves U.Uploads sure store.new result out.old.items out.new.items w
         (get w r number (upload_of w.store number)) }

@@ -1,6 +1,6 @@
 //! Replies to refusals of the upload rules.
 ghost use Rattle.std.specs.Prelude.{◌≡◌, IsErrOf, ◌↔◌};
-ghost use Rattle.tus_action.specs.Faults.{fault_of as fault};
+ghost use Rattle.tus_action.specs.Faults.{reply_fault_of};
 ghost use Rattle.tus_action.specs.Serves.{RepliesOnly, RepliesTo};
 ghost use Rattle.tus_request.specs.Replies.{longest_reply, GrowsBy};
 
@@ -13,7 +13,7 @@ use upload_rules::{UploadError, UploadRefusal};
 
 /// The reply's refusal for one of the rules.
 pub fn fault_of(refusal: UploadRefusal) -> Fault
-    ensures { result ≡ fault refusal }
+    ensures { result ≡ reply_fault_of refusal }
 {
     match refusal {
         UploadRefusal::Unencodable => Fault::Unencodable,
@@ -37,7 +37,7 @@ pub(crate) fn refuse(
     out: &mut Vec<u8>,
 ) -> Result<(), Stop>
     ensures answer { RepliesTo result error on_files bare closes out.old.items out.new.items }
-    ensures fault { IsErrOf result Stop.DiskFault ↔ (error ≡ UploadError.Stop Stop.DiskFault) }
+    ensures reply_fault_of { IsErrOf result Stop.DiskFault ↔ (error ≡ UploadError.Stop Stop.DiskFault) }
     ensures few { GrowsBy longest_reply out.old.items out.new.items }
 {
     match error {
@@ -61,7 +61,7 @@ pub(crate) fn refused<B>(
     out: &mut Vec<u8>,
 ) -> Result<Done<B>, Stop>
     ensures answer { RepliesOnly result error on_files bare closes out.old.items out.new.items }
-    ensures fault { IsErrOf result Stop.DiskFault ↔ (error ≡ UploadError.Stop Stop.DiskFault) }
+    ensures reply_fault_of { IsErrOf result Stop.DiskFault ↔ (error ≡ UploadError.Stop Stop.DiskFault) }
     ensures few { GrowsBy longest_reply out.old.items out.new.items }
 {
     match refuse(alloc, error, on_files, bare, closes, out) {

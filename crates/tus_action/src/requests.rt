@@ -31,15 +31,15 @@ pub fn act<U: Uploads>(
     out: &mut Vec<u8>,
 ) -> Result<Done<U::Draft>, Stop>
     requires well_formed { CanBeMade (request_shown request).action }
-    requires offered { (sure : Bool) (w : World) → U.stands store.old sure w
+    requires offered { (sure : Bool) (w : World) → U.represents store.old sure w
         → CanBeRead w (request_shown request).action }
-    ensures answer { (sure : Bool) (w : World) → U.stands store.old sure w
+    ensures answer { (sure : Bool) (w : World) → U.represents store.old sure w
         → Serves U.Uploads sure store.new result out.old.items out.new.items w
         (acted w (Asks (request_shown request))) }
-    ensures crash { (w : World) → U.stands store.old true w
+    ensures crash { (w : World) → U.represents store.old true w
         → Limits (U.moment store.old) (U.moment store.new) (U.left_only store.old) (U.left_only store.new) w.store
         (acted w (Asks (request_shown request))).world.store }
-    ensures unmade { (w : World) → U.stands store.old true w → IsErrOf result Stop.NoMemory
+    ensures unmade { (w : World) → U.represents store.old true w → IsErrOf result Stop.NoMemory
         → Limits (U.moment store.old) (U.moment store.new) (U.left_only store.old)
         (U.left_only store.new) w.store w.store }
     ensures counts { Counts (IsErrOf result Stop.DiskFault) (U.failures store.old) (U.failures store.new) }

@@ -4,7 +4,7 @@ ghost use Rattle.upload_rules.specs.World.{World};
 ghost use Rattle.upload_rules.specs.Calls.{create_refusal, create_outcome, terminate_refusal, terminate_outcome};
 ghost use Rattle.upload_rules.specs.Calls.{begin_refusal};
 ghost use Rattle.upload_rules.specs.Answers.{Counts, Limits, Quiet};
-ghost use Rattle.upload_rules.specs.Records.{IsWellFormed, IsOffered};
+ghost use Rattle.upload_rules.specs.Records.{IsValidNew, IsOffered};
 ghost use Rattle.tus_request.specs.Requests.{Request};
 ghost use Rattle.tus_request.specs.Replies.{reply_continue as continue_bytes};
 ghost use Rattle.tus_action.specs.Acts.{post, delete as deleted, patch};
@@ -27,15 +27,15 @@ pub(crate) fn create<U: Uploads>(
     closes: bool,
     out: &mut Vec<u8>,
 ) -> Result<Done<U::Draft>, Stop>
-    requires well_formed { IsWellFormed new }
-    requires offered { (sure : Bool) (w : World) → U.stands store.old sure w → IsOffered w.store.indexes new }
-    ensures answer { (sure : Bool) (w : World) (r : Request) → U.stands store.old sure w → bare ≡ r.bare
+    requires well_formed { IsValidNew new }
+    requires offered { (sure : Bool) (w : World) → U.represents store.old sure w → IsOffered w.store.indexes new }
+    ensures answer { (sure : Bool) (w : World) (r : Request) → U.represents store.old sure w → bare ≡ r.bare
         → closes ≡ r.closes
         → Serves U.Uploads sure store.new result out.old.items out.new.items w (post w r new (create_refusal w new)) }
-    ensures crash { (w : World) → U.stands store.old true w
+    ensures crash { (w : World) → U.represents store.old true w
         → Limits (U.moment store.old) (U.moment store.new) (U.left_only store.old) (U.left_only store.new) w.store
         (create_outcome w new) }
-    ensures unmade { (w : World) → U.stands store.old true w → IsErrOf result Stop.NoMemory
+    ensures unmade { (w : World) → U.represents store.old true w → IsErrOf result Stop.NoMemory
         → Limits (U.moment store.old) (U.moment store.new) (U.left_only store.old)
         (U.left_only store.new) w.store w.store }
     ensures counts { Counts (IsErrOf result Stop.DiskFault) (U.failures store.old) (U.failures store.new) }
@@ -64,14 +64,14 @@ pub(crate) fn delete<U: Uploads>(
     closes: bool,
     out: &mut Vec<u8>,
 ) -> Result<Done<U::Draft>, Stop>
-    ensures answer { (sure : Bool) (w : World) (r : Request) → U.stands store.old sure w → bare ≡ r.bare
+    ensures answer { (sure : Bool) (w : World) (r : Request) → U.represents store.old sure w → bare ≡ r.bare
         → closes ≡ r.closes
         → Serves U.Uploads sure store.new result out.old.items out.new.items w
         (deleted w r number (terminate_refusal w number)) }
-    ensures crash { (w : World) → U.stands store.old true w
+    ensures crash { (w : World) → U.represents store.old true w
         → Limits (U.moment store.old) (U.moment store.new) (U.left_only store.old) (U.left_only store.new) w.store
         (terminate_outcome w number) }
-    ensures unmade { (w : World) → U.stands store.old true w → IsErrOf result Stop.NoMemory
+    ensures unmade { (w : World) → U.represents store.old true w → IsErrOf result Stop.NoMemory
         → Limits (U.moment store.old) (U.moment store.new) (U.left_only store.old)
         (U.left_only store.new) w.store w.store }
     ensures counts { Counts (IsErrOf result Stop.DiskFault) (U.failures store.old) (U.failures store.new) }
@@ -116,7 +116,7 @@ pub(crate) fn begin<U: Uploads>(
     closes: bool,
     out: &mut Vec<u8>,
 ) -> Result<Done<U::Draft>, Stop>
-    ensures answer { (sure : Bool) (w : World) (r : Request) → U.stands store.old sure w → length ≡ r.length
+    ensures answer { (sure : Bool) (w : World) (r : Request) → U.represents store.old sure w → length ≡ r.length
         → bare ≡ r.bare
         → expects ≡ r.expects → closes ≡ r.closes
         → Serves U.Uploads sure store.new result out.old.items out.new.items w

@@ -34,7 +34,7 @@ record WasThere (m : Store) (n : ℕ) (v : Upload) : Type 0 where
 
 -- From one store to a later one the next number doesn't fall, and stays above those of the uploads. An upload whose
 -- number was given by then was there then
-record Keeps (m m' : Store) : Type 0 where
+record IsLaterStore (m m' : Store) : Type 0 where
   next : m.next ≤ m'.next
   above : IsAbove m → IsAbove m'
   known : HasAllBytes m → HasAllBytes m'
@@ -43,16 +43,16 @@ record Keeps (m m' : Store) : Type 0 where
 same_there : (m : Store) (n : ℕ) (v : Upload) → upload_of m n ≡ Some v → WasThere m n v
 same_there m n v there = record { upload = v; there = there; declare = None; more = []; is = patched_nothing v }
 
-itself_keeps : (m : Store) → Keeps m m
-itself_keeps m = record {
+itself_later : (m : Store) → IsLaterStore m m
+itself_later m = record {
   next = omega arith;
   above = λ h. h;
   known = λ h. h;
   uploads = λ n v lt there. same_there m n v there;
 }
 
-keeps_both : (a b c : Store) → Keeps a b → Keeps b c → Keeps a c
-keeps_both a b c first second =
+later_both : (a b c : Store) → IsLaterStore a b → IsLaterStore b c → IsLaterStore a c
+later_both a b c first second =
     let le : a.next ≤ b.next = first.next in
     let le' : b.next ≤ c.next = second.next in
     record {
@@ -77,8 +77,8 @@ found_made : (n m : ℕ) (u new : Upload) (uploads : List (ℕ × Upload)) → f
 found_made n m u new [] found = grind (arith, nat_tests)
 found_made n m u new (x ∷ xs) found = let ih = found_made n m u new xs in grind (arith, nat_tests, ih)
 
-made_keeps : (m : Store) (new : New) → Keeps m (created_store m new)
-made_keeps m new = record {
+made_later : (m : Store) (new : New) → IsLaterStore m (created_store m new)
+made_later m new = record {
   next = omega arith;
   above = λ above n u found.
       let made = found_made n m.next u (new_upload new) m.uploads found in grind (arith, above);
@@ -100,10 +100,10 @@ put_there m number declare body v there =
     ap (λ o. upload_of (patched_at m number declare body o) number) there
     ∙ find_replaced_same number v (patched v declare body) m.uploads there
 
-put_keeps_at : (m : Store) (number : ℕ) (declare : Option ℕ) (body : List ℕ) (o : Option Upload)
-    → upload_of m number ≡ o → Keeps m (patched_at m number declare body o)
-put_keeps_at m number declare body None none = itself_keeps m
-put_keeps_at m number declare body (Some u) there = record {
+put_later_at : (m : Store) (number : ℕ) (declare : Option ℕ) (body : List ℕ) (o : Option Upload)
+    → upload_of m number ≡ o → IsLaterStore m (patched_at m number declare body o)
+put_later_at m number declare body None none = itself_later m
+put_later_at m number declare body (Some u) there = record {
   next = omega arith;
   above = λ above n v found. grind (arith, above, find_replaced_other);
   known = λ known n v found. elim (cases_eq number n) [
@@ -132,71 +132,71 @@ found_deleted : (m : Store) (gone n : ℕ) (v : Upload) → upload_of (deleted_s
     → upload_of m n ≡ Some v
 found_deleted m gone n v found = grind (arith, none_in_others, find_in_others)
 
-deleted_keeps : (m : Store) (gone : ℕ) → Keeps m (deleted_store m gone)
-deleted_keeps m gone = record {
+deleted_later : (m : Store) (gone : ℕ) → IsLaterStore m (deleted_store m gone)
+deleted_later m gone = record {
   next = omega arith;
   above = λ above n v found. above n v (found_deleted m gone n v found);
   known = λ known n v found. known n v (found_deleted m gone n v found);
   uploads = λ n v lt found. same_there m n v (found_deleted m gone n v found);
 }
 
-put_keeps : (m after : Store) (number : ℕ) (declare : Option ℕ) (body : List ℕ)
-    → patched_store m number declare body ≡ after → Keeps m after
-put_keeps m after number declare body is =
-    subst (Keeps m) is (put_keeps_at m number declare body (upload_of m number) refl)
+put_later : (m after : Store) (number : ℕ) (declare : Option ℕ) (body : List ℕ)
+    → patched_store m number declare body ≡ after → IsLaterStore m after
+put_later m after number declare body is =
+    subst (IsLaterStore m) is (put_later_at m number declare body (upload_of m number) refl)
 
-changed_keeps : (st : State) (e : Event) (after : Store) → Changed st e after → Keeps st.world.store after
-changed_keeps st e after (Nothing is) = rw is (itself_keeps st.world.store)
-changed_keeps st e after (Made new is) = rw is (made_keeps st.world.store new)
-changed_keeps st e after (Declared x total d accepted is) =
-    rw is (put_keeps st.world.store _ x.patch.number (Some total) []
+changed_later : (st : State) (e : Event) (after : Store) → Changed st e after → IsLaterStore st.world.store after
+changed_later st e after (Nothing is) = rw is (itself_later st.world.store)
+changed_later st e after (Made new is) = rw is (made_later st.world.store new)
+changed_later st e after (Declared x total d accepted is) =
+    rw is (put_later st.world.store _ x.patch.number (Some total) []
     (declared_is st.world.store x.patch.number d.upload d.there total d.unknown))
-changed_keeps st e after (Put x body accepted is) =
+changed_later st e after (Put x body accepted is) =
     let fit = fitting_at st e x (done_uploads st e x) accepted in
     let stays : known_or fit.up.declared None ≡ fit.up.declared =
     ap (λ u. u.declared) (sym (patched_nothing fit.up)) in
-    rw is (put_keeps st.world.store _ x.patch.number None x.patch.body
+    rw is (put_later st.world.store _ x.patch.number None x.patch.body
     (put_is st.world.store x.patch.number fit.up fit.there None x.patch.body stays))
-changed_keeps st e after (DeclaredAndPut x total d body accepted is) =
-    rw is (put_keeps st.world.store _ x.patch.number (Some total) x.patch.body
+changed_later st e after (DeclaredAndPut x total d body accepted is) =
+    rw is (put_later st.world.store _ x.patch.number (Some total) x.patch.body
     (both_is st.world.store x.patch.number d.upload d.there total d.unknown x.patch.body))
-changed_keeps st e after (Deleted n u there is) = rw is (deleted_keeps st.world.store n)
+changed_later st e after (Deleted n u there is) = rw is (deleted_later st.world.store n)
 
-event_keeps : (st : State) (e : Event) (mark : Mark) → Keeps st.world.store (step st e mark).state.world.store
-event_keeps st e Served = changed_keeps st e (step st e Served).state.world.store (served_changed st e)
-event_keeps st e OutOfMemory = rw (memory_same st e) (itself_keeps st.world.store)
-event_keeps st e Failed = rw (fault_same st e) (itself_keeps st.world.store)
+event_later : (st : State) (e : Event) (mark : Mark) → IsLaterStore st.world.store (step st e mark).state.world.store
+event_later st e Served = changed_later st e (step st e Served).state.world.store (served_changed st e)
+event_later st e OutOfMemory = rw (memory_same st e) (itself_later st.world.store)
+event_later st e Failed = rw (fault_same st e) (itself_later st.world.store)
 
 -- ALONG A HISTORY
 
-later_keeps : (start : State) (past later : List Marked) → Keeps (store_at start past) (store_at start (later ++ past))
-later_keeps start past [] = itself_keeps (store_at start past)
-later_keeps start past (e ∷ later) =
-    keeps_both (store_at start past) (store_at start (later ++ past)) (store_at start (e ∷ (later ++ past)))
-    (later_keeps start past later) (event_keeps (history start (later ++ past)) e.0 e.1)
+later_later : (start : State) (past later : List Marked) → IsLaterStore (store_at start past) (store_at start (later ++ past))
+later_later start past [] = itself_later (store_at start past)
+later_later start past (e ∷ later) =
+    later_both (store_at start past) (store_at start (later ++ past)) (store_at start (e ∷ (later ++ past)))
+    (later_later start past later) (event_later (history start (later ++ past)) e.0 e.1)
 
 pub always_above : (start : State) (past : List Marked) → IsAbove start.world.store → IsAbove (store_at start past)
 always_above start [] above = above
 always_above start (e ∷ past) above =
-    (event_keeps (history start past) e.0 e.1).above (always_above start past above)
+    (event_later (history start past) e.0 e.1).above (always_above start past above)
 
 -- the bytes of each upload stay all that came
 pub always_known : (start : State) (past : List Marked) → HasAllBytes start.world.store
     → HasAllBytes (store_at start past)
 always_known start [] known = known
 always_known start (e ∷ past) known =
-    (event_keeps (history start past) e.0 e.1).known (always_known start past known)
+    (event_later (history start past) e.0 e.1).known (always_known start past known)
 
 pub next_grows : (start : State) (past later : List Marked)
     → (store_at start past).next ≤ (store_at start (later ++ past)).next
-next_grows start past later = (later_keeps start past later).next
+next_grows start past later = (later_later start past later).next
 
 -- an upload that is still there has what PATCHes brought since
 pub later_grows : (start : State) (past later : List Marked) → IsAbove start.world.store → (n : ℕ) (u v : Upload)
     → upload_of (store_at start past) n ≡ Some u → upload_of (store_at start (later ++ past)) n ≡ Some v
     → (declare : Option ℕ) × (more : List ℕ) × (v ≡ patched u declare more)
 later_grows start past later above n u v there there' =
-    let was = (later_keeps start past later).uploads n v (always_above start past above n u there) there' in
+    let was = (later_later start past later).uploads n v (always_above start past above n u there) there' in
     let same : was.upload ≡ u = same_Some was.upload u (sym was.there ∙ there) in
     (was.declare, was.more, was.is ∙ ap (λ x. patched x was.declare was.more) same)
 
@@ -229,5 +229,5 @@ later_gone start past between later above n u there none =
     let lt = always_above start past above n u there in
     let le = next_grows start past between in
     none_if _ (λ v is.
-    let was = (later_keeps start (between ++ past) later).uploads n v (omega (arith, lt, le)) is in
+    let was = (later_later start (between ++ past) later).uploads n v (omega (arith, lt, le)) is in
     none-some was.upload (sym none ∙ was.there))

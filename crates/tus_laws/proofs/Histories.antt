@@ -17,25 +17,25 @@ use Rattle.tus_session.specs.Turns.{Conn, fresh, reader, body_step, turn_of, cam
 use Rattle.tus_session.specs.Turns.{give_on, more_on, more_turn, ended_with, ended_world}
 use Rattle.tus_session.specs.Turns.{came_on as came_turn_on}
 use Rattle.tus_session.specs.Turns.{ended_on as ended_world_on}
-use Rattle.tus_session.specs.History.{State, Step, Event, Opened, Came, More, Ended, Marked, Served, Done, put, kept}
+use Rattle.tus_session.specs.History.{State, Step, Event, Opened, Came, More, Ended, Marked, Served, Done, put, refused_same}
 use Rattle.tus_session.specs.declared.session.TheConstants.{MOST_OPEN}
 use Rattle.tus_session.specs.History.{turned, opened_at, came_at, more_at, ended_at, conn_in, step, history, beginning}
 use Rattle.tus_session.specs.declared.errors.SessionError.{SessionError}
 use Rattle.tus_session.specs.declared.errors.SessionError.TheVariants.{TooMany, Closed}
-use Rattle.tus_session.specs.Stands.{draft_at}
-use Rattle.tus_session.proofs.Tolds.{came_is, ended_step}
-use Rattle.tus_session.proofs.BodyTold.{rest_same}
+use Rattle.tus_session.specs.Represents.{draft_of_conn}
+use Rattle.tus_session.proofs.EventResults.{came_is, ended_step}
+use Rattle.tus_session.proofs.BodyResults.{rest_same}
 use Rattle.tus_session.proofs.Feeding.{fed_body}
 use Rattle.tus_laws.specs.Patches.{moments_in, at_its_head, BodyCut, DonePatch, IsRefused, Changed}
-use Rattle.tus_laws.specs.Cuts.{head_moment, body_moment, came_moments, cut_moment, came_on, ended_on, event_moments}
-use Rattle.tus_laws.specs.Cuts.{all_moments, bytes_of, given, text_left, still_to_give, KeepsText, AllSmooth}
+use Rattle.tus_laws.specs.Cuts.{head_moment, body_moment, came_moments, cut_moment, came_moments_on, ended_moments_on, event_moments}
+use Rattle.tus_laws.specs.Cuts.{all_moments, outcome_bytes, bytes_given, text_left, still_to_give, CutsNoText, AllSmooth}
 use Rattle.tus_laws.proofs.Changes.{served_changed, with_idle, with_text, done_came, ended_spent}
 use Rattle.tus_laws.proofs.Bare.{bared, fed_there, ended_calm}
 use Rattle.tus_laws.proofs.Bodies.{none_if, Holds, DraftHolds, Brings, BringsAll, brings_all}
 use Rattle.tus_laws.proofs.Turning.{Opens, head_opens, body_opens, commit_idle, spent_else, Rep, replay, replay_both}
 use Rattle.tus_laws.proofs.Turning.{act_cut, here_set, else_set, Did, did_head, part_did, whole_did, found_u, store_u}
 use Rattle.tus_laws.proofs.Turning.{blocks_u, patches_u}
-use Rattle.tus_laws.proofs.Replays.{Valid, Sim, Keeps, Replays, valid_put, sim_put, sim_same, more_given, came_after}
+use Rattle.tus_laws.proofs.Replays.{Valid, Sim, IsTurnOf, Replays, valid_put, sim_put, sim_same, more_given, came_after}
 
 -- THE INDEXES stay
 changed_indexes : (st : State) (e : Event) (after : Store) → Changed st e after → after.indexes ≡ st.world.store.indexes
@@ -46,20 +46,20 @@ same_indexes st e = changed_indexes st e (step st e Served).state.world.store (s
 
 -- after an event
 abbrev pub After : (ℕ → List ℕ) → ℕ → Rep → Step → Type 0
-After g c r x = Valid x.state × Sim x.state (more_given g c (bytes_of x.outcome)) r
+After g c r x = Valid x.state × Sim x.state (more_given g c (outcome_bytes x.outcome)) r
 
 module _ (st : State) (valid : Valid st) (g : ℕ → List ℕ) (r : Rep) (sim : Sim st g r) (c : ℕ) where
-  refused_after : (why : SessionError) → After g c r (kept st why)
+  refused_after : (why : SessionError) → After g c r (refused_same st why)
   refused_after why = (valid, sim_same st g r c sim)
 
   -- the world and the patches stay
-  still_after : (o : Option Conn) (bytes : List ℕ) → draft_at o ≡ draft_at (st.conns c)
+  still_after : (o : Option Conn) (bytes : List ℕ) → draft_of_conn o ≡ draft_of_conn (st.conns c)
       → ((k : Conn) → o ≡ Some k → DraftHolds st.world k)
       → ((k : Conn) → o ≡ Some k → (d : ℕ) → k.draft ≡ Some d → k.pending ≡ None)
       → still_to_give (st.conns c) ≡ bytes ++ still_to_give o
       → Valid (put st st.world c o) × Sim (put st st.world c o) (more_given g c bytes) r
   still_after o bytes own holds idle text =
-      let keeps : Keeps st valid st.world c o = record {
+      let text_there : IsTurnOf st valid st.world c o = record {
         indexes = refl;
         others = λ e p there ne. there;
         fresh = λ d is. inl (sym own ∙ is);
@@ -73,16 +73,16 @@ module _ (st : State) (valid : Valid st) (g : ℕ → List ℕ) (r : Rep) (sim :
         drafts = λ e ne. refl;
         given = λ e ne. refl;
       } in
-      (valid_put st valid st.world c o keeps, sim_put st g r r st.world c o bytes sim replays)
+      (valid_put st valid st.world c o text_there, sim_put st g r r st.world c o bytes sim replays)
 
   -- the connection is closed, and no patch was open on it
-  closed_after : (bytes : List ℕ) → draft_at (st.conns c) ≡ None → still_to_give (st.conns c) ≡ bytes ++ []
+  closed_after : (bytes : List ℕ) → draft_of_conn (st.conns c) ≡ None → still_to_give (st.conns c) ≡ bytes ++ []
       → Valid (put st st.world c None) × Sim (put st st.world c None) (more_given g c bytes) r
   closed_after bytes own text =
       still_after None bytes (sym own) (λ j is. absurd (none-some j is)) (λ j is. absurd (none-some j is)) text
 
   -- the connection stays, and no patch is open on it before or after
-  patchless_after : (j : Conn) (bytes : List ℕ) → j.draft ≡ None → draft_at (st.conns c) ≡ None
+  patchless_after : (j : Conn) (bytes : List ℕ) → j.draft ≡ None → draft_of_conn (st.conns c) ≡ None
       → still_to_give (st.conns c) ≡ bytes ++ text_left j.pending
       → Valid (put st st.world c (Some j)) × Sim (put st st.world c (Some j)) (more_given g c bytes) r
   patchless_after j bytes none own text =
@@ -91,7 +91,7 @@ module _ (st : State) (valid : Valid st) (g : ℕ → List ℕ) (r : Rep) (sim :
   -- OPENED
   opened_after : (o : Option Conn) → st.conns c ≡ o → After g c r (opened_at st c o)
   opened_after None none = elim (cases_Bool (nat_lt c MOST_OPEN)) [
-    | inl t ↦ rw t (patchless_after fresh [] refl (ap draft_at none) (ap still_to_give none))
+    | inl t ↦ rw t (patchless_after fresh [] refl (ap draft_of_conn none) (ap still_to_give none))
     | inr f ↦ rw f (refused_after TooMany)
   ]
   opened_after (Some k) is = refused_after TooMany
@@ -99,7 +99,7 @@ module _ (st : State) (valid : Valid st) (g : ℕ → List ℕ) (r : Rep) (sim :
   module _ (k : Conn) (here : st.conns c ≡ Some k) where
     same_conn : Valid (put st st.world c (Some k)) × Sim (put st st.world c (Some k)) (more_given g c []) r
     same_conn =
-        still_after (Some k) [] (ap draft_at (sym here)) (λ j is. valid.holds c j (here ∙ is))
+        still_after (Some k) [] (ap draft_of_conn (sym here)) (λ j is. valid.holds c j (here ∙ is))
         (λ j is. valid.idle c j (here ∙ is)) (ap still_to_give here)
 
     text_no_draft : (h : Giving) → k.pending ≡ Some h → k.draft ≡ None
@@ -110,12 +110,12 @@ module _ (st : State) (valid : Valid st) (g : ℕ → List ℕ) (r : Rep) (sim :
         → still_to_give (st.conns c) ≡ bytes ++ left
         → let o = given_up k closes (pending_of number left closes) in
         Valid (put st st.world c o) × Sim (put st st.world c o) (more_given g c bytes) r
-    given_conn number true [] bytes none text = closed_after bytes (ap draft_at here ∙ none) text
+    given_conn number true [] bytes none text = closed_after bytes (ap draft_of_conn here ∙ none) text
     given_conn number false [] bytes none text =
-        patchless_after (record k { pending = None }) bytes none (ap draft_at here ∙ none) text
+        patchless_after (record k { pending = None }) bytes none (ap draft_of_conn here ∙ none) text
     given_conn number closes (b ∷ left) bytes none text =
         let j : Conn = record k { pending = Some (record { number = number; left = b ∷ left; closes = closes }) } in
-        patchless_after j bytes none (ap draft_at here ∙ none) text
+        patchless_after j bytes none (ap draft_of_conn here ∙ none) text
 
     -- a piece is given, since the upload is there
     there_case : (h : Giving) → k.pending ≡ Some h → (u : Upload) → upload_of st.world.store h.number ≡ Some u
@@ -124,14 +124,14 @@ module _ (st : State) (valid : Valid st) (g : ℕ → List ℕ) (r : Rep) (sim :
         rw there (given_conn h.number h.closes (drop PIECE h.left) (take PIECE h.left) (text_no_draft h text)
         (ap still_to_give here ∙ (ap text_left text ∙ sym (take-append-drop PIECE h.left))))
 
-    more_case : KeepsText st (More c) → (o : Option Giving) → k.pending ≡ o
+    more_case : CutsNoText st (More c) → (o : Option Giving) → k.pending ≡ o
         → After g c r (turned st c (more_on st.world k o))
-    more_case keeps None idle = same_conn
-    more_case keeps (Some h) text = let there = keeps k h here text in there_case h text there.0 there.1
+    more_case text_there None idle = same_conn
+    more_case text_there (Some h) text = let there = text_there k h here text in there_case h text there.0 there.1
 
-    more_after : KeepsText st (More c) → After g c r (turned st c (more_turn st.world k))
+    more_after : CutsNoText st (More c) → After g c r (turned st c (more_turn st.world k))
     unfolding more_turn
-    more_after keeps = more_case keeps k.pending refl
+    more_after text_there = more_case text_there k.pending refl
 
     -- THE END of a connection
     module _ (d : ℕ) (is : k.draft ≡ Some d) (roomy : (x : DonePatch st (Ended c)) → IsRefused x Full → ⊥)
@@ -157,14 +157,14 @@ module _ (st : State) (valid : Valid st) (g : ℕ → List ℕ) (r : Rep) (sim :
       ends : ended_world st.world k ≡ w'
       ends = ended_spent st.world k d h.patch is h.found
 
-      cut_keeps : Keeps st valid w' c None
-      cut_keeps = record {
+      cut_later : IsTurnOf st valid w' c None
+      cut_later = record {
         indexes =
             ap (λ w. w.store.indexes) (sym ends)
             ∙ (ap (λ x. x.state.world.store.indexes) (sym (ended_step st c k here)) ∙ same_indexes st (Ended c));
         others =
             λ e p there ne. spent_else st.world d e h.patch (commit_refusal st.world d h.patch)
-            (λ same. ne (ap draft_at here ∙ (is ∙ ap Some same))) ∙ there;
+            (λ same. ne (ap draft_of_conn here ∙ (is ∙ ap Some same))) ∙ there;
         fresh = λ e f. absurd (none-some e f);
         holds = λ j f. absurd (none-some j f);
         idle = λ j f. absurd (none-some j f);
@@ -193,9 +193,9 @@ module _ (st : State) (valid : Valid st) (g : ℕ → List ℕ) (r : Rep) (sim :
       cut_after : After g c (act_cut r c body (r.drafts c))
           (record { state = put st (ended_world st.world k) c None; outcome = Done; text = [] })
       cut_after =
-          let own : r.drafts c ≡ Some d = sim.drafts c ∙ (ap draft_at here ∙ is) in
+          let own : r.drafts c ≡ Some d = sim.drafts c ∙ (ap draft_of_conn here ∙ is) in
           rw (own, ends) (
-            valid_put st valid w' c None cut_keeps,
+            valid_put st valid w' c None cut_later,
             sim_put st g r (act_cut r c body (Some d)) w' c None [] sim cut_replays,
           )
 
@@ -207,7 +207,7 @@ module _ (st : State) (valid : Valid st) (g : ℕ → List ℕ) (r : Rep) (sim :
         → (o : Option ℕ) → k.draft ≡ o → After g c (replay r (cut_moment st.world c k o))
         (record { state = put st (ended_world st.world k) c None; outcome = Done; text = [] })
     end_case roomy text None none =
-        rw (none_ended none) (closed_after [] (ap draft_at here ∙ none) text)
+        rw (none_ended none) (closed_after [] (ap draft_of_conn here ∙ none) text)
     end_case roomy text (Some d) is = cut_after d is roomy text
 
     -- BYTES that came
@@ -235,7 +235,7 @@ module _ (st : State) (valid : Valid st) (g : ℕ → List ℕ) (r : Rep) (sim :
       r1 = replay r (head_moment c m.head)
 
       first_did : Did r r1 c a
-      first_did = did_head st.world k.draft r c m.head sim.world (sim.drafts c ∙ ap draft_at here)
+      first_did = did_head st.world k.draft r c m.head sim.world (sim.drafts c ∙ ap draft_of_conn here)
 
       turn_is : came_turn st.world k piece ≡ came_with k piece n m a
       unfolding came_turn
@@ -348,21 +348,21 @@ module _ (st : State) (valid : Valid st) (g : ℕ → List ℕ) (r : Rep) (sim :
 module _ (st : State) (valid : Valid st) (g : ℕ → List ℕ) (r : Rep) (sim : Sim st g r) where
   came_at_after : (c : ℕ) (piece : List ℕ) → ((x : DonePatch st (Came c piece)) → IsRefused x Full → ⊥)
       → (o : Option Conn) → st.conns c ≡ o
-      → After g c (replay r (came_on st.world c piece o)) (came_at st c piece o)
+      → After g c (replay r (came_moments_on st.world c piece o)) (came_at st c piece o)
   came_at_after c piece roomy None is = refused_after st valid g r sim c Closed
   came_at_after c piece roomy (Some k) is = came_case st valid g r sim c k is piece roomy k.pending refl
 
-  more_at_after : (c : ℕ) → KeepsText st (More c) → (o : Option Conn) → st.conns c ≡ o → After g c r (more_at st c o)
-  more_at_after c keeps None is = refused_after st valid g r sim c Closed
-  more_at_after c keeps (Some k) is = more_after st valid g r sim c k is keeps
+  more_at_after : (c : ℕ) → CutsNoText st (More c) → (o : Option Conn) → st.conns c ≡ o → After g c r (more_at st c o)
+  more_at_after c text_there None is = refused_after st valid g r sim c Closed
+  more_at_after c text_there (Some k) is = more_after st valid g r sim c k is text_there
 
   ended_at_after : (c : ℕ) → ((x : DonePatch st (Ended c)) → IsRefused x Full → ⊥) → still_to_give (st.conns c) ≡ []
       → (o : Option Conn) → st.conns c ≡ o
-      → After g c (replay r (ended_on st.world c o)) (ended_at st c o)
+      → After g c (replay r (ended_moments_on st.world c o)) (ended_at st c o)
   ended_at_after c roomy text None is = refused_after st valid g r sim c Closed
   ended_at_after c roomy text (Some k) is = end_case st valid g r sim c k is roomy text k.draft refl
 
-  event_after : (e : Event) → ((x : DonePatch st e) → IsRefused x Full → ⊥) → KeepsText st e
+  event_after : (e : Event) → ((x : DonePatch st e) → IsRefused x Full → ⊥) → CutsNoText st e
       → After g (conn_in e) (replay r (event_moments st e)) (step st e Served)
   unfolding step
   event_after (Opened c) roomy text = opened_after st valid g r sim c (st.conns c) refl
@@ -377,7 +377,7 @@ first_rep m blocks = record { world = bared (at_rest m blocks); drafts = λ c. N
 
 record IsThere (start : State) (r : Rep) (past : List Marked) : Type 0 where
   valid : Valid (history start past)
-  sim : Sim (history start past) (λ c. given start c past) (replay r (all_moments start past))
+  sim : Sim (history start past) (λ c. bytes_given start c past) (replay r (all_moments start past))
 
 begins : (m : Store) (blocks : Option ℕ) → IsThere (beginning m blocks) (first_rep m blocks) []
 begins m blocks = record {
@@ -397,7 +397,7 @@ all_there m blocks (e ∷ past) (before, now) =
     let st = history start past in
     let r0 = first_rep m blocks in
     let there = all_there m blocks past before in
-    let g : ℕ → List ℕ = λ c. given start c past in
+    let g : ℕ → List ℕ = λ c. bytes_given start c past in
     let r = replay r0 (all_moments start past) in
     let after = event_after st there.valid g r there.sim e.0 now.roomy now.text in
     let joined : After g (conn_in e.0) (replay r0 (all_moments start past ++ event_moments st e.0)) (step st e.0 e.1) =
@@ -407,8 +407,8 @@ all_there m blocks (e ∷ past) (before, now) =
 pub same_bytes : (m : Store) (blocks : Option ℕ) (past other : List Marked) (c : ℕ)
     → AllSmooth (beginning m blocks) past → AllSmooth (beginning m blocks) other
     → all_moments (beginning m blocks) past ≡ all_moments (beginning m blocks) other
-    → given (beginning m blocks) c past ++ still_to_give ((history (beginning m blocks) past).conns c)
-    ≡ given (beginning m blocks) c other ++ still_to_give ((history (beginning m blocks) other).conns c)
+    → bytes_given (beginning m blocks) c past ++ still_to_give ((history (beginning m blocks) past).conns c)
+    ≡ bytes_given (beginning m blocks) c other ++ still_to_give ((history (beginning m blocks) other).conns c)
 same_bytes m blocks past other c smooth smooth' same =
     sym ((all_there m blocks past smooth).sim.given c)
     ∙ (ap (λ ms. (replay (first_rep m blocks) ms).given c) same ∙ (all_there m blocks other smooth').sim.given c)

@@ -8,9 +8,9 @@ use Rattle.upload_rules.specs.Store.{find}
 use Rattle.upload_rules.specs.World.{Patch, World}
 use Rattle.tus_session.specs.Turns.{Conn, conn_of}
 use Rattle.tus_session.specs.History.{State, with_conn, put}
-use Rattle.tus_session.specs.Stands.{draft_at}
+use Rattle.tus_session.specs.Represents.{draft_of_conn}
 use Rattle.tus_session.proofs.InPlace.{conns_here, conns_else}
-use Rattle.tus_session.proofs.BodyTold.{rest_same}
+use Rattle.tus_session.proofs.BodyResults.{rest_same}
 use Rattle.tus_action.specs.Acts.{Acted}
 use Rattle.tus_laws.specs.Cuts.{still_to_give}
 use Rattle.tus_laws.proofs.Bare.{bared}
@@ -21,29 +21,29 @@ use Rattle.tus_laws.proofs.Turning.{Opens, Rep, Did}
 pub record Valid (st : State) : Type 0 where
   pub holds : (c : ℕ) (k : Conn) → st.conns c ≡ Some k → DraftHolds st.world k
   pub idle : (c : ℕ) (k : Conn) → st.conns c ≡ Some k → (d : ℕ) → k.draft ≡ Some d → k.pending ≡ None
-  pub apart : (c e d : ℕ) → draft_at (st.conns c) ≡ Some d → draft_at (st.conns e) ≡ Some d → c ≡ e
+  pub apart : (c e d : ℕ) → draft_of_conn (st.conns c) ≡ Some d → draft_of_conn (st.conns e) ≡ Some d → c ≡ e
 
 -- the replay is where the history is
 pub record Sim (st : State) (g : ℕ → List ℕ) (r : Rep) : Type 0 where
   pub world : r.world ≡ bared st.world
-  pub drafts : (c : ℕ) → r.drafts c ≡ draft_at (st.conns c)
+  pub drafts : (c : ℕ) → r.drafts c ≡ draft_of_conn (st.conns c)
   pub given : (c : ℕ) → r.given c ≡ g c ++ still_to_give (st.conns c)
 
-some_conn : (o : Option Conn) (d : ℕ) → draft_at o ≡ Some d → (k : Conn) × (o ≡ Some k) × (k.draft ≡ Some d)
+some_conn : (o : Option Conn) (d : ℕ) → draft_of_conn o ≡ Some d → (k : Conn) × (o ≡ Some k) × (k.draft ≡ Some d)
 some_conn None d e = absurd (none-some d e)
 some_conn (Some k) d e = (k, refl, e)
 
 module _ (st : State) (valid : Valid st) (w' : World) (c : ℕ) (o' : Option Conn) where
   -- what a turn of one connection keeps
-  pub record Keeps : Type 0 where
+  pub record IsTurnOf : Type 0 where
     pub indexes : w'.store.indexes ≡ st.world.store.indexes
-    pub others : (e : ℕ) (p : Patch) → find e st.world.patches ≡ Some p → (draft_at (st.conns c) ≡ Some e → ⊥)
+    pub others : (e : ℕ) (p : Patch) → find e st.world.patches ≡ Some p → (draft_of_conn (st.conns c) ≡ Some e → ⊥)
         → find e w'.patches ≡ Some p
-    pub fresh : (d : ℕ) → draft_at o' ≡ Some d → (draft_at (st.conns c) ≡ Some d) ⊎ (find d st.world.patches ≡ None)
+    pub fresh : (d : ℕ) → draft_of_conn o' ≡ Some d → (draft_of_conn (st.conns c) ≡ Some d) ⊎ (find d st.world.patches ≡ None)
     pub holds : (k : Conn) → o' ≡ Some k → DraftHolds w' k
     pub idle : (k : Conn) → o' ≡ Some k → (d : ℕ) → k.draft ≡ Some d → k.pending ≡ None
 
-  module _ (keeps : Keeps) where
+  module _ (text_there : IsTurnOf) where
     abbrev conns : ℕ → Option Conn
     conns = with_conn st.conns c o'
 
@@ -53,13 +53,13 @@ module _ (st : State) (valid : Valid st) (w' : World) (c : ℕ) (o' : Option Con
         record {
           asked = x.asked;
           patch = x.patch;
-          rest = rest_same st.world w' k.stream keeps.indexes ∙ x.rest;
-          found = keeps.others d x.patch x.found (λ own. ne (valid.apart e c d (ap draft_at is ∙ f) own));
+          rest = rest_same st.world w' k.stream text_there.indexes ∙ x.rest;
+          found = text_there.others d x.patch x.found (λ own. ne (valid.apart e c d (ap draft_of_conn is ∙ f) own));
           body = x.body;
         }
 
-    not_both : (e d : ℕ) → e ≢ c → draft_at o' ≡ Some d → draft_at (st.conns e) ≡ Some d → ⊥
-    not_both e d ne f h = elim (keeps.fresh d f) [
+    not_both : (e d : ℕ) → e ≢ c → draft_of_conn o' ≡ Some d → draft_of_conn (st.conns e) ≡ Some d → ⊥
+    not_both e d ne f h = elim (text_there.fresh d f) [
       | inl own ↦ ne (valid.apart e c d h own)
       | inr none ↦
           let k = some_conn (st.conns e) d h in
@@ -70,11 +70,11 @@ module _ (st : State) (valid : Valid st) (w' : World) (c : ℕ) (o' : Option Con
     pub valid_put : Valid (put st w' c o')
     valid_put = record {
       holds = λ e k is. elim (cases_eq e c) [
-        | inl same ↦ keeps.holds k (sym (conns_here st.conns c o') ∙ (ap conns (sym same) ∙ is))
+        | inl same ↦ text_there.holds k (sym (conns_here st.conns c o') ∙ (ap conns (sym same) ∙ is))
         | inr ne ↦ old_holds e ne k (sym (conns_else st.conns c e o' ne) ∙ is)
       ];
       idle = λ e k is. elim (cases_eq e c) [
-        | inl same ↦ keeps.idle k (sym (conns_here st.conns c o') ∙ (ap conns (sym same) ∙ is))
+        | inl same ↦ text_there.idle k (sym (conns_here st.conns c o') ∙ (ap conns (sym same) ∙ is))
         | inr ne ↦ valid.idle e k (sym (conns_else st.conns c e o' ne) ∙ is)
       ];
       apart = λ a b d f h. grind (arith, nat_tests, valid.apart, not_both);
@@ -84,7 +84,7 @@ module _ (st : State) (valid : Valid st) (w' : World) (c : ℕ) (o' : Option Con
 pub record Replays (st : State) (g : ℕ → List ℕ) (r r' : Rep) (w' : World) (c : ℕ) (o' : Option Conn)
     (bytes : List ℕ) : Type 0 where
   pub world : r'.world ≡ bared w'
-  pub draft : r'.drafts c ≡ draft_at o'
+  pub draft : r'.drafts c ≡ draft_of_conn o'
   pub bytes_are : r'.given c ≡ (g c ++ bytes) ++ still_to_give o'
   pub drafts : (e : ℕ) → (e ≡ c → ⊥) → r'.drafts e ≡ r.drafts e
   pub given : (e : ℕ) → (e ≡ c → ⊥) → r'.given e ≡ r.given e
@@ -123,11 +123,11 @@ module _ (st : State) (valid : Valid st) (g : ℕ → List ℕ) (r r' : Rep) (si
     (s : List ℕ) (z : Acted) (opens : Opens st.world k.draft z) (did : Did r r' c z)
     (indexes : z.world.store.indexes ≡ st.world.store.indexes)
     (holds : (d : ℕ) → z.draft ≡ Some d → Holds z.world (conn_as s z) d) where
-  own_is : draft_at (st.conns c) ≡ k.draft
-  own_is = ap draft_at here
+  own_is : draft_of_conn (st.conns c) ≡ k.draft
+  own_is = ap draft_of_conn here
 
-  came_keeps : Keeps st valid z.world c (conn_of s z)
-  came_keeps = record {
+  came_later : IsTurnOf st valid z.world c (conn_of s z)
+  came_later = record {
     indexes = indexes;
     others = λ e p there ne. opens.others e p there (λ own. ne (own_is ∙ own));
     fresh = λ d is. let left = opens.closed in let old = opens.fresh d in grind arith;
@@ -150,6 +150,6 @@ module _ (st : State) (valid : Valid st) (g : ℕ → List ℕ) (r r' : Rep) (si
   pub came_after : Valid (put st z.world c (conn_of s z))
       × Sim (put st z.world c (conn_of s z)) (more_given g c z.bytes) r'
   came_after = (
-    valid_put st valid z.world c (conn_of s z) came_keeps,
+    valid_put st valid z.world c (conn_of s z) came_later,
     sim_put st g r r' z.world c (conn_of s z) z.bytes sim came_replays,
   )

@@ -47,21 +47,21 @@ cut_moment w c k None = []
 cut_moment w c k (Some d) = BodyCut c (rest_body (cut (reader w) k.stream).rest) ∷ []
 
 -- The moments of a call, if the connection is open.
-abbrev pub came_on : World → ℕ → List ℕ → Option Conn → List Moment
-came_on w c piece None = []
-came_on w c piece (Some k) = came_moments w c piece k k.pending
+abbrev pub came_moments_on : World → ℕ → List ℕ → Option Conn → List Moment
+came_moments_on w c piece None = []
+came_moments_on w c piece (Some k) = came_moments w c piece k k.pending
 
 -- The moments of a connection's end, if it is open.
-abbrev pub ended_on : World → ℕ → Option Conn → List Moment
-ended_on w c None = []
-ended_on w c (Some k) = cut_moment w c k k.draft
+abbrev pub ended_moments_on : World → ℕ → Option Conn → List Moment
+ended_moments_on w c None = []
+ended_moments_on w c (Some k) = cut_moment w c k k.draft
 
 -- The moments of an event.
 abbrev pub event_moments : State → Event → List Moment
 event_moments st (Opened c) = []
-event_moments st (Came c piece) = came_on st.world c piece (st.conns c)
+event_moments st (Came c piece) = came_moments_on st.world c piece (st.conns c)
 event_moments st (More c) = []
-event_moments st (Ended c) = ended_on st.world c (st.conns c)
+event_moments st (Ended c) = ended_moments_on st.world c (st.conns c)
 
 -- The moments of a history, in their order.
 abbrev pub all_moments : State → List Marked → List Moment
@@ -69,16 +69,16 @@ all_moments start [] = []
 all_moments start (e ∷ past) = all_moments start past ++ event_moments (history start past) e.0
 
 -- The bytes of an outcome.
-abbrev pub bytes_of : Outcome → List ℕ
-bytes_of (Gave bytes taken closes more) = bytes
-bytes_of Done = []
-bytes_of (Refused f) = []
+abbrev pub outcome_bytes : Outcome → List ℕ
+outcome_bytes (Gave bytes taken closes more) = bytes
+outcome_bytes Done = []
+outcome_bytes (Refused f) = []
 
 -- The bytes that a connection gets in a history.
-abbrev pub given : State → ℕ → List Marked → List ℕ
-given start c [] = []
-given start c (e ∷ past) =
-    given start c past ++ (if conn_in e.0 == c then bytes_of (step (history start past) e.0 e.1).outcome else [])
+abbrev pub bytes_given : State → ℕ → List Marked → List ℕ
+bytes_given start c [] = []
+bytes_given start c (e ∷ past) =
+    bytes_given start c past ++ (if conn_in e.0 == c then outcome_bytes (step (history start past) e.0 e.1).outcome else [])
 
 -- What is left of a text, if there is one.
 abbrev pub text_left : Option Giving → List ℕ
@@ -91,19 +91,19 @@ still_to_give None = []
 still_to_give (Some k) = text_left k.pending
 
 -- No text is cut off: its upload exists when more of it is given, and no connection ends before its text is taken.
-abbrev pub KeepsText : State → Event → Type 0
-KeepsText st (Opened c) = Unit {0}
-KeepsText st (Came c piece) = Unit {0}
-KeepsText st (More c) =
+abbrev pub CutsNoText : State → Event → Type 0
+CutsNoText st (Opened c) = Unit {0}
+CutsNoText st (Came c piece) = Unit {0}
+CutsNoText st (More c) =
     (k : Conn) (g : Giving) → st.conns c ≡ Some k → k.pending ≡ Some g
     → (u : Upload) × (upload_of st.world.store g.number ≡ Some u)
-KeepsText st (Ended c) = still_to_give (st.conns c) ≡ []
+CutsNoText st (Ended c) = still_to_give (st.conns c) ≡ []
 
 -- The event is served, no PATCH that is done at it is refused for room, and no text is cut off.
 pub record IsSmooth (st : State) (e : Marked) : Type 0 where
   pub served : e.1 ≡ Served
   pub roomy : (x : DonePatch st e.0) → IsRefused x Full → ⊥
-  pub text : KeepsText st e.0
+  pub text : CutsNoText st e.0
 
 -- The same of every event.
 abbrev pub AllSmooth : State → List Marked → Type 0

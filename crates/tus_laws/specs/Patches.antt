@@ -87,16 +87,16 @@ abbrev pub declared_store : Store → ℕ → ℕ → Store
 declared_store m n total = declared_at m n total (upload_of m n)
 
 -- `append`: an upload gets bytes at its end.
-abbrev pub appended_at : Store → ℕ → List ℕ → Option Upload → Store
-appended_at m n bytes None = m
-appended_at m n bytes (Some u) = record m {
+abbrev pub store_with_bytes : Store → ℕ → List ℕ → Option Upload → Store
+store_with_bytes m n bytes None = m
+store_with_bytes m n bytes (Some u) = record m {
   uploads = replaced n (record u { accepted = u.accepted ++ bytes })
       m.uploads;
 }
 
 -- The store after `append`.
 abbrev pub appended_store : Store → ℕ → List ℕ → Store
-appended_store m n bytes = appended_at m n bytes (upload_of m n)
+appended_store m n bytes = store_with_bytes m n bytes (upload_of m n)
 
 -- A PATCH declares this length. Its upload's length was unknown, and this one is enough for the bytes of the upload and
 -- the body.

@@ -15,7 +15,7 @@ ghost use Rattle.tus_session.specs.Turns.{reader};
 ghost use Rattle.tus_session.specs.History.{State, Event, Marked, Served, OutOfMemory};
 ghost use Rattle.tus_session.specs.History.{Failed, step, history, beginning};
 ghost use Rattle.tus_laws.specs.Patches.{DonePatch, IsAccepted, IsRefused, HasBody, SamePlace, Changed, IsAbove};
-ghost use Rattle.tus_laws.specs.Cuts.{all_moments, given, still_to_give, AllSmooth};
+ghost use Rattle.tus_laws.specs.Cuts.{all_moments, bytes_given, still_to_give, AllSmooth};
 
 /// Of two PATCHes with nonempty bodies that began at one offset of one upload, at most one is accepted, and the other
 /// changes nothing: each later one is refused, with `Offset` while the upload exists and with `NoSuch` once it is
@@ -69,7 +69,7 @@ pub fn same_offset()
 /// A history over uploads that have all their bytes, such as none at all, leaves each with all bytes that it accepted.
 pub fn all_bytes()
     ensures none { (x : IndexSet) → HasAllBytes (no_uploads x) }
-    ensures kept { (start : State) (past : List Marked) → HasAllBytes start.world.store
+    ensures preserved { (start : State) (past : List Marked) → HasAllBytes start.world.store
         → HasAllBytes (history start past).world.store }
 {}
 
@@ -103,8 +103,8 @@ pub fn any_cut()
     ensures bytes { (m : Store) (blocks : Option ℕ) (past other : List Marked) (c : ℕ)
         → AllSmooth (beginning m blocks) past → AllSmooth (beginning m blocks) other
         → all_moments (beginning m blocks) past ≡ all_moments (beginning m blocks) other
-        → given (beginning m blocks) c past ++ still_to_give ((history (beginning m blocks) past).conns c)
-        ≡ given (beginning m blocks) c other ++ still_to_give ((history (beginning m blocks) other).conns c) }
+        → bytes_given (beginning m blocks) c past ++ still_to_give ((history (beginning m blocks) past).conns c)
+        ≡ bytes_given (beginning m blocks) c other ++ still_to_give ((history (beginning m blocks) other).conns c) }
     ensures uploads { (m : Store) (blocks : Option ℕ) (past other : List Marked) → AllSmooth (beginning m blocks) past
         → AllSmooth (beginning m blocks) other
         → all_moments (beginning m blocks) past ≡ all_moments (beginning m blocks) other

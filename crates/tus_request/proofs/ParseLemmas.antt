@@ -16,7 +16,7 @@ use Rattle.std.proofs.Math.Nat.{min_comm}
 use Rattle.tus_request.specs.declared.heads.TheConstants.{MOST_HEAD, MOST_LINES}
 use Rattle.enc_model.specs.declared.Encoding.{Encoding}
 use Rattle.tus_request.specs.Answers.{Answer, More, Judged, answer_with, answer_of}
-use Rattle.tus_request.specs.Grammar.{HeadPrefix, unfinished, too_long, whole, prefix_with, prefix, IsWhole}
+use Rattle.tus_request.specs.Grammar.{HeadPrefix, unfinished, too_long, whole, prefix_with, prefix, IsWholeHead}
 use Rattle.tus_request.specs.Grammar.{IsPrefixAnswer}
 use Rattle.tus_request.specs.Grammar.{IsAnswer, IsShortHead, IsShortHeadOf, IsHeadAnswer}
 use Rattle.tus_request.specs.declared.faults.Fault.TheVariants.{HeadTooLong}
@@ -87,7 +87,7 @@ not_read head none = go (request_of head) refl
     go (Some h) e = absurd (none h [] (found_reads head h e))
 
 pub whole_prefix : (bytes : List ℕ) (e : Extent) → head_extent (take MOST_HEAD bytes) ≡ Some e → e.texts ≤ 65
-    → IsWhole (prefix bytes)
+    → IsWholeHead (prefix bytes)
 whole_prefix bytes e some few =
     let l : nat_lt 65 e.texts ≡ false = grind (arith, nat_tests) in rw (some, l) tt
 

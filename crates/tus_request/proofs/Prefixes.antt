@@ -125,16 +125,16 @@ own_bytes : (n : ℕ) (s t : List ℕ) → n ≤ length s → take n (take n s +
 own_bytes n s t within = rw (length-take-le n s within) at (take-append_seam (take n s) t)
 
 -- the answer to a stream's start is that to its own bytes, whatever follows them
-record Stands (offers : Encoding → Bool) (s : List ℕ) (n : ℕ) (v : Verdict) : Type 0 where
+record IsSettled (offers : Encoding → Bool) (s : List ℕ) (n : ℕ) (v : Verdict) : Type 0 where
   some : 0 < n
   within : n ≤ length s
   stay : (t : List ℕ) → answer_of offers (take n s ++ t) ≡ Judged n v
 
 module _ (offers : Encoding → Bool) where
-  stands : (s : List ℕ) (n : ℕ) (v : Verdict) (o : Option Extent) → head_extent (take MOST_HEAD s) ≡ o
-      → answer_with offers s o ≡ Judged n v → Stands offers s n v
+  settled_by : (s : List ℕ) (n : ℕ) (v : Verdict) (o : Option Extent) → head_extent (take MOST_HEAD s) ≡ o
+      → answer_with offers s o ≡ Judged n v → IsSettled offers s n v
   unfolding answer_of
-  stands s n v None h q = elim (true_or_false (nat_lt (length s) MOST_HEAD)) [
+  settled_by s n v None h q = elim (true_or_false (nat_lt (length s) MOST_HEAD)) [
     | inl t ↦ absurd (cc (rw t at q))
     | inr t ↦
         let k = rw t at q in
@@ -150,7 +150,7 @@ module _ (offers : Encoding → Bool) where
               rw (own_bytes MOST_HEAD s t long, h, g) (rw (← is) at k);
         })
   ]
-  stands s n v (Some e) h q =
+  settled_by s n v (Some e) h q =
       let f = has_head (take MOST_HEAD s) e h in
       let few : e.len ≤ MOST_HEAD = omega (arith, f.bound, length-take MOST_HEAD s) in
       let within : e.len ≤ length s = omega (arith, f.bound, length-take MOST_HEAD s) in
@@ -167,14 +167,14 @@ module _ (offers : Encoding → Bool) where
             rw (take_onto MOST_HEAD (take e.len s) t (omega arith), k, own_bytes e.len s t within) (rw (← is) at q);
       })
 
-  judged_stands : (s : List ℕ) (n : ℕ) (v : Verdict) → answer_of offers s ≡ Judged n v → Stands offers s n v
+  judged_settled : (s : List ℕ) (n : ℕ) (v : Verdict) → answer_of offers s ≡ Judged n v → IsSettled offers s n v
   unfolding answer_of
-  judged_stands s n v q = stands s n v (head_extent (take MOST_HEAD s)) refl q
+  judged_settled s n v q = settled_by s n v (head_extent (take MOST_HEAD s)) refl q
 
   pub steady : IsSteady (answer_of offers)
   steady = record {
-    some = λ s n v q. (judged_stands s n v q).some;
-    within = λ s n v q. (judged_stands s n v q).within;
-    keeps = λ s more n v q. rw (← append_assoc, take-append-drop) at ((judged_stands s n v q).stay (drop n s ++ more));
-    own = λ s n v q. rw append-nil at ((judged_stands s n v q).stay []);
+    some = λ s n v q. (judged_settled s n v q).some;
+    within = λ s n v q. (judged_settled s n v q).within;
+    unchanged = λ s more n v q. rw (← append_assoc, take-append-drop) at ((judged_settled s n v q).stay (drop n s ++ more));
+    own = λ s n v q. rw append-nil at ((judged_settled s n v q).stay []);
   }

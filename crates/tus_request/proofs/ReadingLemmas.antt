@@ -16,15 +16,15 @@ use Rattle.httparse.specs.Grammar.{is_token_byte, is_uri_byte, is_value_byte, Al
 use Rattle.httparse.specs.Grammar.{print_version, Field, IsField, print_field, RequestHead, IsRequestHead}
 use Rattle.httparse.specs.Grammar.{print_request, is_token, IsToken, ReadsRequest}
 use Rattle.tus_request.specs.Lines.{is_empty_line}
-use Rattle.common.specs.Splits.{before, after}
-use Rattle.tus_request.specs.Reading.{text_of, end_of, field_of, fields_of, last_of, blank_of, filled}
+use Rattle.common.specs.Splits.{before, rest_after}
+use Rattle.tus_request.specs.Reading.{line_text, line_end_of, field_of, fields_of, last_of, blank_of, filled}
 use Rattle.tus_request.specs.Reading.{guess, is_field, is_request_head, request_of}
 use Rattle.tus_request.proofs.HeadLemmas.{field_text, end_is_empty, request_line, head_as_lines}
 use Rattle.tus_request.proofs.HeadLemmas.{request_line_no_feed, request_line_text, token_is_high, Lacks}
 use Rattle.tus_request.proofs.HeadLemmas.{lacks_append, lacks_from, request_line_lacks}
 
 cut_mark : (mark : ℕ) (text rest : List ℕ) → Lacks mark text → (mark == mark) ≡ true
-    → (before mark (text ++ mark ∷ rest) ≡ text) × (after mark (text ++ mark ∷ rest) ≡ rest)
+    → (before mark (text ++ mark ∷ rest) ≡ text) × (rest_after mark (text ++ mark ∷ rest) ≡ rest)
 cut_mark mark [] rest none same = (rw same, rw same)
 cut_mark mark (b ∷ text) rest none same =
     let more = cut_mark mark text rest none.1 same in (rw (none.0, more.0), rw (none.0, more.1))
@@ -39,7 +39,7 @@ inline_from test none text all =
     (lacks_from 10 test (λ b t. (none b t).0) text all, lacks_from 13 test (λ b t. (none b t).1) text all)
 
 line_back : (text : List ℕ) (end : LineEnd) → IsInline text
-    → (text_of (text ++ print_end end) ≡ text) × (end_of (text ++ print_end end) ≡ end)
+    → (line_text (text ++ print_end end) ≡ text) × (line_end_of (text ++ print_end end) ≡ end)
 line_back [] crlf is = (refl, refl)
 line_back [] lf is = (refl, refl)
 line_back (b ∷ text) end is =
@@ -80,7 +80,7 @@ field_back f is =
     (lacks_from 58 is_token_byte token_no_colon f.name is.name.1) refl in
     let i = inline_from is_value_byte value_inline f.raw is.raw in
     let t = inline_from is_token_byte token_inline f.name is.name.1 in
-    let e : end_of (print_field f) ≡ f.end = (line_back (f.name ++ 58 ∷ f.raw) f.end
+    let e : line_end_of (print_field f) ≡ f.end = (line_back (f.name ++ 58 ∷ f.raw) f.end
     (lacks_append 10 f.name _ t.0 (refl, i.0), lacks_append 13 f.name _ t.1 (refl, i.1))).1 in
     rw (e, a, m.0, m.1, (line_back f.raw f.end i).0)
 
@@ -123,11 +123,11 @@ guess_back h is =
     let lt = lacks_from 32 is_uri_byte uri_no_space h.target is.target.1 in
     let m = cut_mark 32 h.method (h.target ++ 32 ∷ (print_version h.minor ++ print_end h.line_end)) lm refl in
     let bm : before 32 (request_line h ++ print_end h.line_end) ≡ h.method = rw parts m.0 in
-    let hm : after 32 (request_line h ++ print_end h.line_end) ≡ h.target ++ 32 ∷ (print_version h.minor ++ print_end
+    let hm : rest_after 32 (request_line h ++ print_end h.line_end) ≡ h.target ++ 32 ∷ (print_version h.minor ++ print_end
     h.line_end) = rw parts m.1 in
     let t = cut_mark 32 h.target (print_version h.minor ++ print_end h.line_end) lt refl in
     let digit : 48 + h.minor - 48 ≡ h.minor = omega arith in
-    let en : end_of (request_line h ++ print_end h.line_end) ≡ h.line_end =
+    let en : line_end_of (request_line h ++ print_end h.line_end) ≡ h.line_end =
     (line_back (request_line h) h.line_end (request_line_inline h is)).1 in
     let fs = fields_back h.fields h.last is.fields in
     let blank = blank_back h.blank q rest text in

@@ -38,12 +38,12 @@ around status lines n closes few small =
     omega (arith, length_short n small, close_short closes, length-append {A = ℕ})
 
 -- it is a reply in other words, and short
-pub record IsReply (text said : List ℕ) : Type 0 where
-  pub same : text ≡ said
+pub record IsReply (text reply_bytes : List ℕ) : Type 0 where
+  pub same : text ≡ reply_bytes
   pub short : length text ≤ 2048
 
-is_reply : (text said : List ℕ) → text ≡ said → length said ≤ 2048 → IsReply text said
-is_reply text said same short = record { same = same; short = rw same short }
+is_reply : (text reply_bytes : List ℕ) → text ≡ reply_bytes → length reply_bytes ≤ 2048 → IsReply text reply_bytes
+is_reply text reply_bytes same short = record { same = same; short = rw same short }
 
 unless_small : (bare : Bool) (n : ℕ) → n < 2 ^ 64 → IfSome (unless_bare bare n) (λ k. k < 2 ^ 64)
 unless_small true n small = tt
@@ -153,8 +153,8 @@ pub refused : (fault : Fault) (on_files bare closes : Bool) (status first number
     → status ≡ status_of fault → first ≡ refusal_lead fault on_files → number ≡ refusal_line fault
     → size ≡ length_line n → n ≡ unless_bare bare 0
     → IsReply (reply status (first ++ (number ++ (size ++ []))) None closes) (reply_refused fault on_files bare closes)
-refused fault on_files bare closes status first number size n stands leads line is none =
-    is_reply _ _ (rw (stands, leads, line) (two_lines (status_of fault) (refusal_lead fault on_files)
+refused fault on_files bare closes status first number size n starts_as leads line is none =
+    is_reply _ _ (rw (starts_as, leads, line) (two_lines (status_of fault) (refusal_lead fault on_files)
     (refusal_line fault) size (unless_bare bare 0) closes (is ∙ ap length_line none))) (omega (
       arith,
       around (status_of fault) (refusal_lines fault on_files) (unless_bare bare 0) closes (status_short fault)
@@ -166,9 +166,9 @@ refused fault on_files bare closes status first number size n stands leads line 
     ))
 
 -- one is appended, or nothing is
-pub appended : {X E : Type 0} (r : Result X E) (old new : List ℕ) {text said : List ℕ} → IsReply text said
+pub appended : {X E : Type 0} (r : Result X E) (old new : List ℕ) {text reply_bytes : List ℕ} → IsReply text reply_bytes
     → OnOk r (new ≡ old ++ text) → OnErr r (new ≡ old)
-    → OnOk r (new ≡ old ++ said) × GrowsBy longest_reply old new
+    → OnOk r (new ≡ old ++ reply_bytes) × GrowsBy longest_reply old new
 appended (Ok x) old new is ok err =
     (rw (← is.same) ok, rw ok (omega (arith, is.short, length-append {A = ℕ})))
 appended (Err e) old new is ok err = (tt, rw err (omega arith))

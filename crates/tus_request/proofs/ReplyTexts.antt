@@ -30,11 +30,11 @@ rest_length lines i d inside =
     ∙ length-append (line_shown (get_or lines i d)) (lines_shown (drop (i + 1) lines))
 
 -- there is room for the rest of the lines after one more
-pub room_kept : (lines : List Line) (i : ℕ) (d : Line) (last len new room more : ℕ) → i < length lines
+pub room_unchanged : (lines : List Line) (i : ℕ) (d : Line) (last len new room more : ℕ) → i < length lines
     → len + (length (lines_shown (drop i lines)) + last) ≤ room
     → new ≡ len + length (line_shown (get_or lines i d)) → room ≤ more
     → new + (length (lines_shown (drop (i + 1) lines)) + last) ≤ more
-room_kept lines i d last len new room more inside was is grown =
+room_unchanged lines i d last len new room more inside was is grown =
     omega (arith, rest_length lines i d inside, was, is, grown)
 
 -- a reply's first line and what all replies have, and these lines

@@ -4,7 +4,7 @@ use Rattle.std.specs.Fmt.{digits}
 use Rattle.enc_model.specs.declared.Encoding.{Encoding}
 use Rattle.enc_model.specs.declared.Encoding.TheVariants.{Utf8, Utf16Le}
 use Rattle.enc_model.specs.declared.Mode.TheVariants.{Html}
-use Rattle.enc_labels.specs.Labels.{encoding_of, found, labels, stripped}
+use Rattle.enc_labels.specs.Labels.{encoding_of, found_label, labels, stripped}
 use Rattle.tus_request.specs.Metadata.{metadata_of, choice_of}
 use Rattle.std.specs.Prelude.{Some, None}
 use Rattle.base64.specs.Decode.{groups_error, scan_steps, groups_bytes}
@@ -87,5 +87,5 @@ encodings_chosen : (choice_of [] ≡ Some (record { from = Utf8; to = Utf8; mode
     × (choice_of ((codes "to", codes "UTF-16") ∷ (codes "from", codes "utf-16le") ∷ [])
     ≡ Some (record { from = Utf16Le; to = Utf8; mode = Html }))
     × (choice_of ((codes "from", codes "klingon") ∷ []) ≡ None)
-unfolding encoding_of found labels stripped
+unfolding encoding_of found_label labels stripped
 encodings_chosen = (refl, refl, refl)

@@ -12,11 +12,11 @@ use Rattle.tus_request.specs.declared.heads.TheConstants.{MOST_HEAD}
 use Rattle.enc_model.specs.declared.Encoding.{Encoding}
 use Rattle.tus_request.specs.Lines.{lines, onto_first, up_to_empty, head_lines, Extent}
 use Rattle.tus_request.specs.Lines.{head_extent}
-use Rattle.tus_request.specs.Searches.{after_byte, after_bytes, is_over}
+use Rattle.tus_request.specs.Searches.{after_byte, after_bytes, is_head_found}
 use Rattle.tus_request.specs.Buffers.{is_judged}
 use Rattle.tus_request.specs.Answers.{More, answer_with, answer_of}
 use Rattle.tus_request.specs.declared.search.Search.{Search}
-use Rattle.tus_request.specs.declared.search.Search.TheVariants.{Front, FrontCr, Text, Start, StartCr, Over}
+use Rattle.tus_request.specs.declared.search.Search.TheVariants.{Leading, LeadingCr, Text, Start, StartCr, Over}
 
 abbrev Lines : Type 0
 Lines = List (List ℕ)
@@ -27,8 +27,8 @@ has (Some x) = true
 
 -- whether the end of the head stands in the lines that are left
 sees : Search → Lines → Bool
-sees Front ls = has (head_lines ls)
-sees FrontCr ls = has (head_lines (onto_first 13 ls))
+sees Leading ls = has (head_lines ls)
+sees LeadingCr ls = has (head_lines (onto_first 13 ls))
 sees Text [] = false
 sees Text (line ∷ ls) = has (up_to_empty ls)
 sees Start ls = has (up_to_empty ls)
@@ -61,26 +61,26 @@ step_case s b bytes = elim (cases_Bool (b == 10)) [
   ]
 ]
 
-sees_none : (s : Search) → sees s [] ≡ is_over s
+sees_none : (s : Search) → sees s [] ≡ is_head_found s
 unfolding sees has
 sees_none s = grind arith
 
-sees_all : (s : Search) (bytes : List ℕ) → sees s (lines bytes) ≡ is_over (after_bytes s bytes)
+sees_all : (s : Search) (bytes : List ℕ) → sees s (lines bytes) ≡ is_head_found (after_bytes s bytes)
 sees_all s [] = sees_none s
 sees_all s (b ∷ bytes) = step_case s b bytes ∙ sees_all (after_byte s b) bytes
 
 -- THE HEAD'S END
-no_end : (bytes : List ℕ) → is_over (after_bytes Front bytes) ≡ false → head_extent bytes ≡ None
+no_end : (bytes : List ℕ) → is_head_found (after_bytes Leading bytes) ≡ false → head_extent bytes ≡ None
 unfolding sees has
-no_end bytes e = let s = sees_all Front bytes in grind arith
+no_end bytes e = let s = sees_all Leading bytes in grind arith
 
-an_end : (bytes : List ℕ) → head_extent bytes ≡ None → is_over (after_bytes Front bytes) ≡ false
+an_end : (bytes : List ℕ) → head_extent bytes ≡ None → is_head_found (after_bytes Leading bytes) ≡ false
 unfolding sees has
-an_end bytes e = let s = sees_all Front bytes in grind arith
+an_end bytes e = let s = sees_all Leading bytes in grind arith
 
 module _ (offers : Encoding → Bool) where
   -- a head that isn't whole, and may become so
-  pub unended : (bytes : List ℕ) → length bytes < MOST_HEAD → is_over (after_bytes Front bytes) ≡ false
+  pub unended : (bytes : List ℕ) → length bytes < MOST_HEAD → is_head_found (after_bytes Leading bytes) ≡ false
       → answer_of offers bytes ≡ More
   unfolding answer_of
   unended bytes short e =
@@ -100,7 +100,7 @@ module _ (offers : Encoding → Bool) where
 
   -- only such a head isn't judged
   pub open_head : (bytes : List ℕ) → answer_of offers bytes ≡ More
-      → (length bytes < MOST_HEAD) × (is_over (after_bytes Front bytes) ≡ false)
+      → (length bytes < MOST_HEAD) × (is_head_found (after_bytes Leading bytes) ≡ false)
   unfolding answer_of
   open_head bytes is =
       let o = open_case bytes (head_extent (take MOST_HEAD bytes)) is in

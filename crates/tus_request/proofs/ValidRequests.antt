@@ -29,7 +29,7 @@ use Rattle.tus_request.specs.Lines.{Extent, head_extent}
 use Rattle.tus_request.specs.Reading.{request_of}
 use Rattle.tus_request.specs.Requests.{Action, Options, Head, Get, Delete, Request, Asks}
 use Rattle.tus_request.specs.Answers.{Judged, answer_with, answer_of}
-use Rattle.tus_request.specs.Valid.{IsValidAction, IsValidRequest, IsValid, IsValidAnswer}
+use Rattle.tus_request.specs.Valid.{IsValidAction, IsValidRequest, IsValidVerdict, IsValidAnswer}
 
 -- NUMBERS
 all_digits : (text : List ℕ) → list_all is_ascii_digit text ≡ true → AllDigits 10 text
@@ -85,12 +85,12 @@ choice_output a b m c q = ((λ e. grind arith), (λ e. grind arith))
 -- THE CHECKS
 module _ (offers : Encoding → Bool) where
   passed_valid : (x : checks.Asking) (a : Action) → x.length < 10 ^ 18 → IsValidAction offers a
-      → IsValid offers (checks.passed x a)
+      → IsValidVerdict offers (checks.passed x a)
   passed_valid x a small valid = record { length_is = small; action_is = valid }
 
   choice_valid : (x : checks.Asking) (declared : Option ℕ) (metadata : List ℕ) (o : Option Choice)
       → x.length < 10 ^ 18 → ((c : Choice) → o ≡ Some c → NoUtf16 c.to) → IsPlainText metadata
-      → IsValid offers (checks.with_choice offers x declared metadata o)
+      → IsValidVerdict offers (checks.with_choice offers x declared metadata o)
   choice_valid x declared metadata None small to plain = tt {0}
   choice_valid x declared metadata (Some c) small to plain = elim (cases_Bool (offers c.from && offers c.to)) [
     | inl t ↦
@@ -104,35 +104,35 @@ module _ (offers : Encoding → Bool) where
 
   pairs_valid : (x : checks.Asking) (declared : Option ℕ) (metadata : List ℕ) (o : Option (List KeyValue))
       → x.length < 10 ^ 18 → ((pairs : List KeyValue) → o ≡ Some pairs → IsPlainText metadata)
-      → IsValid offers (checks.with_pairs offers x declared metadata o)
+      → IsValidVerdict offers (checks.with_pairs offers x declared metadata o)
   pairs_valid x declared metadata None small plain = tt {0}
   pairs_valid x declared metadata (Some pairs) small plain =
       choice_valid x declared metadata (choice_of pairs) small (λ c q. choice_output _ _ _ c q) (plain pairs refl)
 
   metadata_valid : (x : checks.Asking) (declared : Option ℕ) (values : List (List ℕ)) → x.length < 10 ^ 18
-      → IsValid offers (checks.with_metadata offers x declared values)
+      → IsValidVerdict offers (checks.with_metadata offers x declared values)
   metadata_valid x declared [] small = pairs_valid x declared [] (metadata_of []) small (metadata_plain [])
   metadata_valid x declared (value ∷ []) small =
       pairs_valid x declared value (metadata_of value) small (metadata_plain value)
   metadata_valid x declared (value ∷ other ∷ values) small = tt {0}
 
   declared_valid : (x : checks.Asking) (o : Option (Option ℕ)) → x.length < 10 ^ 18
-      → IsValid offers (checks.with_declared offers x o)
+      → IsValidVerdict offers (checks.with_declared offers x o)
   declared_valid x None small = tt {0}
   declared_valid x (Some declared) small = metadata_valid x declared (x.given (codes "upload-metadata")) small
 
   declaring_valid : (x : checks.Asking) (n offset : ℕ) (o : Option (Option ℕ)) → x.length < 10 ^ 18
-      → offset < 10 ^ 18 → IsValid offers (checks.declaring x n offset o)
+      → offset < 10 ^ 18 → IsValidVerdict offers (checks.declaring x n offset o)
   declaring_valid x n offset None small less = tt {0}
   declaring_valid x n offset (Some declare) small less = record { length_is = small; action_is = less }
 
   offset_valid : (x : checks.Asking) (n : ℕ) (o : Option ℕ) → x.length < 10 ^ 18
-      → ((m : ℕ) → o ≡ Some m → m < 10 ^ 18) → IsValid offers (checks.at_offset x n o)
+      → ((m : ℕ) → o ≡ Some m → m < 10 ^ 18) → IsValidVerdict offers (checks.at_offset x n o)
   offset_valid x n None small less = tt {0}
   offset_valid x n (Some offset) small less =
       declaring_valid x n offset (checks.optional_number_in (x.given (codes "upload-length"))) small (less offset refl)
 
-  all_valid : (x : checks.Asking) (v : Verb) → x.length < 10 ^ 18 → IsValid offers (checks.on_all offers x v)
+  all_valid : (x : checks.Asking) (v : Verb) → x.length < 10 ^ 18 → IsValidVerdict offers (checks.on_all offers x v)
   all_valid x verb.Options small = passed_valid x Options small (tt {0})
   all_valid x verb.Post small = elim (cases_Bool (nat_lt 0 x.length)) [
     | inl t ↦ rw t (tt {0})
@@ -140,7 +140,7 @@ module _ (offers : Encoding → Bool) where
   ]
   all_valid x _ small = tt {0}
 
-  upload_valid : (x : checks.Asking) (n : ℕ) (v : Verb) → x.length < 10 ^ 18 → IsValid offers (checks.on_upload x n v)
+  upload_valid : (x : checks.Asking) (n : ℕ) (v : Verb) → x.length < 10 ^ 18 → IsValidVerdict offers (checks.on_upload x n v)
   upload_valid x n verb.Options small = passed_valid x Options small (tt {0})
   upload_valid x n verb.Post small = tt {0}
   upload_valid x n verb.Head small = passed_valid x (Head n) small (tt {0})
@@ -155,20 +155,20 @@ module _ (offers : Encoding → Bool) where
   upload_valid x n verb.Other small = tt {0}
 
   place_valid : (x : checks.Asking) (p : Option Place) → x.length < 10 ^ 18
-      → IsValid offers (checks.on_place offers x p)
+      → IsValidVerdict offers (checks.on_place offers x p)
   place_valid x None small = tt {0}
   place_valid x (Some place.Files) small = all_valid x x.verb small
   place_valid x (Some (place.Upload n)) small = upload_valid x n x.verb small
 
   measured_valid : (line : checks.Line) (given : List ℕ → List (List ℕ)) (o : Option ℕ)
-      → ((n : ℕ) → o ≡ Some n → n < 10 ^ 18) → IsValid offers (checks.measured offers line given o)
+      → ((n : ℕ) → o ≡ Some n → n < 10 ^ 18) → IsValidVerdict offers (checks.measured offers line given o)
   measured_valid line given None less = tt {0}
   measured_valid line given (Some n) less = elim (cases_Bool (checks.lacks_version (checks.asking line given n))) [
     | inl t ↦ rw t (tt {0})
     | inr f ↦ rw f (place_valid (checks.asking line given n) _ (less n refl))
   ]
 
-  judged_valid : (h : Option RequestHead) → IsValid offers (checks.judged offers h)
+  judged_valid : (h : Option RequestHead) → IsValidVerdict offers (checks.judged offers h)
   judged_valid None = tt {0}
   judged_valid (Some h) =
       elim (cases_Bool (checks.is_given (values_in (map name_and_value h.fields) (codes "transfer-encoding")))) [

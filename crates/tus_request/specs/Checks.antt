@@ -10,7 +10,7 @@ use Rattle.common.specs.Splits.{before}
 use Rattle.tus_request.specs.Fields.{values_in}
 use Rattle.tus_request.specs.Texts.{any_case, lists_word}
 use Rattle.tus_request.specs.Methods.{verb_of}
-use Rattle.tus_request.specs.Places.{place_of, is_files}
+use Rattle.tus_request.specs.Places.{resource_of, is_files}
 use Rattle.tus_request.specs.declared.methods.Verb.{Verb}
 use Rattle.tus_request.specs.declared.methods.Verb.TheVariants as verb
 use Rattle.tus_request.specs.declared.places.Place.{Place}
@@ -89,7 +89,7 @@ pub record Asking : Type 0 where
 
 -- The resource of a request line: its path is the target up to the first `?`.
 abbrev pub line_place : Line → Option Place
-line_place line = place_of (before 63 line.target)
+line_place line = resource_of (before 63 line.target)
 
 -- The method is HEAD.
 abbrev pub is_bare : Line → Bool
@@ -128,8 +128,8 @@ refused x f = Refuses (record {
 })
 
 -- A request other than PATCH is accepted.
-abbrev pub passed : Asking → Action → Verdict
-passed x action = Asks (record {
+abbrev pub accepted_request : Asking → Action → Verdict
+accepted_request x action = Asks (record {
   action = action;
   length = x.length;
   bare = x.bare;
@@ -175,7 +175,7 @@ abbrev pub with_choice : (Encoding → Bool) → Asking → Option ℕ → List 
 with_choice offers x declared metadata None = refused x BadLabel
 with_choice offers x declared metadata (Some c) =
     if offers c.from && offers c.to
-    then passed x (Create (record {
+    then accepted_request x (Create (record {
       declared = declared;
       from = c.from;
       to = c.to;
@@ -209,7 +209,7 @@ post_checked offers x =
 
 -- The checks of a request for `/files`.
 abbrev pub on_all : (Encoding → Bool) → Asking → Verb → Verdict
-on_all offers x verb.Options = passed x Options
+on_all offers x verb.Options = accepted_request x Options
 on_all offers x verb.Post = post_checked offers x
 on_all offers x verb.Head = refused x BadMethod
 on_all offers x verb.Patch = refused x BadMethod
@@ -219,12 +219,12 @@ on_all offers x verb.Other = refused x BadMethod
 
 -- The checks of a request for one upload.
 abbrev pub on_upload : Asking → ℕ → Verb → Verdict
-on_upload x n verb.Options = passed x Options
+on_upload x n verb.Options = accepted_request x Options
 on_upload x n verb.Post = refused x BadMethod
-on_upload x n verb.Head = passed x (Head n)
+on_upload x n verb.Head = accepted_request x (Head n)
 on_upload x n verb.Patch = patch_checked x n
-on_upload x n verb.Get = passed x (Get n)
-on_upload x n verb.Delete = passed x (Delete n)
+on_upload x n verb.Get = accepted_request x (Get n)
+on_upload x n verb.Delete = accepted_request x (Delete n)
 on_upload x n verb.Other = refused x BadMethod
 
 -- The path has a resource.

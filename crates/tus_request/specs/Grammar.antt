@@ -25,10 +25,10 @@ abbrev pub prefix : List ℕ → HeadPrefix
 prefix bytes = prefix_with bytes (head_extent (take MOST_HEAD bytes))
 
 -- It is a finished head within the limits.
-abbrev pub IsWhole : HeadPrefix → Type 0
-IsWhole unfinished = ⊥
-IsWhole (too_long taken) = ⊥
-IsWhole (whole head) = Unit {0}
+abbrev pub IsWholeHead : HeadPrefix → Type 0
+IsWholeHead unfinished = ⊥
+IsWholeHead (too_long taken) = ⊥
+IsWholeHead (whole head) = Unit {0}
 
 -- The answer to a finished head: it is a request head by the grammar, or no prefix of it is one.
 abbrev pub IsHeadAnswer : (Encoding → Bool) → List ℕ → Answer → Type 0

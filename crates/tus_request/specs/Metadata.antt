@@ -6,8 +6,8 @@ use Rattle.common.specs.declared.limits.TheConstants.{MOST_METADATA}
 use Rattle.enc_model.specs.declared.Encoding.{Encoding}
 use Rattle.enc_model.specs.declared.Mode.{Mode}
 use Rattle.enc_model.specs.declared.Mode.TheVariants.{Html, Fatal}
-use Rattle.enc_labels.specs.Labels.{encoding_of, output_of}
-use Rattle.common.specs.Splits.{before, after}
+use Rattle.enc_labels.specs.Labels.{encoding_of, output_encoding_of}
+use Rattle.common.specs.Splits.{before, rest_after}
 use Rattle.tus_request.specs.Texts.{parts, trimmed}
 use Rattle.tus_request.specs.Value.{value_of}
 
@@ -26,8 +26,8 @@ pair_with [] text = None
 pair_with (k ∷ key) text = option_map (λ value. (k ∷ key, value)) (pair_value text)
 
 -- The pair of a part.
-abbrev pub pair_of : List ℕ → Option KeyValue
-pair_of part = pair_with (before 32 part) (after 32 part)
+abbrev pub key_value_of : List ℕ → Option KeyValue
+key_value_of part = pair_with (before 32 part) (rest_after 32 part)
 
 -- One of the pairs has the key.
 abbrev pub has_key : List ℕ → List KeyValue → Bool
@@ -35,15 +35,15 @@ has_key key [] = false
 has_key key (pair ∷ pairs) = bytes_eq pair.0 key || has_key key pairs
 
 -- The pairs with one more, whose key must be new.
-abbrev pub with_pair : List KeyValue → Option KeyValue → Option (List KeyValue)
-with_pair pairs None = None
-with_pair pairs (Some pair) = if has_key pair.0 pairs then None else Some (pairs ++ pair ∷ [])
+abbrev pub with_key_value : List KeyValue → Option KeyValue → Option (List KeyValue)
+with_key_value pairs None = None
+with_key_value pairs (Some pair) = if has_key pair.0 pairs then None else Some (pairs ++ pair ∷ [])
 
 -- The pairs so far, and those of the further parts.
-abbrev pub pairs_from : Option (List KeyValue) → List (List ℕ) → Option (List KeyValue)
-pairs_from None rest = None
-pairs_from (Some pairs) [] = Some pairs
-pairs_from (Some pairs) (part ∷ rest) = pairs_from (with_pair pairs (pair_of part)) rest
+abbrev pub key_values_from : Option (List KeyValue) → List (List ℕ) → Option (List KeyValue)
+key_values_from None rest = None
+key_values_from (Some pairs) [] = Some pairs
+key_values_from (Some pairs) (part ∷ rest) = key_values_from (with_key_value pairs (key_value_of part)) rest
 
 -- Printable ASCII.
 abbrev pub is_plain : ℕ → Bool
@@ -57,7 +57,7 @@ is_metadata bytes = nat_le (length bytes) MOST_METADATA && list_all is_plain byt
 abbrev pub metadata_of : List ℕ → Option (List KeyValue)
 metadata_of [] = Some []
 metadata_of (b ∷ bytes) =
-    if is_metadata (b ∷ bytes) then pairs_from (Some []) (map (trimmed (32 ∷ [])) (parts (b ∷ bytes))) else None
+    if is_metadata (b ∷ bytes) then key_values_from (Some []) (map (trimmed (32 ∷ [])) (parts (b ∷ bytes))) else None
 
 -- The value of the key, or a default.
 abbrev pub setting : List ℕ → List ℕ → List KeyValue → List ℕ
@@ -80,7 +80,7 @@ abbrev pub choice_with : Option Encoding → Option Encoding → Option Mode →
 choice_with None to mode = None
 choice_with (Some from) None mode = None
 choice_with (Some from) (Some to) None = None
-choice_with (Some from) (Some to) (Some mode) = Some (record { from = from; to = output_of to; mode = mode })
+choice_with (Some from) (Some to) (Some mode) = Some (record { from = from; to = output_encoding_of to; mode = mode })
 
 -- The choice of the keys `from`, `to` and `mode`. Other keys are ignored.
 abbrev pub choice_of : List KeyValue → Option Choice

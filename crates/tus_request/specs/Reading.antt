@@ -5,22 +5,22 @@ use Rattle.std.specs.List.{list_all}
 use Rattle.std.specs.Str.{is_utf8}
 use Rattle.httparse.specs.Grammar.{LineEnd, crlf, lf, is_token, is_uri_byte, is_value_byte, Field, RequestHead}
 use Rattle.httparse.specs.Grammar.{print_request}
-use Rattle.common.specs.Splits.{before, after}
+use Rattle.common.specs.Splits.{before, rest_after}
 use Rattle.tus_request.specs.Lines.{lines, is_empty_line}
 
 -- A line without its end.
-abbrev pub text_of : List ℕ → List ℕ
-text_of [] = []
-text_of (b ∷ line) = if is_empty_line (b ∷ line) then [] else b ∷ text_of line
+abbrev pub line_text : List ℕ → List ℕ
+line_text [] = []
+line_text (b ∷ line) = if is_empty_line (b ∷ line) then [] else b ∷ line_text line
 
 -- The end of a line.
-abbrev pub end_of : List ℕ → LineEnd
-end_of [] = lf
-end_of (b ∷ line) = if is_empty_line (b ∷ line) then (if b == 13 then crlf else lf) else end_of line
+abbrev pub line_end_of : List ℕ → LineEnd
+line_end_of [] = lf
+line_end_of (b ∷ line) = if is_empty_line (b ∷ line) then (if b == 13 then crlf else lf) else line_end_of line
 
 -- The field of a line.
 abbrev pub field_of : List ℕ → Field
-field_of line = record { name = before 58 line; raw = text_of (after 58 line); end = end_of line }
+field_of line = record { name = before 58 line; raw = line_text (rest_after 58 line); end = line_end_of line }
 
 -- The fields of the lines before the empty one.
 abbrev pub fields_of : List (List ℕ) → List Field
@@ -30,12 +30,12 @@ fields_of (line ∷ rest) = if is_empty_line line then [] else field_of line ∷
 -- The end of the empty line.
 abbrev pub last_of : List (List ℕ) → LineEnd
 last_of [] = lf
-last_of (line ∷ rest) = if is_empty_line line then end_of line else last_of rest
+last_of (line ∷ rest) = if is_empty_line line then line_end_of line else last_of rest
 
 -- The ends of the empty lines at the start.
 abbrev pub blank_of : List (List ℕ) → List LineEnd
 blank_of [] = []
-blank_of (line ∷ rest) = if is_empty_line line then end_of line ∷ blank_of rest else []
+blank_of (line ∷ rest) = if is_empty_line line then line_end_of line ∷ blank_of rest else []
 
 -- The lines after those.
 abbrev pub filled : List (List ℕ) → List (List ℕ)
@@ -56,9 +56,9 @@ head_with blank [] = record {
 head_with blank (line ∷ rest) = record {
   blank = blank;
   method = before 32 line;
-  target = before 32 (after 32 line);
-  minor = get_or (after 32 (after 32 line)) 7 48 - 48;
-  line_end = end_of line;
+  target = before 32 (rest_after 32 line);
+  minor = get_or (rest_after 32 (rest_after 32 line)) 7 48 - 48;
+  line_end = line_end_of line;
   fields = fields_of rest;
   last = last_of rest;
 }

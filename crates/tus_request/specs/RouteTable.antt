@@ -19,5 +19,5 @@ upload_route = record {
 }
 
 -- The two routes.
-abbrev pub table : RowsOf (RouteOf Kind)
-table = (codes "/files/" ++ param_token ∷ [], upload_route) ∷ (codes "/files", files_route) ∷ []
+abbrev pub route_table : RowsOf (RouteOf Kind)
+route_table = (codes "/files/" ++ param_token ∷ [], upload_route) ∷ (codes "/files", files_route) ∷ []

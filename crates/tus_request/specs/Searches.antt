@@ -1,12 +1,12 @@
 -- The search for a head's end, byte by byte.
 use Rattle.std.specs.Prelude.{ℕ, Bool, true, false, List, [], ◌∷◌, if◌then◌else◌, ◌==◌}
 use Rattle.tus_request.specs.declared.search.Search.{Search}
-use Rattle.tus_request.specs.declared.search.Search.TheVariants.{Front, FrontCr, Text, Start, StartCr, Over}
+use Rattle.tus_request.specs.declared.search.Search.TheVariants.{Leading, LeadingCr, Text, Start, StartCr, Over}
 
 -- The state after a LF.
 abbrev pub after_lf : Search → Search
-after_lf Front = Front
-after_lf FrontCr = Front
+after_lf Leading = Leading
+after_lf LeadingCr = Leading
 after_lf Text = Start
 after_lf Start = Over
 after_lf StartCr = Over
@@ -14,8 +14,8 @@ after_lf Over = Over
 
 -- The state after a CR.
 abbrev pub after_cr : Search → Search
-after_cr Front = FrontCr
-after_cr FrontCr = Text
+after_cr Leading = LeadingCr
+after_cr LeadingCr = Text
 after_cr Text = Text
 after_cr Start = StartCr
 after_cr StartCr = Text
@@ -36,9 +36,9 @@ after_bytes s [] = s
 after_bytes s (b ∷ bytes) = after_bytes (after_byte s b) bytes
 
 -- The head's end was found.
-abbrev pub is_over : Search → Bool
-is_over Over = true
-is_over _ = false
+abbrev pub is_head_found : Search → Bool
+is_head_found Over = true
+is_head_found _ = false
 
 -- The search is at the start of a line, or after a CR there.
 abbrev pub is_in_start : Search → Bool

@@ -7,6 +7,6 @@ use Rattle.tus_request.specs.Answers.{Answer, Judged}
 pub record IsSteady (answer : List ℕ → Answer) : Type 0 where
   pub some : (s : List ℕ) (n : ℕ) (v : Verdict) → answer s ≡ Judged n v → 0 < n
   pub within : (s : List ℕ) (n : ℕ) (v : Verdict) → answer s ≡ Judged n v → n ≤ length s
-  pub keeps : (s more : List ℕ) (n : ℕ) (v : Verdict) → answer s ≡ Judged n v → answer (s ++ more) ≡ Judged n v
+  pub unchanged : (s more : List ℕ) (n : ℕ) (v : Verdict) → answer s ≡ Judged n v → answer (s ++ more) ≡ Judged n v
   -- Its own bytes have the same answer.
   pub own : (s : List ℕ) (n : ℕ) (v : Verdict) → answer s ≡ Judged n v → answer (take n s) ≡ Judged n v

@@ -30,11 +30,11 @@ pub record IsValidRequest (offers : Encoding → Bool) (r : Request) : Type 0 wh
   pub action_is : IsValidAction offers r.action
 
 -- A verdict: refused requests have no such property.
-abbrev pub IsValid : (Encoding → Bool) → Verdict → Type 0
-IsValid offers (Asks r) = IsValidRequest offers r
-IsValid offers (Refuses x) = Unit {0}
+abbrev pub IsValidVerdict : (Encoding → Bool) → Verdict → Type 0
+IsValidVerdict offers (Asks r) = IsValidRequest offers r
+IsValidVerdict offers (Refuses x) = Unit {0}
 
 -- An answer.
 abbrev pub IsValidAnswer : (Encoding → Bool) → Answer → Type 0
 IsValidAnswer offers More = Unit {0}
-IsValidAnswer offers (Judged n v) = IsValid offers v
+IsValidAnswer offers (Judged n v) = IsValidVerdict offers v

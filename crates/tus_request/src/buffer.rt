@@ -4,7 +4,7 @@ ghost use Rattle.tus_request.specs.declared.heads.TheConstants.{MOST_HEAD};
 ghost use Rattle.enc_model.specs.Indexes.{offers};
 ghost use Rattle.tus_request.specs.Answers.{answer_of};
 ghost use Rattle.tus_request.specs.Searches.{after_bytes};
-ghost use Rattle.tus_request.specs.declared.search.Search.TheVariants.{Front};
+ghost use Rattle.tus_request.specs.declared.search.Search.TheVariants.{Leading};
 ghost use Rattle.tus_request.specs.Shown.{answer_shown};
 
 use crate::heads::{MOST_HEAD, parse_by};
@@ -21,25 +21,25 @@ pub struct HeadBuffer {
     // The state of the search for the head's end after these bytes, so that no byte is searched twice.
     search: Search,
     ghost short: { vec_len bytes ≤ MOST_HEAD },
-    ghost searched: { search ≡ after_bytes Front bytes.items },
+    ghost searched: { search ≡ after_bytes Leading bytes.items },
 }
 
 impl HeadBuffer {
-    ghost use Rattle.tus_request.specs.Buffers.{bytes_of, unfinished, is_judged};
+    ghost use Rattle.tus_request.specs.Buffers.{head_bytes, unfinished, is_judged};
 
     /// An empty buffer. It needs no memory.
     pub fn new(alloc: Global) -> Self
-        ensures { bytes_of result ≡ [] }
+        ensures { head_bytes result ≡ [] }
     {
         HeadBuffer {
             bytes: Vec::new(alloc),
-            search: Search::Front,
+            search: Search::Leading,
         }
     }
 
     /// How many bytes of the head have arrived.
     pub fn len(&self) -> usize
-        ensures { result ≡ length (bytes_of self.now) }
+        ensures { result ≡ length (head_bytes self.now) }
     {
         self.bytes.len()
     }
@@ -59,9 +59,9 @@ impl HeadBuffer {
         set: &IndexSet,
     ) -> Result<Parsed, AllocError>
         ensures function { IfOk result
-            (λ answer. answer_shown answer ≡ answer_of (offers set.now) (bytes_of self.old ++ piece.now)) }
-        ensures rest { IfOk result (λ answer. bytes_of self.new ≡ unfinished (answer_shown answer)
-            (bytes_of self.old ++ piece.now)) }
+            (λ answer. answer_shown answer ≡ answer_of (offers set.now) (head_bytes self.old ++ piece.now)) }
+        ensures rest { IfOk result (λ answer. head_bytes self.new ≡ unfinished (answer_shown answer)
+            (head_bytes self.old ++ piece.now)) }
     {
         self.take(alloc, piece, set, None)
     }
@@ -79,9 +79,9 @@ impl HeadBuffer {
         routes: &Routes,
     ) -> Result<Parsed, AllocError>
         ensures function { IfOk result
-            (λ answer. answer_shown answer ≡ answer_of (offers set.now) (bytes_of self.old ++ piece.now)) }
-        ensures rest { IfOk result (λ answer. bytes_of self.new ≡ unfinished (answer_shown answer)
-            (bytes_of self.old ++ piece.now)) }
+            (λ answer. answer_shown answer ≡ answer_of (offers set.now) (head_bytes self.old ++ piece.now)) }
+        ensures rest { IfOk result (λ answer. head_bytes self.new ≡ unfinished (answer_shown answer)
+            (head_bytes self.old ++ piece.now)) }
     {
         self.take(alloc, piece, set, Some(routes))
     }
@@ -95,9 +95,9 @@ impl HeadBuffer {
         routes: Option<&Routes>,
     ) -> Result<Parsed, AllocError>
         ensures function { IfOk result
-            (λ answer. answer_shown answer ≡ answer_of (offers set.now) (bytes_of self.old ++ piece.now)) }
-        ensures rest { IfOk result (λ answer. bytes_of self.new ≡ unfinished (answer_shown answer)
-            (bytes_of self.old ++ piece.now)) }
+            (λ answer. answer_shown answer ≡ answer_of (offers set.now) (head_bytes self.old ++ piece.now)) }
+        ensures rest { IfOk result (λ answer. head_bytes self.new ≡ unfinished (answer_shown answer)
+            (head_bytes self.old ++ piece.now)) }
     {
         self.fill(piece)?;
         if !self.is_judged() {
@@ -110,23 +110,23 @@ impl HeadBuffer {
 
     /// Whether the head's end has arrived, or as many bytes as a head may have.
     fn is_judged(&self) -> bool
-        ensures { result ≡ is_judged (bytes_of self.now) }
+        ensures { result ≡ is_judged (head_bytes self.now) }
     {
         self.search.is_over() || self.bytes.len() >= MOST_HEAD
     }
 
     /// Empties the buffer.
     fn clear(&mut self)
-        ensures { bytes_of self.new ≡ [] }
+        ensures { head_bytes self.new ≡ [] }
     {
         self.bytes.clear();
-        self.search = Search::Front;
+        self.search = Search::Leading;
     }
 
     /// Appends those bytes of the piece that may belong to the head.
     fn fill(&mut self, piece: &[u8]) -> Result<(), AllocError>
-        ensures { bytes_of self.new ≡ (if is_ok result then take MOST_HEAD
-            (bytes_of self.old ++ piece.now) else bytes_of self.old) }
+        ensures { head_bytes self.new ≡ (if is_ok result then take MOST_HEAD
+            (head_bytes self.old ++ piece.now) else head_bytes self.old) }
     {
         let room = MOST_HEAD - self.bytes.len();
         let prefix = &piece[..piece.len().min(room)];

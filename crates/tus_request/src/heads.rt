@@ -5,7 +5,7 @@ ghost use Rattle.tus_request.specs.Answers.{More, Judged, answer_of};
 ghost use Rattle.tus_request.specs.Checks.{no_head};
 ghost use Rattle.tus_request.specs.CheckParts.{verdict_shown};
 ghost use Rattle.tus_request.specs.declared.faults.Fault.TheVariants.{HeadTooLong};
-ghost use Rattle.tus_request.specs.Grammar.{prefix, IsWhole, IsAnswer, IsHeadAnswer, IsShortHead};
+ghost use Rattle.tus_request.specs.Grammar.{prefix, IsWholeHead, IsAnswer, IsHeadAnswer, IsShortHead};
 ghost use Rattle.tus_request.specs.Shown.{answer_shown};
 
 use crate::checks::{Line, Verdict, check};
@@ -36,7 +36,7 @@ pub const MOST_LINES: usize = 64;
 pub fn parse(alloc: Global, bytes: &[u8], set: &IndexSet) -> Result<Parsed, AllocError>
     ensures function { IfOk result (λ answer. answer_shown answer ≡ answer_of (offers set.now) bytes.now) }
     ensures grammar { IfOk result (λ answer. IsAnswer (offers set.now) bytes.now (answer_shown answer)) }
-    ensures memory { OnErr result (IsWhole (prefix bytes.now)) }
+    ensures memory { OnErr result (IsWholeHead (prefix bytes.now)) }
 {
     parse_by(alloc, bytes, set, None)
 }
@@ -50,7 +50,7 @@ pub(crate) fn parse_by(
 ) -> Result<Parsed, AllocError>
     ensures function { IfOk result (λ answer. answer_shown answer ≡ answer_of (offers set.now) bytes.now) }
     ensures grammar { IfOk result (λ answer. IsAnswer (offers set.now) bytes.now (answer_shown answer)) }
-    ensures memory { OnErr result (IsWhole (prefix bytes.now)) }
+    ensures memory { OnErr result (IsWholeHead (prefix bytes.now)) }
 {
     parse_head(alloc, bytes, set, routes)
 }
@@ -63,7 +63,7 @@ fn parse_head(
     routes: Option<&Routes>,
 ) -> Result<Parsed, AllocError>
     ensures grammar { IfOk result (λ answer. IsAnswer (offers set.now) bytes.now (answer_shown answer)) }
-    ensures memory { OnErr result (IsWhole (prefix bytes.now)) }
+    ensures memory { OnErr result (IsWholeHead (prefix bytes.now)) }
 {
     let prefix = &bytes[..bytes.len().min(MOST_HEAD)];
     let Some(extent) = measure(prefix) else {

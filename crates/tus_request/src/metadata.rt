@@ -3,7 +3,7 @@ ghost use Rattle.std.specs.Prelude.{◌≡◌, IfOk, map, option_map, Some, [], 
 ghost use Rattle.tus_request.specs.Value.{IsValueOf, value_of};
 ghost use Rattle.tus_request.specs.Texts.{parts, trimmed};
 ghost use Rattle.std.specs.List.{list_all};
-ghost use Rattle.tus_request.specs.Metadata.{is_plain, pair_value, pair_of, has_key, pairs_from, is_metadata};
+ghost use Rattle.tus_request.specs.Metadata.{is_plain, pair_value, key_value_of, has_key, key_values_from, is_metadata};
 ghost use Rattle.tus_request.specs.Metadata.{metadata_of, setting, mode_of, choice_of};
 ghost use Rattle.tus_request.specs.Pairs.{pair_shown, choice_shown, bytes_shown, pairs_shown};
 
@@ -54,7 +54,7 @@ fn pair_value(alloc: Global, text: &[u8]) -> Result<Option<Vec<u8>>, AllocError>
 
 /// The key and value of a part, if it has the form of a pair.
 fn read_pair<'m>(alloc: Global, part: &'m [u8]) -> Result<Option<Pair<'m>>, AllocError>
-    ensures { IfOk result (λ found. option_map pair_shown found ≡ pair_of part.now) }
+    ensures { IfOk result (λ found. option_map pair_shown found ≡ key_value_of part.now) }
 {
     let key = prefix(part, b' ');
     if key.is_empty() {
@@ -79,7 +79,7 @@ fn has_key(pairs: &[Pair<'_>], key: &[u8]) -> bool
 /// The pairs of a list, if all its parts are pairs and no key occurs twice.
 fn read_pairs<'m>(alloc: Global, text: &'m [u8]) -> Result<Option<Vec<Pair<'m>>>, AllocError>
     ensures { IfOk result
-        (λ found. pairs_shown found ≡ pairs_from (Some []) (map (trimmed (32 ∷ [])) (parts text.now))) }
+        (λ found. pairs_shown found ≡ key_values_from (Some []) (map (trimmed (32 ∷ [])) (parts text.now))) }
 {
     let mut pairs = Vec::new(alloc);
     for part in text.split(|b| *b == b',') {

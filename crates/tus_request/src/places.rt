@@ -1,7 +1,7 @@
 //! The resources that paths name.
 ghost use Rattle.std.specs.Prelude.{◌≡◌, IfOk};
-ghost use Rattle.tus_request.specs.Places.{place_of, is_files, upload_number};
-ghost use Rattle.tus_request.specs.RouteTable.{table};
+ghost use Rattle.tus_request.specs.Places.{resource_of, is_files, upload_number};
+ghost use Rattle.tus_request.specs.RouteTable.{route_table};
 
 use common::number;
 use matchit::{InsertError, Router};
@@ -37,7 +37,7 @@ fn upload(text: &[u8]) -> Option<u64>
 #[derive(Drop)]
 pub struct Routes {
     router: Router<Kind>,
-    ghost both: { router ≡ table },
+    ghost both: { router ≡ route_table },
 }
 
 impl Routes {
@@ -56,7 +56,7 @@ impl Routes {
 
     /// The resource of the path, if it has one.
     pub(crate) fn place_of(&self, path: &str) -> Option<Place>
-        ensures { result ≡ place_of path.now }
+        ensures { result ≡ resource_of path.now }
     {
         let Ok(found) = self.router.at(path) else {
             return None;
@@ -73,7 +73,7 @@ impl Routes {
 
 /// A router with the two routes.
 fn routed(alloc: Global) -> Result<Router<Kind>, InsertError>
-    ensures { IfOk result (λ router. router ≡ table) }
+    ensures { IfOk result (λ router. router ≡ route_table) }
 {
     let mut router = Router::new(alloc);
     router.insert("/files", Kind::Files)?;
@@ -83,7 +83,7 @@ fn routed(alloc: Global) -> Result<Router<Kind>, InsertError>
 
 /// The resource of the path, if it has one. It is compared with the two routes, so that no router is needed.
 pub(crate) fn named_by(path: &str) -> Option<Place>
-    ensures { result ≡ place_of path.now }
+    ensures { result ≡ resource_of path.now }
 {
     if path == "/files" {
         return Some(Place::Files);

@@ -1,6 +1,6 @@
 //! The search for a head's end.
 ghost use Rattle.std.specs.Prelude.{◌≡◌, ◌<◌, true, length};
-ghost use Rattle.tus_request.specs.Searches.{after_byte, after_bytes, is_over, is_in_start};
+ghost use Rattle.tus_request.specs.Searches.{after_byte, after_bytes, is_head_found, is_in_start};
 ghost use Rattle.tus_request.specs.declared.search.Search.TheVariants.{Text};
 
 use crate::lines::line_feed;
@@ -9,9 +9,9 @@ use crate::lines::line_feed;
 #[derive(Clone, Copy, Drop)]
 pub(crate) enum Search {
     /// At the start of a line; all lines so far are empty.
-    Front,
+    Leading,
     /// After a CR at the start of such a line.
-    FrontCr,
+    LeadingCr,
     /// In a line that isn't empty.
     Text,
     /// At the start of a line after one that isn't empty.
@@ -25,7 +25,7 @@ pub(crate) enum Search {
 impl Search {
     /// Whether the head's end was found.
     pub(crate) fn is_over(self) -> bool
-        ensures { result ≡ is_over self }
+        ensures { result ≡ is_head_found self }
     {
         matches!(self, Search::Over)
     }
@@ -37,8 +37,8 @@ impl Search {
     {
         match (self, byte) {
             (Search::Start | Search::StartCr, b'\n') => Search::Over,
-            (Search::Front | Search::FrontCr, b'\n') => Search::Front,
-            (Search::Front, b'\r') => Search::FrontCr,
+            (Search::Leading | Search::LeadingCr, b'\n') => Search::Leading,
+            (Search::Leading, b'\r') => Search::LeadingCr,
             (Search::Start, b'\r') => Search::StartCr,
             _ => Search::Text,
         }

@@ -11,10 +11,10 @@ use Rattle.upload_rules.specs.World.{Patch, World, at_rest}
 use Rattle.upload_rules.specs.Apart.{IsApart}
 use Rattle.upload_rules.specs.declared.uploads.Uploads.{Ghosts}
 use Rattle.upload_rules.proofs.Finds.{find_without_same, find_without_other}
-use Rattle.tus_request.specs.Buffers.{bytes_of}
+use Rattle.tus_request.specs.Buffers.{head_bytes}
 use Rattle.tus_session.specs.Turns.{Conn, left_world}
 use Rattle.tus_session.specs.History.{State}
-use Rattle.tus_session.specs.Stands.{LinkIs, PlaceIs, draft_at, SessionStands, dropped_by}
+use Rattle.tus_session.specs.Represents.{LinkIs, PlaceIs, draft_of_conn, SessionRepresents, dropped_by}
 use Rattle.tus_session.specs.declared.conns.Link.{Link}
 use Rattle.tus_session.specs.declared.conns.Awaiting.{Awaiting}
 use Rattle.tus_session.specs.declared.conns.Awaiting.TheVariants as awaits
@@ -24,34 +24,34 @@ use Rattle.upload_rules.proofs.Patches.{apart_without}
 -- a world with the uploads of the history, in which only the drafts of the first places are open
 pub record IsClosing {U B : Type 0} (u : Ghosts U B) (sure : Bool) (st : State) (left : ℕ) (store : U)
     (v : World) : Type 0 where
-  pub shown : u.stands store sure v
+  pub shown : u.represents store sure v
   pub uploads : v.store ≡ st.world.store
   pub blocks : v.blocks ≡ st.world.blocks
   pub unique : IsApart v.patches
-  pub owned : (d : ℕ) (p : Patch) → find d v.patches ≡ Some p → (c : ℕ) × (c < left) × (draft_at (st.conns c) ≡ Some d)
+  pub owned : (d : ℕ) (p : Patch) → find d v.patches ≡ Some p → (c : ℕ) × (c < left) × (draft_of_conn (st.conns c) ≡ Some d)
 
 module _ {U B : Type 0} (u : Ghosts U B) (sure : Bool) where
   conn_below : (places : List (Option (Link B))) (store : U) (st : State) (c d : ℕ)
-      → SessionStands u sure places store st → draft_at (st.conns c) ≡ Some d → c < length places
-  conn_below places store st c d stands e = elim (cases_lt c (length places)) [
+      → SessionRepresents u sure places store st → draft_of_conn (st.conns c) ≡ Some d → c < length places
+  conn_below places store st c d represents e = elim (cases_lt c (length places)) [
     | inl lt ↦ lt
-    | inr le ↦ let x : Some d ≡ None = sym e ∙ ap draft_at (beyond u sure places store st stands c le) in absurd (cc)
+    | inr le ↦ let x : Some d ≡ None = sym e ∙ ap draft_of_conn (beyond u sure places store st represents c le) in absurd (cc)
   ]
 
-  pub begins_closing : (places : List (Option (Link B))) (store : U) (st : State) → SessionStands u sure places store st
+  pub begins_closing : (places : List (Option (Link B))) (store : U) (st : State) → SessionRepresents u sure places store st
       → IsClosing u sure st (length places) store st.world
-  begins_closing places store st stands = record {
-    shown = stands.shown;
+  begins_closing places store st represents = record {
+    shown = represents.shown;
     uploads = refl;
     blocks = refl;
-    unique = stands.unique;
-    owned = λ d p found. let c = stands.owned d p found in (c.0, conn_below places store st c.0 d stands c.1, c.1);
+    unique = represents.unique;
+    owned = λ d p found. let c = represents.owned d p found in (c.0, conn_below places store st c.0 d represents c.1, c.1);
   }
 
   -- the draft of the last place is dropped, if it has one
   pub closing : (st : State) (left : ℕ) (store store' : U) (v : World) (own : Option ℕ)
-      → IsClosing u sure st (suc left) store v → draft_at (st.conns left) ≡ own
-      → u.stands store' sure (left_world v own) → IsClosing u sure st left store' (left_world v own)
+      → IsClosing u sure st (suc left) store v → draft_of_conn (st.conns left) ≡ own
+      → u.represents store' sure (left_world v own) → IsClosing u sure st left store' (left_world v own)
   closing st left store store' v None is none shown = record {
     shown = shown;
     uploads = is.uploads;
@@ -85,9 +85,9 @@ module _ {U B : Type 0} (u : Ghosts U B) (sure : Bool) where
   left_by w v head (awaits.Text g left) conn is = rw is.draft
 
   place_left : (w v : World) (k : Link B) (o : Option Conn) → PlaceIs u w (Some k) o
-      → dropped_by u v k.awaiting ≡ left_world v (draft_at o)
+      → dropped_by u v k.awaiting ≡ left_world v (draft_of_conn o)
   place_left w v k None is = absurd is
-  place_left w v k (Some conn) is = left_by w v (bytes_of k.head) k.awaiting conn is
+  place_left w v k (Some conn) is = left_by w v (head_bytes k.head) k.awaiting conn is
 
   no_patches : (patches : List (ℕ × Patch)) → ((d : ℕ) (p : Patch) → find d patches ≡ Some p → ⊥) → patches ≡ []
   no_patches [] none = refl
@@ -95,7 +95,7 @@ module _ {U B : Type 0} (u : Ghosts U B) (sure : Bool) where
 
   -- no place is left
   pub all_closed : (st : State) (store : U) (v : World) → IsClosing u sure st 0 store v
-      → u.stands store sure (at_rest st.world.store st.world.blocks)
+      → u.represents store sure (at_rest st.world.store st.world.blocks)
   all_closed st store v is =
       let none : v.patches ≡ [] =
       no_patches v.patches (λ d p found. let c = is.owned d p found in let l : c.0 < 0 = c.1 in absurd
@@ -125,23 +125,23 @@ popped all old new x prefix items =
     }
 
 module _ {U B : Type 0} (u : Ghosts U B) (sure : Bool) (all old new : List (Option (Link B))) (first : U) (st : State)
-    (stands : SessionStands u sure all first st) where
+    (represents : SessionRepresents u sure all first st) where
   place_there : (x : Option (Link B)) → Popped all old new x → PlaceIs u st.world x (st.conns (length new))
-  place_there x is = rw is.here at (stands.each (length new))
+  place_there x is = rw is.here at (represents.each (length new))
 
   pub after_closed : (store : U) (v : World) (x : Option (Link B)) → x ≡ None → Popped all old new x
       → IsClosing u sure st (length old) store v → (v' : World) × IsClosing u sure st (length new) store v'
   after_closed store v x e is closes =
       let none = closed_none u sure st.world (st.conns (length new)) (rw e at (place_there x is)) in
-      (v, closing u sure st (length new) store store v None (rw is.count at closes) (ap draft_at none) closes.shown)
+      (v, closing u sure st (length new) store store v None (rw is.count at closes) (ap draft_of_conn none) closes.shown)
 
   pub after_open : (store store' : U) (v : World) (x : Option (Link B)) (k : Link B) → x ≡ Some k → Popped all old new x
-      → IsClosing u sure st (length old) store v → u.stands store' sure (dropped_by u v k.awaiting) → (v' : World)
+      → IsClosing u sure st (length old) store v → u.represents store' sure (dropped_by u v k.awaiting) → (v' : World)
       × IsClosing u sure st (length new) store' v'
   after_open store store' v x k e is closes shown =
       let conn = st.conns (length new) in
       let left = place_left u sure st.world v k conn (rw e at (place_there x is)) in (
-        left_world v (draft_at conn),
-        closing u sure st (length new) store store' v (draft_at conn)
+        left_world v (draft_of_conn conn),
+        closing u sure st (length new) store store' v (draft_of_conn conn)
             (rw is.count at closes) refl (rw left at shown),
       )

@@ -9,8 +9,8 @@ use Rattle.std.proofs.Math.Seq.{take-append_seam}
 use Rattle.tus_request.specs.Requests.{Verdict, body_length}
 use Rattle.tus_request.specs.Steady.{IsSteady}
 use Rattle.tus_request.specs.Answers.{Answer, More, Judged}
-use Rattle.tus_session.specs.Streams.{Asked, Rest, Cut, Reader, onto, after_head, by_answer, cut_within, cut}
-use Rattle.tus_session.specs.Streams.{rest_bytes, span, headed, heads_of, taken_to, taken_of, taken}
+use Rattle.tus_session.specs.Streams.{Asked, Rest, Cut, Reader, onto_cut, after_head, by_answer, cut_within, cut}
+use Rattle.tus_session.specs.Streams.{rest_bytes, request_sizes, headed, heads_of, taken_to, taken_of, taken}
 use Rattle.tus_session.specs.Streams.{moments_of, moments}
 
 -- the whole requests of a stream before another cut
@@ -22,7 +22,7 @@ head_same : (f g : List ℕ → Cut) (head : List ℕ) (v : Verdict) (rest : Lis
     → f (drop (body_length v) rest) ≡ g (drop (body_length v) rest)
     → after_head f head v rest b ≡ after_head g head v rest b
 head_same f g head v rest true e = refl
-head_same f g head v rest false e = ap (onto (record { head = head; verdict = v; body = take (body_length v) rest })) e
+head_same f g head v rest false e = ap (onto_cut (record { head = head; verdict = v; body = take (body_length v) rest })) e
 
 shorter : (s : List ℕ) (n m : ℕ) → 0 < n → n ≤ length s → length (drop m (drop n s)) < length s
 shorter s n m some within = simp length-drop (omega arith)
@@ -33,7 +33,7 @@ GoesOn answer p s c = cut answer (s ++ p) ≡ after_whole c.whole (cut answer (r
 
 body_there : (f : List ℕ → Cut) (head : List ℕ) (v : Verdict) (rest p : List ℕ) → body_length v ≤ length rest
     → after_head f head v (rest ++ p) (nat_lt (length (rest ++ p)) (body_length v))
-    ≡ onto (record { head = head; verdict = v; body = take (body_length v) rest }) (f (drop (body_length v) rest ++ p))
+    ≡ onto_cut (record { head = head; verdict = v; body = take (body_length v) rest }) (f (drop (body_length v) rest ++ p))
 body_there f head v rest p fits =
     let m = body_length v in
     let l : m ≤ length (rest ++ p) = simp length-append (omega arith) in
@@ -46,7 +46,7 @@ head_there f n v s p within = rw (take-append-le n s p within, drop-append-le n 
 
 -- THE CUT COVERS THE STREAM
 abbrev pub Covers : List ℕ → Cut → Type 0
-Covers s c = span c.whole + length (rest_bytes c.rest) ≡ length s
+Covers s c = request_sizes c.whole + length (rest_bytes c.rest) ≡ length s
 
 -- A cut without its whole requests: that of what is left
 abbrev pub IsLeft : Reader → Cut → Type 0
@@ -76,12 +76,12 @@ abbrev pub left : Reader → List ℕ → List ℕ
 left answer s = rest_bytes (cut answer s).rest
 
 -- how much is taken, by what is left alone
-by_end : (ws : List Asked) (s u p : List ℕ) (d : Cut) → span ws + length u ≡ length s → (r : Option Asked)
+by_end : (ws : List Asked) (s u p : List ℕ) (d : Cut) → request_sizes ws + length u ≡ length s → (r : Option Asked)
     → taken_to s p (after_whole ws d) (length ws) r ≡ taken_to u p d 0 r
 by_end ws s u p d covers None = refl
 by_end ws s u p d covers (Some r) = rw (take-append_seam ws d.whole) (omega arith)
 
-taken_after : (ws : List Asked) (r : Rest) (s u p : List ℕ) (d : Cut) → span ws + length u ≡ length s
+taken_after : (ws : List Asked) (r : Rest) (s u p : List ℕ) (d : Cut) → request_sizes ws + length u ≡ length s
     → taken_of s p (record {
       whole = ws;
       rest = r;
@@ -126,7 +126,7 @@ module _ (answer : Reader) (steady : IsSteady answer) where
       let body = body_there (cut answer) (take n s) v (drop n s) p
       (ltb-false (length (drop n s)) (body_length v) there) in
       let later = goes (drop (body_length v) (drop n s)) (shorter s n (body_length v) (steady.some s n v e) within) in
-      rw (cut_steps (s ++ p), steady.keeps s p n v e, head, body, later)
+      rw (cut_steps (s ++ p), steady.unchanged s p n v e, head, body, later)
 
   on_answer : (s p : List ℕ) (a : Answer) → answer s ≡ a
       → ((t : List ℕ) → length t < length s → GoesOn answer p t (cut answer t))

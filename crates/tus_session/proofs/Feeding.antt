@@ -5,7 +5,7 @@ use Rattle.std.proofs.lemmas.Bool.Decides.{nat_tests}
 use Rattle.std.proofs.lemmas.List.{length-append}
 use Rattle.upload_rules.specs.Store.{find, without, replaced, accepted_count}
 use Rattle.upload_rules.specs.World.{Patch, World, reached}
-use Rattle.upload_rules.specs.Calls.{longer, appended_at, dropped, commit_refusal, commit_outcome, committed_store}
+use Rattle.upload_rules.specs.Calls.{longer_patch, appended_at, dropped, commit_refusal, commit_outcome, committed_store}
 use Rattle.upload_rules.specs.Calls.{spent, outcome}
 use Rattle.upload_rules.specs.declared.uploads.Uploads.{Ghosts}
 use Rattle.tus_request.specs.Requests.{Request}
@@ -67,7 +67,7 @@ pub drop_fed : (w : World) (d : ℕ) (p : Patch) (piece : List ℕ) → find d w
 drop_fed w d p [] found = refl
 drop_fed w d p (b ∷ piece) found =
     ap (λ o. dropped (appended_at w d (b ∷ piece) o) d) found
-    ∙ ap (λ ps. record w { patches = ps }) (without_replaced d (longer w d p (b ∷ piece)) w.patches)
+    ∙ ap (λ ps. record w { patches = ps }) (without_replaced d (longer_patch w d p (b ∷ piece)) w.patches)
 
 pub spent_store : (w : World) (d : ℕ) (p : Patch) (o : Option UploadRefusal)
     → (spent w d p o).store ≡ outcome o w.store (committed_store w.store p)
@@ -91,9 +91,9 @@ ended_store w d p piece r =
 module _ {U B : Type 0} (u : Ghosts U B) (sure : Bool) where
   -- a reply was given, and nothing is open
   pub answered_as : (store : U) (link : Option (Link B)) (old new : List ℕ) (head : HeadBuffer) (taken : ℕ) (m : Acted)
-      (closes : Bool) → u.stands store sure m.world → closes ≡ m.closes → link ≡ link_after head 0 closes
+      (closes : Bool) → u.represents store sure m.world → closes ≡ m.closes → link ≡ link_after head 0 closes
       → new ≡ old ++ m.bytes → Answered u sure store link (took taken closes) old new head taken m
-  answered_as store link old new head taken m closes stands same at bytes =
+  answered_as store link old new head taken m closes represents same at bytes =
       assumption (at ∙ ap (link_after head 0) same, ap (took taken) same)
 
   -- a call that stopped, out of memory or for a disk fault, closes the connection

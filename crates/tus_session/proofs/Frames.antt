@@ -2,7 +2,7 @@
 use Rattle.std.proofs.Common.{◌≡◌, ◌<◌, ◌≤◌, ℕ, List, ◌++◌, length, take, drop, Option, Some, None, refl, sym, ◌∙◌, ap}
 use Rattle.std.proofs.Common.{subst, arith, Bool}
 use Rattle.std.proofs.lemmas.List.{length-append, take-append-le}
-use Rattle.tus_request.specs.Buffers.{bytes_of}
+use Rattle.tus_request.specs.Buffers.{head_bytes}
 use Rattle.enc_model.specs.Indexes.{offers}
 use Rattle.tus_request.specs.Answers.{answer_of}
 use Rattle.upload_rules.specs.Lengths.{known_or}
@@ -16,7 +16,7 @@ use Rattle.tus_action.specs.declared.acts.Giving as given
 use Rattle.tus_request.specs.Requests.{Request}
 use Rattle.tus_session.specs.Streams.{Asked, cut}
 use Rattle.tus_session.specs.Turns.{Conn, reader}
-use Rattle.tus_session.specs.Stands.{PatchesAs, InsideBody, LinkIs, PlaceIs, draft_at}
+use Rattle.tus_session.specs.Represents.{PatchesAs, InsideBody, LinkIs, PlaceIs, draft_of_conn}
 use Rattle.tus_session.specs.Moves.{Longer, Grows, Moves}
 use Rattle.tus_action.specs.declared.bodies.OpenPatch.{OpenPatch}
 use Rattle.tus_session.specs.declared.conns.Awaiting.{Awaiting}
@@ -116,13 +116,13 @@ module _ {U B : Type 0} (u : Ghosts U B) (sure : Bool) where
   }
 
   pub place_moved : (w w' : World) (own own' : Option ℕ) (place : Option (Link B)) (conn : Option Conn)
-      → Moves w w' own own' → ((e : ℕ) → draft_at conn ≡ Some e → own ≡ Some e → ⊥) → PlaceIs u w place conn
+      → Moves w w' own own' → ((e : ℕ) → draft_of_conn conn ≡ Some e → own ≡ Some e → ⊥) → PlaceIs u w place conn
       → PlaceIs u w' place conn
   place_moved w w' own own' None None moves ne is = tt
   place_moved w w' own own' None (Some conn) moves ne is = absurd is
   place_moved w w' own own' (Some k) None moves ne is = absurd is
   place_moved w w' own own' (Some k) (Some conn) moves ne is =
-      link_moved w w' own own' (bytes_of k.head) k.awaiting conn moves ne is
+      link_moved w w' own own' (head_bytes k.head) k.awaiting conn moves ne is
 
   link_draft : (w : World) (head : List ℕ) (awaiting : Awaiting B) (conn : Conn) (d : ℕ) → LinkIs u w head awaiting conn
       → conn.draft ≡ Some d → (p : Patch) × (find d w.patches ≡ Some p)
@@ -134,9 +134,9 @@ module _ {U B : Type 0} (u : Ghosts U B) (sure : Bool) where
 
   -- a draft's patch is open
   pub draft_found : (w : World) (place : Option (Link B)) (conn : Option Conn) (d : ℕ) → PlaceIs u w place conn
-      → draft_at conn ≡ Some d
+      → draft_of_conn conn ≡ Some d
       → (p : Patch) × (find d w.patches ≡ Some p)
   draft_found w None None d is e = absurd (cc)
   draft_found w None (Some conn) d is e = absurd is
   draft_found w (Some k) None d is e = absurd is
-  draft_found w (Some k) (Some conn) d is e = link_draft w (bytes_of k.head) k.awaiting conn d is e
+  draft_found w (Some k) (Some conn) d is e = link_draft w (head_bytes k.head) k.awaiting conn d is e

@@ -9,9 +9,9 @@ use Rattle.tus_request.specs.Requests.{Verdict, body_length}
 use Rattle.upload_rules.specs.World.{World}
 use Rattle.tus_action.specs.Acts.{acted}
 use Rattle.tus_session.specs.Streams.{Moments, Rest, InHead, InBody, cut, moments, taken, Asked}
-use Rattle.tus_session.specs.Stands.{RestIs}
+use Rattle.tus_session.specs.Represents.{RestIs}
 use Rattle.tus_session.specs.Turns.{Conn, at_head, turn_of, came_with, came_at, reader, came_turn, Turn, body_step}
-use Rattle.tus_session.specs.Heads.{InsideHead, IsWhole}
+use Rattle.tus_session.specs.Heads.{InsideHead, CompletesHead}
 use Rattle.tus_session.proofs.Cuts.{moments_alone, taken_alone, left, left_alone}
 use Rattle.tus_session.proofs.Unfinished.{judged_as, only_head, head_part, head_whole, both_whole, whole_taken}
 use Rattle.tus_session.proofs.Unfinished.{head_new, IsBody, only_body, longer, bytes_came, body_ended, left_body}
@@ -70,7 +70,7 @@ module _ (w : World) (conn : Conn) (h : List ℕ) (inside : InsideHead w conn h)
         let a = rw (take_after h bytes before n head_within.0) at ((is_steady w).own (h ++ bytes) n v judged) in
         let parts = take-take before (before + m) bytes (omega arith) in
         rw (← (take-append-drop before q), parts, ← (append_assoc h (take before bytes) (drop before q)))
-        ((is_steady w).keeps (h ++ take before bytes) (drop before q) n v a)
+        ((is_steady w).unchanged (h ++ take before bytes) (drop before q) n v a)
 
     pub prefix_body : (m : ℕ) → drop n (h ++ take (before + m) bytes) ≡ take m (drop before bytes)
     prefix_body m = drop_after h (take (before + m) bytes) before n head_within.0 ∙ drop-take before m bytes
@@ -87,7 +87,7 @@ pub record HeadTurn (w : World) (conn : Conn) (bytes : List ℕ) (before : ℕ) 
   pub head_is : count - length moments.came ≡ before
 
 module _ (w : World) (conn : Conn) (h bytes : List ℕ) (n before : ℕ) (v : Verdict)
-    (is : IsWhole w conn h bytes n before v) where
+    (is : CompletesHead w conn h bytes n before v) where
   abbrev m : ℕ
   m = body_length v
 

@@ -7,7 +7,7 @@ module _ {m0 m1 m2 : ℕ} {l0 l1 l2 : Option ℕ → ℕ → List Store → Type
   pub quiet_then : {a b : Store} → Quiet m0 m1 l0 l1 → Limits m1 m2 l1 l2 a b → Limits m0 m2 l0 l2 a b
   quiet_then q l = record {
     later = omega (arith, q.later, l.later);
-    limits = λ n t ms le left x y. l.limits n t ms (omega (arith, q.later)) (q.keeps n t ms le left) x y;
+    limits = λ n t ms le left x y. l.limits n t ms (omega (arith, q.later)) (q.limits n t ms le left) x y;
   }
 
   pub first_then : {a b : Store} → Limits m0 m1 l0 l1 a a → Limits m1 m2 l1 l2 a b → Limits m0 m2 l0 l2 a b
@@ -18,7 +18,7 @@ module _ {m0 m1 m2 : ℕ} {l0 l1 l2 : Option ℕ → ℕ → List Store → Type
 
 pub quiet_limits : {m0 m1 : ℕ} {l0 l1 : Option ℕ → ℕ → List Store → Type 0} (a b : Store) → Quiet m0 m1 l0 l1
     → Limits m0 m1 l0 l1 a b
-quiet_limits a b q = record { later = q.later; limits = λ n t ms le left x y. q.keeps n t ms le left }
+quiet_limits a b q = record { later = q.later; limits = λ n t ms le left x y. q.limits n t ms le left }
 
 pub still_limits : {m0 m1 : ℕ} {l0 l1 : Option ℕ → ℕ → List Store → Type 0} {a : Store} (b : Store)
     → Limits m0 m1 l0 l1 a a → Limits m0 m1 l0 l1 a b

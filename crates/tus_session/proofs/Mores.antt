@@ -1,17 +1,17 @@
 -- The next piece of a text, and the end of a connection.
 use Rattle.std.proofs.Common.{◌≡◌, ℕ, Bool, true, false, List, [], Option, Some, None, Err, refl, sym, ◌∙◌, ap, subst}
 use Rattle.std.proofs.Common.{append-nil, ◌⊎◌, inl, inr, Result, Ok}
-use Rattle.tus_request.specs.Buffers.{bytes_of}
+use Rattle.tus_request.specs.Buffers.{head_bytes}
 use Rattle.upload_rules.specs.Store.{Store, Upload, upload_of, find}
 use Rattle.upload_rules.specs.World.{World, Patch}
 use Rattle.upload_rules.specs.declared.uploads.Uploads.{Ghosts}
 use Rattle.tus_action.specs.Acts.{Giving, is_pending, pending_after, piece_of}
-use Rattle.tus_action.specs.Serves.{GivingIs, IsGiven, Gives, Appends, Ends}
+use Rattle.tus_action.specs.Serves.{GivingIs, IsGiven, GivesMore, Appends, CutCommits}
 use Rattle.tus_action.specs.declared.acts.Giving as given
 use Rattle.tus_action.specs.declared.acts.Given.TheVariants.{Piece, Last, Gone}
 use Rattle.tus_session.specs.Streams.{cut}
 use Rattle.tus_session.specs.Turns.{Conn, Turn, reader, given_up, more_on, more_turn, ended_on, ended_world}
-use Rattle.tus_session.specs.Stands.{IsGivingText, LinkIs, IsPatching}
+use Rattle.tus_session.specs.Represents.{IsGivingText, LinkIs, IsPatching}
 use Rattle.tus_session.specs.Moves.{Moves}
 use Rattle.tus_session.specs.Turned.{TurnedAs, Turned, EndedAs, Ended}
 use Rattle.common.specs.declared.stop.Stop.{Stop}
@@ -22,7 +22,7 @@ use Rattle.tus_session.specs.declared.answers.Answer.{Answer}
 use Rattle.tus_session.specs.declared.conns.Awaiting.{Awaiting}
 use Rattle.tus_session.specs.declared.conns.Awaiting.TheVariants as awaits
 use Rattle.tus_session.specs.declared.conns.Link.{Link}
-use Rattle.tus_session.proofs.BodyTold.{answered_here}
+use Rattle.tus_session.proofs.BodyResults.{answered_here}
 use Rattle.tus_action.proofs.Pieces.{piece_appends}
 use Rattle.tus_session.proofs.Moved.{still, spend_moves}
 use Rattle.upload_rules.specs.Calls.{dropped, spent, commit_refusal, commit_outcome}
@@ -56,11 +56,11 @@ gone_with_upload sure m old new h (Some up) is = absurd is
 
 module _ {U B : Type 0} (u : Ghosts U B) (sure : Bool) where
   -- a connection stays as it is, and nothing is given
-  pub stays : (store : U) (w : World) (k : Link B) (conn : Conn) (more : Bool) (out : List ℕ) → u.stands store sure w
-      → LinkIs u w (bytes_of k.head) k.awaiting conn → more ≡ is_pending conn.pending
+  pub stays : (store : U) (w : World) (k : Link B) (conn : Conn) (more : Bool) (out : List ℕ) → u.represents store sure w
+      → LinkIs u w (head_bytes k.head) k.awaiting conn → more ≡ is_pending conn.pending
       → TurnedAs u sure store (Some k) (record { taken = 0; closes = false; more = more }) out out w conn.draft
       (record { world = w; conn = Some conn; bytes = []; text = []; taken = 0 })
-  stays store w k conn more out stands link e = assumption (still w conn.draft, sym (append-nil out))
+  stays store w k conn more out represents link e = assumption (still w conn.draft, sym (append-nil out))
 
   no_text : (w : World) (head : List ℕ) (awaiting : Awaiting B) (conn : Conn) → LinkIs u w head awaiting conn
       → ((g : given.Giving) (left : ℕ) → awaiting ≡ awaits.Text g left → ⊥) → conn.pending ≡ None
@@ -70,17 +70,17 @@ module _ {U B : Type 0} (u : Ghosts U B) (sure : Bool) where
   no_text w head (awaits.Text g left) conn is not = absurd (not g left refl)
 
   -- no text is to be given
-  pub more_nothing : (store : U) (w : World) (k : Link B) (conn : Conn) (out : List ℕ) → u.stands store sure w
-      → LinkIs u w (bytes_of k.head) k.awaiting conn
+  pub more_nothing : (store : U) (w : World) (k : Link B) (conn : Conn) (out : List ℕ) → u.represents store sure w
+      → LinkIs u w (head_bytes k.head) k.awaiting conn
       → ((g : given.Giving) (left : ℕ) → k.awaiting ≡ awaits.Text g left → ⊥)
       → TurnedAs u sure store (Some k) (record { taken = 0; closes = false; more = false }) out out w conn.draft
       (more_turn w conn)
-  more_nothing store w k conn out stands link not =
-      let none = no_text w (bytes_of k.head) k.awaiting conn link not in
-      rw (more_is w conn None none) (stays store w k conn false out stands link (sym (ap is_pending none)))
+  more_nothing store w k conn out represents link not =
+      let none = no_text w (head_bytes k.head) k.awaiting conn link not in
+      rw (more_is w conn None none) (stays store w k conn false out represents link (sym (ap is_pending none)))
 
   module _ (store : U) (w : World) (head : HeadBuffer) (conn : Conn) (g : given.Giving) (left : ℕ)
-      (stands : u.stands store sure w) (is : IsGivingText w conn (bytes_of head) g left) where
+      (represents : u.represents store sure w) (is : IsGivingText w conn (head_bytes head) g left) where
     abbrev gave : Bool → Bool → Answer
     gave closes more = record { taken = 0; closes = closes; more = more }
 
@@ -99,9 +99,9 @@ module _ {U B : Type 0} (u : Ghosts U B) (sure : Bool) where
         })
     some_turned old new rest None given e = absurd given
     some_turned old new rest (Some h) given e =
-        let link : IsGivingText w (record conn { pending = Some h }) (bytes_of head) rest left =
+        let link : IsGivingText w (record conn { pending = Some h }) (head_bytes head) rest left =
         record { h = h; rest = is.rest; draft = is.draft; pending = refl; gives = given } in
-        assumption (stands, link, still w conn.draft, e)
+        assumption (represents, link, still w conn.draft, e)
 
     -- more of the text is left
     pub more_some : (old new : List ℕ) (rest : given.Giving)
@@ -127,7 +127,7 @@ module _ {U B : Type 0} (u : Ghosts U B) (sure : Bool) where
         }) in
         let given : T None g.closes None =
         answered_here u sure store (link_after head left g.closes) (gave g.closes false) old new (piece_of is.h)
-        (piece_of is.h) w w None head left 0 g.closes conn.stream (cut (reader w) conn.stream).rest stands
+        (piece_of is.h) w w None head left 0 g.closes conn.stream (cut (reader w) conn.stream).rest represents
         (still w None) refl is.rest refl refl x.3 in
         rw (more_is w conn (Some is.h) is.pending, x.1)
         (subst (λ d. T d is.h.closes (pending_after is.h)) (sym is.draft)
@@ -139,13 +139,13 @@ module _ {U B : Type 0} (u : Ghosts U B) (sure : Bool) where
     more_gone old new is_gone =
         let x = gone_with_upload sure w.store old new is.h (upload_of w.store is.h.number) is_gone in
         let moves : Moves w w conn.draft None = rw is.draft (still w None) in
-        rw (more_is w conn (Some is.h) is.pending, x.0) (assumption (stands, moves, x.1 ∙ sym (append-nil old)))
+        rw (more_is w conn (Some is.h) is.pending, x.0) (assumption (represents, moves, x.1 ∙ sym (append-nil old)))
 
 module _ {U B : Type 0} (u : Ghosts U B) (sure : Bool) where
   -- nothing was given, and the connection closes
   pub more_stopped : (store : U) (w : World) (conn : Conn) (head : List ℕ) (g : given.Giving) (left : ℕ)
       (is : IsGivingText w conn head g left) (e : Stop) (old new : List ℕ) (t : Turn)
-      → Gives u sure store (Err e) old new w is.h → Turned u sure store (Err e) old new w conn.draft t
+      → GivesMore u sure store (Err e) old new w is.h → Turned u sure store (Err e) old new w conn.draft t
   more_stopped store w conn head g left is stops.NoMemory old new t (there, shown, same) =
       (rw is.draft shown, same)
   more_stopped store w conn head g left is stops.DiskFault old new t (there, same) = same
@@ -163,10 +163,10 @@ ended_none w conn is = ap (ended_on w) is
 
 module _ {U B : Type 0} (u : Ghosts U B) (sure : Bool) where
   -- nothing was open
-  pub ends_idle : (store : U) (w : World) (conn : Conn) → u.stands store sure w → conn.draft ≡ None
+  pub ends_idle : (store : U) (w : World) (conn : Conn) → u.represents store sure w → conn.draft ≡ None
       → EndedAs u sure store w conn.draft (ended_world w conn)
-  ends_idle store w conn stands none =
-      rw (ended_none w conn none, none) (record { shown = stands; moves = still w None })
+  ends_idle store w conn represents none =
+      rw (ended_none w conn none, none) (record { shown = represents; moves = still w None })
 
   module _ (w : World) (conn : Conn) (head : List ℕ) (b : OpenPatch B) (left : ℕ)
       (is : IsPatching u w conn head b left) where
@@ -178,11 +178,11 @@ module _ {U B : Type 0} (u : Ghosts U B) (sure : Bool) where
 
     -- a cut body
     pub ends_cut : (store : U) (r : Result (Unit {0}) Stop)
-        → Ends u sure store r (dropped w d) (spent w d is.p (commit_refusal w d is.p))
+        → CutCommits u sure store r (dropped w d) (spent w d is.p (commit_refusal w d is.p))
         → Ended u sure store r w conn.draft (ended_world w conn)
-    ends_cut store (Ok x) stands =
-        rw (ended_as, is.draft) (record { shown = stands; moves = spend_moves w d is.p is.patches.grown })
-    ends_cut store (Err stops.NoMemory) stands = rw is.draft stands
+    ends_cut store (Ok x) represents =
+        rw (ended_as, is.draft) (record { shown = represents; moves = spend_moves w d is.p is.patches.grown })
+    ends_cut store (Err stops.NoMemory) represents = rw is.draft represents
     ends_cut store (Err stops.DiskFault) x = tt
 
     pub ends_store : commit_outcome w d is.p ≡ (ended_world w conn).store

@@ -16,7 +16,7 @@ use Rattle.upload_rules.specs.Room.{is_short}
 use Rattle.upload_rules.specs.Grown.{GrewFrom}
 use Rattle.upload_rules.specs.declared.errors.UploadRefusal.{UploadRefusal}
 use Rattle.upload_rules.specs.declared.errors.UploadRefusal.TheVariants.{Offset, LengthSet, TooLong, Unencodable, Full}
-use Rattle.upload_rules.specs.Calls.{dropped, committed, committed_store, spent, created, terminated, longer, is_empty}
+use Rattle.upload_rules.specs.Calls.{dropped, committed, committed_store, spent, created, terminated, longer_patch, is_empty}
 use Rattle.upload_rules.specs.Calls.{commit_refusal, upload_refusal, length_refusal, text_refusal, or_else, refuse_if}
 use Rattle.upload_rules.specs.Calls.{declares, declares_at, is_idle, text_stays}
 use Rattle.upload_rules.proofs.Commits.{complete_patched}
@@ -89,7 +89,7 @@ pub feed_moves : (w : World) (d : ℕ) (p : Patch) (piece : List ℕ) → find d
     → Moves w (fed w d piece) (Some d) (Some d)
 feed_moves w d p [] found = still w (Some d)
 feed_moves w d p (b ∷ piece) found =
-    let q = longer w d p (b ∷ piece) in
+    let q = longer_patch w d p (b ∷ piece) in
     rw found (record {
       grows = same_grows w.store;
       others = λ e p ne there. find_replaced_other d e q w.patches (some_ne d e ne) ∙ there;
@@ -257,7 +257,7 @@ delete_moves w number own = stored_moves w (deleted_store w.store number) own (r
 -- an upload has what a patch brings
 put_grows : (m : Store) (number : ℕ) (declare : Option ℕ) (bytes : List ℕ) (u : Upload) → upload_of m number ≡ Some u
     → IsLonger m.indexes u (patched u declare bytes) → Grows m (patched_at m number declare bytes (Some u))
-put_grows m number declare bytes u there longer =
+put_grows m number declare bytes u there longer_patch =
     let v = patched u declare bytes in
     let m' : Store = patched_at m number declare bytes (Some u) in
     record {
@@ -268,7 +268,7 @@ put_grows m number declare bytes u there longer =
             let put : find n m'.uploads ≡ Some v = rw (← is) (find_replaced_same number u v m.uploads there) in
             let same : v ≡ up = same_Some v up (sym put ∙ found) in
             let l : Longer m m' u v =
-            record { declare = declare; bytes = bytes; more = longer.0; is = refl; text = longer.1 } in
+            record { declare = declare; bytes = bytes; more = longer_patch.0; is = refl; text = longer_patch.1 } in
             (u, rw (← is) there, subst (Longer m m' u) same l)
         | inr ne ↦ (up, sym (find_replaced_other number n v m.uploads ne) ∙ found, same_longer m m' up refl)
       ];

@@ -75,7 +75,7 @@ module _ (answer : Reader) (steady : IsSteady answer) where
   cut_more u q n r is =
       let v = r.verdict in
       let there = head_there (cut answer) n v u q (steady.within u n v is.judged) in
-      rw (cut_steps answer steady (u ++ q), steady.keeps u q n v is.judged, there, is.head, is.body)
+      rw (cut_steps answer steady (u ++ q), steady.unchanged u q n v is.judged, there, is.head, is.body)
 
   empty_answer : (a : Answer) → answer [] ≡ a → a ≡ More
   empty_answer More e = refl
@@ -196,5 +196,5 @@ module _ (answer : Reader) (steady : IsSteady answer) where
     | inr within ↦
         let own = rw (take-append-le n h q within) at (steady.own (h ++ q) n v e) in
         absurd (no_answer h n v only
-        (rw (take-append-drop n h) at (steady.keeps (take n h) (drop n h) n v own)))
+        (rw (take-append-drop n h) at (steady.unchanged (take n h) (drop n h) n v own)))
   ]

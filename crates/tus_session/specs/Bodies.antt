@@ -30,14 +30,14 @@ abbrev pub link_after : {B : Type 0} → HeadBuffer → ℕ → Bool → Option 
 link_after head left closes = if closes then None else Some (record { head = head; awaiting = dropping left })
 
 -- The patch goes on: nothing but its draft and the missing bytes changed.
-pub record GoesOn {U B : Type 0} (u : Ghosts U B) (sure : Bool) (store : U) (link : Option (Link B)) (a : Answer)
+pub record PatchGoesOn {U B : Type 0} (u : Ghosts U B) (sure : Bool) (store : U) (link : Option (Link B)) (a : Answer)
     (head : HeadBuffer) (b b' : OpenPatch B) (left taken : ℕ) (w : World) (p : Patch) : Type 0 where
   pub link_is : link ≡ Some (record { head = head; awaiting = awaits.Patch b' left })
   pub answer_is : a ≡ took taken false
   pub number : u.number_of b'.draft ≡ u.number_of b.draft
   pub holds : u.holds b'.draft p
   pub found : find (u.number_of b.draft) w.patches ≡ Some p
-  pub shown : u.stands store sure w
+  pub shown : u.represents store sure w
   pub reached : b'.reached ≡ b.reached
   pub bare : b'.bare ≡ b.bare
   pub closes : b'.closes ≡ b.closes
@@ -46,19 +46,19 @@ pub record GoesOn {U B : Type 0} (u : Ghosts U B) (sure : Bool) (store : U) (lin
 abbrev pub GoesOnSome : {U B : Type 0} → Ghosts U B → Bool → U → Option (Link B) → Answer → HeadBuffer → OpenPatch B → ℕ
     → ℕ → World → Patch → Type 0
 GoesOnSome {U} {B} u sure store link a head b left taken w p =
-    (b' : OpenPatch B) × GoesOn u sure store link a head b b' left taken w p
+    (b' : OpenPatch B) × PatchGoesOn u sure store link a head b b' left taken w p
 
 -- The result of bytes that leave the body unfinished. Out of memory, the patch is gone.
 abbrev pub Parts : {U B : Type 0} → Ghosts U B → Bool → U → Result (Option (Link B) × Answer) Stop → HeadBuffer
     → OpenPatch B → ℕ → ℕ → World → Patch → World → Type 0
 Parts u sure store (Ok (link, a)) head b left taken w p gone = GoesOnSome u sure store link a head b left taken w p
-Parts u sure store (Err NoMemory) head b left taken w p gone = u.stands store sure gone
+Parts u sure store (Err NoMemory) head b left taken w p gone = u.represents store sure gone
 Parts u sure store (Err DiskFault) head b left taken w p gone = Unit {0}
 
 -- The answer was appended, and nothing is open.
 pub record Answered {U B : Type 0} (u : Ghosts U B) (sure : Bool) (store : U) (link : Option (Link B)) (a : Answer)
     (old new : List ℕ) (head : HeadBuffer) (taken : ℕ) (m : Acted) : Type 0 where
-  pub shown : u.stands store sure m.world
+  pub shown : u.represents store sure m.world
   pub link_is : link ≡ link_after head 0 m.closes
   pub answer_is : a ≡ took taken m.closes
   pub bytes : new ≡ old ++ m.bytes
@@ -67,7 +67,7 @@ pub record Answered {U B : Type 0} (u : Ghosts U B) (sure : Bool) (store : U) (l
 abbrev pub Replies : {U B : Type 0} → Ghosts U B → Bool → U → Result (Option (Link B) × Answer) Stop → List ℕ → List ℕ
     → HeadBuffer → ℕ → Acted → World → Type 0
 Replies u sure store (Ok (link, a)) old new head taken m gone = Answered u sure store link a old new head taken m
-Replies u sure store (Err NoMemory) old new head taken m gone = u.stands store sure gone × (new ≡ old)
+Replies u sure store (Err NoMemory) old new head taken m gone = u.represents store sure gone × (new ≡ old)
 Replies u sure store (Err DiskFault) old new head taken m gone = new ≡ old
 
 -- The last piece of the body is fed, and the patch committed.

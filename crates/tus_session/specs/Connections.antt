@@ -18,25 +18,25 @@ mark_of (Err (Stop DiskFault)) = Failed
 mark_of (Err f) = Served
 
 -- The outcome that a result represents.
-abbrev pub told : List ℕ → Result Answer SessionError → Outcome
-told bytes (Ok a) = Gave bytes a.taken a.closes a.more
-told bytes (Err f) = Refused f
+abbrev pub outcome_of : List ℕ → Result Answer SessionError → Outcome
+outcome_of bytes (Ok a) = Gave bytes a.taken a.closes a.more
+outcome_of bytes (Err f) = Refused f
 
 -- The outcome of a call that gives no bytes.
-abbrev pub told_done : Result (Unit {0}) SessionError → Outcome
-told_done (Ok x) = Done
-told_done (Err f) = Refused f
+abbrev pub outcome_of_done : Result (Unit {0}) SessionError → Outcome
+outcome_of_done (Ok x) = Done
+outcome_of_done (Err f) = Refused f
 
 -- After a disk fault nothing is claimed of the connections.
 abbrev pub UnlessFailed : {T : Type 0} → Result T SessionError → Type 0 → Type 0
-UnlessFailed (Err (Stop DiskFault)) stands = Unit {0}
-UnlessFailed result stands = stands
+UnlessFailed (Err (Stop DiskFault)) represents = Unit {0}
+UnlessFailed result represents = represents
 
 -- The history has this outcome, and the connections stand for its next state.
-pub record Keeps {T : Type 0} (stands : State → Type 0) (result : Result T SessionError) (outcome : Outcome)
+pub record FollowsStep {T : Type 0} (represents : State → Type 0) (result : Result T SessionError) (outcome : Outcome)
     (now : Step) : Type 0 where
   pub answer : now.outcome ≡ outcome
-  pub keeps : UnlessFailed result (stands now.state)
+  pub now_represents : UnlessFailed result (represents now.state)
 
 -- What a call appends to the output: its bytes, which end in those of a text. A refusal appends nothing.
 abbrev pub Adds : Bool → Result Answer SessionError → List ℕ → List ℕ → List ℕ → List ℕ → Type 0
@@ -49,14 +49,14 @@ AddsAll (Ok a) bytes old new = new ≡ old ++ bytes
 AddsAll (Err f) bytes old new = new ≡ old
 
 -- The result of a call that gives bytes.
-abbrev pub Gives : Bool → (State → Type 0) → Result Answer SessionError → List ℕ → List ℕ → State → Event → Type 0
-Gives sure stands result old new st e =
-    (bytes : List ℕ) × Keeps stands result (told bytes result) (step st e (mark_of result))
+abbrev pub GivesFor : Bool → (State → Type 0) → Result Answer SessionError → List ℕ → List ℕ → State → Event → Type 0
+GivesFor sure represents result old new st e =
+    (bytes : List ℕ) × FollowsStep represents result (outcome_of bytes result) (step st e (mark_of result))
     × Adds sure result bytes (step st e (mark_of result)).text old new
 
 -- The result of a call that gives none.
 abbrev pub Does : (State → Type 0) → Result (Unit {0}) SessionError → State → Event → Type 0
-Does stands result st e = Keeps stands result (told_done result) (step st e (mark_of result))
+Does represents result st e = FollowsStep represents result (outcome_of_done result) (step st e (mark_of result))
 
 -- `Down` is answered exactly if the connections were down. They are down afterwards exactly if they were before, or if
 -- this call met a disk fault.

@@ -13,7 +13,7 @@ pub record InsideHead (w : World) (conn : Conn) (h : List ℕ) : Type 0 where
   pub pending : conn.pending ≡ None
 
 -- These bytes complete the head: it has n bytes and this verdict. The first `before` of the bytes belong to it.
-pub record IsWhole (w : World) (conn : Conn) (h bytes : List ℕ) (n before : ℕ) (v : Verdict) : Type 0 where
+pub record CompletesHead (w : World) (conn : Conn) (h bytes : List ℕ) (n before : ℕ) (v : Verdict) : Type 0 where
   pub inside : InsideHead w conn h
   pub judged : reader w (h ++ bytes) ≡ Judged n v
   pub before_is : before ≡ n - length h

@@ -51,8 +51,8 @@ abbrev pub put : State → World → ℕ → Option Conn → State
 put st w c conn = record { world = w; conns = with_conn st.conns c conn }
 
 -- A refusal that changes nothing.
-abbrev pub kept : State → SessionError → Step
-kept st f = record { state = st; outcome = Refused f; text = [] }
+abbrev pub refused_same : State → SessionError → Step
+refused_same st f = record { state = st; outcome = Refused f; text = [] }
 
 -- Whether a text is pending.
 abbrev pub has_text : Option Conn → Bool
@@ -75,26 +75,26 @@ turned st c t = record {
 -- Opens connection c if its number is below the most.
 abbrev pub opened_if : State → ℕ → Bool → Step
 opened_if st c true = record { state = put st st.world c (Some fresh); outcome = Done; text = [] }
-opened_if st c false = kept st TooMany
+opened_if st c false = refused_same st TooMany
 
 -- Opens connection c unless it is open.
 abbrev pub opened_at : State → ℕ → Option Conn → Step
-opened_at st c (Some k) = kept st TooMany
+opened_at st c (Some k) = refused_same st TooMany
 opened_at st c None = opened_if st c (nat_lt c MOST_OPEN)
 
 -- Bytes came on connection c.
 abbrev pub came_at : State → ℕ → List ℕ → Option Conn → Step
-came_at st c piece None = kept st Closed
+came_at st c piece None = refused_same st Closed
 came_at st c piece (Some k) = turned st c (came_turn st.world k piece)
 
 -- The next piece of a text is asked for on connection c.
 abbrev pub more_at : State → ℕ → Option Conn → Step
-more_at st c None = kept st Closed
+more_at st c None = refused_same st Closed
 more_at st c (Some k) = turned st c (more_turn st.world k)
 
 -- Connection c ended.
 abbrev pub ended_at : State → ℕ → Option Conn → Step
-ended_at st c None = kept st Closed
+ended_at st c None = refused_same st Closed
 ended_at st c (Some k) = record { state = put st (ended_world st.world k) c None; outcome = Done; text = [] }
 
 -- The step of an event that is served.
@@ -106,7 +106,7 @@ served st (Ended c) = ended_at st c (st.conns c)
 
 -- Out of memory, the connection closes and its draft is dropped. `Closed` goes before.
 abbrev pub lost_at : State → ℕ → Option Conn → Step
-lost_at st c None = kept st Closed
+lost_at st c None = refused_same st Closed
 lost_at st c (Some k) = record {
   state = put st (left_world st.world k.draft) c None;
   outcome = Refused (Stop NoMemory);
@@ -115,8 +115,8 @@ lost_at st c (Some k) = record {
 
 -- A disk fault changes nothing here. `Closed` goes before.
 abbrev pub failed_at : State → ℕ → Option Conn → Step
-failed_at st c None = kept st Closed
-failed_at st c (Some k) = kept st (Stop DiskFault)
+failed_at st c None = refused_same st Closed
+failed_at st c (Some k) = refused_same st (Stop DiskFault)
 
 -- The step of an event that is out of memory: no upload changes, the event's connection closes, the others stay.
 -- Opening needs no memory.

@@ -25,8 +25,8 @@ abbrev pub Reader : Type 0
 Reader = List ℕ → Answer
 
 -- The cut with another request before it.
-abbrev pub onto : Asked → Cut → Cut
-onto r c = record { whole = r ∷ c.whole; rest = c.rest }
+abbrev pub onto_cut : Asked → Cut → Cut
+onto_cut r c = record { whole = r ∷ c.whole; rest = c.rest }
 
 -- After a head the stream has part of its body, or all of it and further requests.
 abbrev pub after_head : (List ℕ → Cut) → List ℕ → Verdict → List ℕ → Bool → Cut
@@ -35,7 +35,7 @@ after_head go head v rest true = record {
   rest = InBody (record { head = head; verdict = v; body = rest });
 }
 after_head go head v rest false =
-    onto (record { head = head; verdict = v; body = take (body_length v) rest }) (go (drop (body_length v) rest))
+    onto_cut (record { head = head; verdict = v; body = take (body_length v) rest }) (go (drop (body_length v) rest))
 
 -- The cut of a stream whose start has this answer.
 abbrev pub by_answer : (List ℕ → Cut) → List ℕ → Answer → Cut
@@ -57,13 +57,13 @@ rest_bytes (InHead s) = s
 rest_bytes (InBody r) = r.head ++ r.body
 
 -- The length of a request in bytes.
-abbrev pub size : Asked → ℕ
-size r = length r.head + length r.body
+abbrev pub request_size : Asked → ℕ
+request_size r = length r.head + length r.body
 
 -- The length of these requests in bytes.
-abbrev pub span : List Asked → ℕ
-span [] = 0
-span (r ∷ rs) = size r + span rs
+abbrev pub request_sizes : List Asked → ℕ
+request_sizes [] = 0
+request_sizes (r ∷ rs) = request_size r + request_sizes rs
 
 -- The unfinished request if its head is finished.
 abbrev pub headed : Rest → List Asked
@@ -119,7 +119,7 @@ moments answer s more = moments_of (cut answer s) (cut answer (s ++ more))
 -- How many bytes a call takes: up to the end of the current request, or all of them if it doesn't end there.
 abbrev pub taken_to : List ℕ → List ℕ → Cut → ℕ → Option Asked → ℕ
 taken_to s piece after k None = length piece
-taken_to s piece after k (Some r) = span (take k after.whole) + size r - length s
+taken_to s piece after k (Some r) = request_sizes (take k after.whole) + request_size r - length s
 
 -- The same between two cuts.
 abbrev pub taken_of : List ℕ → List ℕ → Cut → Cut → ℕ

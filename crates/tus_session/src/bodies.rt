@@ -52,14 +52,14 @@ fn go_on<U: Uploads>(
 ) -> Result<(Option<Link<U::Draft>>, Answer), Stop>
     requires few { length bytes.now < left }
     requires fits { before + length bytes.now < 2 ^ 64 }
-    ensures answer { (sure : Bool) (w : World) (p : Patch) → U.stands store.old sure w
+    ensures answer { (sure : Bool) (w : World) (p : Patch) → U.represents store.old sure w
         → find (U.number_of patch.draft) w.patches ≡ Some p
         → U.holds patch.draft p
         → length p.body + length bytes.now ≤ p.count
         → Parts U.Uploads sure store.new result head patch (left - length bytes.now) (before + length bytes.now)
         (fed w (U.number_of patch.draft) bytes.now) (fed_patch w (U.number_of patch.draft) p bytes.now)
         (dropped w (U.number_of patch.draft)) }
-    ensures crash { (w : World) (p : Patch) → U.stands store.old true w
+    ensures crash { (w : World) (p : Patch) → U.represents store.old true w
         → find (U.number_of patch.draft) w.patches ≡ Some p
         → U.holds patch.draft p
         → Limits (U.moment store.old) (U.moment store.new) (U.left_only store.old)
@@ -86,18 +86,18 @@ fn last_of<U: Uploads>(
     out: &mut Vec<u8>,
 ) -> Result<(Option<Link<U::Draft>>, Answer), Stop>
     requires { before + length bytes.now < 2 ^ 64 }
-    ensures answer { (sure : Bool) (w : World) (p : Patch) (r : Request) → U.stands store.old sure w
+    ensures answer { (sure : Bool) (w : World) (p : Patch) (r : Request) → U.represents store.old sure w
         → find (U.number_of patch.draft) w.patches ≡ Some p → U.holds patch.draft p
         → length p.body + length bytes.now ≡ p.count → patch.reached ≡ accepted_count p.began + p.count
         → patch.bare ≡ r.bare → patch.closes ≡ r.closes
         → Replies U.Uploads sure store.new result out.old.items out.new.items head (before + length bytes.now)
         (ended_by w (U.number_of patch.draft) p bytes.now r) (dropped w (U.number_of patch.draft)) }
-    ensures crash { (w : World) (p : Patch) (r : Request) → U.stands store.old true w
+    ensures crash { (w : World) (p : Patch) (r : Request) → U.represents store.old true w
         → find (U.number_of patch.draft) w.patches ≡ Some p → U.holds patch.draft p
         → length p.body + length bytes.now ≤ p.count
         → Limits (U.moment store.old) (U.moment store.new) (U.left_only store.old) (U.left_only store.new) w.store
         (ended_by w (U.number_of patch.draft) p bytes.now r).world.store }
-    ensures unmade { (w : World) (p : Patch) → U.stands store.old true w
+    ensures unmade { (w : World) (p : Patch) → U.represents store.old true w
         → find (U.number_of patch.draft) w.patches ≡ Some p
         → U.holds patch.draft p
         → length p.body + length bytes.now ≤ p.count → IsErrOf result Stop.NoMemory
@@ -129,30 +129,30 @@ pub(crate) fn body_of<U: Uploads>(
     out: &mut Vec<u8>,
 ) -> Result<(Option<Link<U::Draft>>, Answer), Stop>
     requires { before + length bytes.now < 2 ^ 64 }
-    ensures part { length bytes.now < left → (sure : Bool) (w : World) (p : Patch) → U.stands store.old sure w
+    ensures part { length bytes.now < left → (sure : Bool) (w : World) (p : Patch) → U.represents store.old sure w
         → find (U.number_of patch.draft) w.patches ≡ Some p → U.holds patch.draft p
         → length p.body + length bytes.now ≤ p.count
         → Parts U.Uploads sure store.new result head patch (left - length bytes.now) (before + length bytes.now)
         (fed w (U.number_of patch.draft) bytes.now) (fed_patch w (U.number_of patch.draft) p bytes.now)
         (dropped w (U.number_of patch.draft)) }
     ensures part_out { length bytes.now < left → out.new.items ≡ out.old.items }
-    ensures part_crash { length bytes.now < left → (w : World) (p : Patch) → U.stands store.old true w
+    ensures part_crash { length bytes.now < left → (w : World) (p : Patch) → U.represents store.old true w
         → find (U.number_of patch.draft) w.patches ≡ Some p → U.holds patch.draft p
         → Limits (U.moment store.old) (U.moment store.new) (U.left_only store.old)
         (U.left_only store.new) w.store w.store }
     ensures rest { left ≤ length bytes.now → (sure : Bool) (w : World) (p : Patch) (r : Request)
-        → U.stands store.old sure w
+        → U.represents store.old sure w
         → find (U.number_of patch.draft) w.patches ≡ Some p → U.holds patch.draft p
         → length p.body + left ≡ p.count → patch.reached ≡ accepted_count p.began + p.count → patch.bare ≡ r.bare
         → patch.closes ≡ r.closes
         → Replies U.Uploads sure store.new result out.old.items out.new.items head (before + left)
         (ended_by w (U.number_of patch.draft) p (take left bytes.now) r) (dropped w (U.number_of patch.draft)) }
-    ensures rest_crash { left ≤ length bytes.now → (w : World) (p : Patch) (r : Request) → U.stands store.old true w
+    ensures rest_crash { left ≤ length bytes.now → (w : World) (p : Patch) (r : Request) → U.represents store.old true w
         → find (U.number_of patch.draft) w.patches ≡ Some p → U.holds patch.draft p
         → length p.body + left ≤ p.count
         → Limits (U.moment store.old) (U.moment store.new) (U.left_only store.old) (U.left_only store.new) w.store
         (ended_by w (U.number_of patch.draft) p (take left bytes.now) r).world.store }
-    ensures unmade { (w : World) (p : Patch) → U.stands store.old true w
+    ensures unmade { (w : World) (p : Patch) → U.represents store.old true w
         → find (U.number_of patch.draft) w.patches ≡ Some p
         → U.holds patch.draft p
         → length p.body + left ≤ p.count → IsErrOf result Stop.NoMemory

@@ -5,7 +5,7 @@ ghost use Rattle.upload_rules.specs.Store.{Store};
 ghost use Rattle.upload_rules.specs.Answers.{Among, Limits, Quiet, Counts};
 ghost use Rattle.tus_session.specs.History.{State, Opened, Came, More, Ended};
 ghost use Rattle.tus_session.specs.Turns.{GivesFew};
-ghost use Rattle.tus_session.specs.Connections.{Gives, Does, Falls, Unasked, mark_of};
+ghost use Rattle.tus_session.specs.Connections.{GivesFor, Does, Falls, Unasked, mark_of};
 ghost use Rattle.tus_session.specs.Images.{shown_by};
 
 use crate::{Answer, SessionError};
@@ -17,7 +17,7 @@ use crate::{Answer, SessionError};
 pub trait Connections {
     /// The connections stand for this state. If that is sure, the disk is honest and holds the texts; otherwise nothing
     /// is claimed of the disk.
-    ghost stands: { Self → Bool → State → Type 0 };
+    ghost represents: { Self → Bool → State → Type 0 };
 
     /// How much the disk was asked so far.
     ghost moment: { Self → ℕ };
@@ -37,8 +37,8 @@ pub trait Connections {
     ///
     /// `TooMany` exactly if the number isn't below `MOST_OPEN` or that connection is open.
     fn opened(&mut self, conn: usize) -> Result<(), SessionError>
-        ensures does { (sure : Bool) (st : State) → stands self.old sure st
-            → Does (stands self.new sure) result st (Opened conn) }
+        ensures does { (sure : Bool) (st : State) → represents self.old sure st
+            → Does (represents self.new sure) result st (Opened conn) }
         ensures crash { Quiet (moment self.old) (moment self.new) (left_only self.old) (left_only self.new) }
         ensures counts { Counts (IsErrOf result (SessionError.Stop Stop.DiskFault)) (failures self.old)
             (failures self.new) }
@@ -53,9 +53,9 @@ pub trait Connections {
     ///
     /// `Closed` exactly if the connection isn't open; otherwise `NoMemory` or `DiskFault`.
     fn came(&mut self, conn: usize, bytes: &[u8], out: &mut Vec<u8>) -> Result<Answer, SessionError>
-        ensures gives { (sure : Bool) (st : State) → stands self.old sure st
-            → Gives sure (stands self.new sure) result out.old.items out.new.items st (Came conn bytes.now) }
-        ensures crash { (st : State) → stands self.old true st
+        ensures gives { (sure : Bool) (st : State) → represents self.old sure st
+            → GivesFor sure (represents self.new sure) result out.old.items out.new.items st (Came conn bytes.now) }
+        ensures crash { (st : State) → represents self.old true st
             → Limits (moment self.old) (moment self.new) (left_only self.old) (left_only self.new) st.world.store
             (shown_by st (Came conn bytes.now) (mark_of result)) }
         ensures counts { Counts (IsErrOf result (SessionError.Stop Stop.DiskFault)) (failures self.old)
@@ -72,8 +72,8 @@ pub trait Connections {
     ///
     /// Those of `came`.
     fn more(&mut self, conn: usize, out: &mut Vec<u8>) -> Result<Answer, SessionError>
-        ensures gives { (sure : Bool) (st : State) → stands self.old sure st
-            → Gives sure (stands self.new sure) result out.old.items out.new.items st (More conn) }
+        ensures gives { (sure : Bool) (st : State) → represents self.old sure st
+            → GivesFor sure (represents self.new sure) result out.old.items out.new.items st (More conn) }
         ensures crash { Quiet (moment self.old) (moment self.new) (left_only self.old) (left_only self.new) }
         ensures counts { Counts (IsErrOf result (SessionError.Stop Stop.DiskFault)) (failures self.old)
             (failures self.new) }
@@ -89,9 +89,9 @@ pub trait Connections {
     ///
     /// Those of `came`.
     fn ended(&mut self, conn: usize) -> Result<(), SessionError>
-        ensures does { (sure : Bool) (st : State) → stands self.old sure st
-            → Does (stands self.new sure) result st (Ended conn) }
-        ensures crash { (st : State) → stands self.old true st
+        ensures does { (sure : Bool) (st : State) → represents self.old sure st
+            → Does (represents self.new sure) result st (Ended conn) }
+        ensures crash { (st : State) → represents self.old true st
             → Limits (moment self.old) (moment self.new) (left_only self.old) (left_only self.new) st.world.store
             (shown_by st (Ended conn) (mark_of result)) }
         ensures counts { Counts (IsErrOf result (SessionError.Stop Stop.DiskFault)) (failures self.old)
@@ -101,9 +101,9 @@ pub trait Connections {
             (left_only self.new) (failures self.old) (failures self.new) };
 
     /// If the connections are known to stand for a state, each crash image from now on shows its uploads.
-    ghost durable: { (core : Self) (st : State) (ms : List Store) → stands core true st → Among st.world.store ms
+    ghost durable: { (core : Self) (st : State) (ms : List Store) → represents core true st → Among st.world.store ms
         → left_only core st.world.blocks (moment core) ms };
 
     /// Connections that stand for a state aren't down.
-    ghost up: { (core : Self) (sure : Bool) (st : State) → stands core sure st → down core ≡ false };
+    ghost up: { (core : Self) (sure : Bool) (st : State) → represents core sure st → down core ≡ false };
 }

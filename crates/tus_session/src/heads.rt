@@ -5,13 +5,13 @@ ghost use Rattle.tus_request.specs.Requests.{Asks};
 ghost use Rattle.upload_rules.specs.World.{World};
 ghost use Rattle.upload_rules.specs.Answers.{Counts, Limits};
 ghost use Rattle.tus_request.specs.Shown.{request_shown};
-ghost use Rattle.tus_request.specs.Buffers.{bytes_of};
+ghost use Rattle.tus_request.specs.Buffers.{head_bytes};
 ghost use Rattle.tus_action.specs.Serves.{CanBeMade, CanBeRead};
 ghost use Rattle.tus_session.specs.Turns.{Conn, came_turn};
 ghost use Rattle.tus_session.specs.Bodies.{BackTo};
-ghost use Rattle.tus_session.specs.Stands.{LinkIs};
+ghost use Rattle.tus_session.specs.Represents.{LinkIs};
 ghost use Rattle.tus_session.specs.Turned.{Turned};
-ghost use Rattle.tus_session.specs.Heads.{InsideHead, IsWhole, IsSmall, ReachedIs};
+ghost use Rattle.tus_session.specs.Heads.{InsideHead, CompletesHead, IsSmall, ReachedIs};
 ghost use Rattle.tus_session.specs.Turns.{GivesFew};
 
 use crate::Answer;
@@ -49,21 +49,21 @@ fn request_of<U: Uploads>(
     out: &mut Vec<u8>,
 ) -> Result<(Option<Link<U::Draft>>, Answer), Stop>
     requires makeable { CanBeMade (request_shown request).action }
-    requires usable { (sure : Bool) (w : World) → U.stands store.old sure w
+    requires usable { (sure : Bool) (w : World) → U.represents store.old sure w
         → CanBeRead w (request_shown request).action }
     requires small { IsSmall (request_shown request) }
     requires within { before ≤ length bytes.now }
-    requires cleared { (bytes_of head) ≡ [] }
-    ensures answer { (sure : Bool) (w : World) (conn : Conn) (h : List ℕ) (n : ℕ) → U.stands store.old sure w
-        → IsWhole w conn h bytes.now n before (Asks (request_shown request))
+    requires cleared { (head_bytes head) ≡ [] }
+    ensures answer { (sure : Bool) (w : World) (conn : Conn) (h : List ℕ) (n : ℕ) → U.represents store.old sure w
+        → CompletesHead w conn h bytes.now n before (Asks (request_shown request))
         → Turned U.Uploads sure store.new result out.old.items out.new.items w conn.draft
         (came_turn w conn bytes.now) }
-    ensures crash { (w : World) (conn : Conn) (h : List ℕ) (n : ℕ) → U.stands store.old true w
-        → IsWhole w conn h bytes.now n before (Asks (request_shown request))
+    ensures crash { (w : World) (conn : Conn) (h : List ℕ) (n : ℕ) → U.represents store.old true w
+        → CompletesHead w conn h bytes.now n before (Asks (request_shown request))
         → Limits (U.moment store.old) (U.moment store.new) (U.left_only store.old) (U.left_only store.new) w.store
         (came_turn w conn bytes.now).world.store }
-    ensures unmade { (w : World) (conn : Conn) (h : List ℕ) (n : ℕ) → U.stands store.old true w
-        → IsWhole w conn h bytes.now n before (Asks (request_shown request)) → IsErrOf result Stop.NoMemory
+    ensures unmade { (w : World) (conn : Conn) (h : List ℕ) (n : ℕ) → U.represents store.old true w
+        → CompletesHead w conn h bytes.now n before (Asks (request_shown request)) → IsErrOf result Stop.NoMemory
         → Limits (U.moment store.old) (U.moment store.new) (U.left_only store.old)
         (U.left_only store.new) w.store w.store }
     ensures counts { Counts (IsErrOf result Stop.DiskFault) (U.failures store.old) (U.failures store.new) }
@@ -120,14 +120,14 @@ fn head_of<U: Uploads>(
     buffer: &mut PieceBuffer,
     out: &mut Vec<u8>,
 ) -> Result<(Option<Link<U::Draft>>, Answer), Stop>
-    ensures answer { (sure : Bool) (w : World) (conn : Conn) → U.stands store.old sure w
-        → InsideHead w conn (bytes_of head)
+    ensures answer { (sure : Bool) (w : World) (conn : Conn) → U.represents store.old sure w
+        → InsideHead w conn (head_bytes head)
         → Turned U.Uploads sure store.new result out.old.items out.new.items w conn.draft
         (came_turn w conn bytes.now) }
-    ensures crash { (w : World) (conn : Conn) → U.stands store.old true w → InsideHead w conn (bytes_of head)
+    ensures crash { (w : World) (conn : Conn) → U.represents store.old true w → InsideHead w conn (head_bytes head)
         → Limits (U.moment store.old) (U.moment store.new) (U.left_only store.old) (U.left_only store.new) w.store
         (came_turn w conn bytes.now).world.store }
-    ensures unmade { (w : World) (conn : Conn) → U.stands store.old true w → InsideHead w conn (bytes_of head)
+    ensures unmade { (w : World) (conn : Conn) → U.represents store.old true w → InsideHead w conn (head_bytes head)
         → IsErrOf result Stop.NoMemory
         → Limits (U.moment store.old) (U.moment store.new) (U.left_only store.old)
         (U.left_only store.new) w.store w.store }
@@ -172,16 +172,16 @@ pub(crate) fn came_of<U: Uploads>(
     buffer: &mut PieceBuffer,
     out: &mut Vec<u8>,
 ) -> Result<(Option<Link<U::Draft>>, Answer), Stop>
-    ensures answer { (sure : Bool) (w : World) (conn : Conn) → U.stands store.old sure w
-        → LinkIs U.Uploads w (bytes_of link.head) link.awaiting conn
+    ensures answer { (sure : Bool) (w : World) (conn : Conn) → U.represents store.old sure w
+        → LinkIs U.Uploads w (head_bytes link.head) link.awaiting conn
         → Turned U.Uploads sure store.new result out.old.items out.new.items w conn.draft
         (came_turn w conn bytes.now) }
-    ensures crash { (w : World) (conn : Conn) → U.stands store.old true w
-        → LinkIs U.Uploads w (bytes_of link.head) link.awaiting conn
+    ensures crash { (w : World) (conn : Conn) → U.represents store.old true w
+        → LinkIs U.Uploads w (head_bytes link.head) link.awaiting conn
         → Limits (U.moment store.old) (U.moment store.new) (U.left_only store.old) (U.left_only store.new) w.store
         (came_turn w conn bytes.now).world.store }
-    ensures unmade { (w : World) (conn : Conn) → U.stands store.old true w
-        → LinkIs U.Uploads w (bytes_of link.head) link.awaiting conn → IsErrOf result Stop.NoMemory
+    ensures unmade { (w : World) (conn : Conn) → U.represents store.old true w
+        → LinkIs U.Uploads w (head_bytes link.head) link.awaiting conn → IsErrOf result Stop.NoMemory
         → Limits (U.moment store.old) (U.moment store.new) (U.left_only store.old)
         (U.left_only store.new) w.store w.store }
     ensures counts { Counts (IsErrOf result Stop.DiskFault) (U.failures store.old) (U.failures store.new) }

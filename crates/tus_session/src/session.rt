@@ -2,9 +2,9 @@
 ghost use Rattle.std.specs.Prelude.{◌≡◌, ◌<◌, ℕ, length, Option, None, IfOk, IfErr, OnOk, OnErr, IsErrOf, Bool, true};
 ghost use Rattle.common.specs.declared.stop.Stop.{Stop};
 ghost use Rattle.tus_session.specs.History.{State, Opened, Came, More, Ended, Served, step, beginning};
-ghost use Rattle.tus_session.specs.Places.{places_of, IsPut, IsOpen};
-ghost use Rattle.tus_session.specs.Stands.{SessionStands};
-ghost use Rattle.tus_session.specs.Told.{Opens, Told, Ends};
+ghost use Rattle.tus_session.specs.Places.{links_of, IsLinkPut, IsOpen};
+ghost use Rattle.tus_session.specs.Represents.{SessionRepresents};
+ghost use Rattle.tus_session.specs.Results.{Opens, RepliesAs, EndsEvent};
 ghost use Rattle.upload_rules.specs.Store.{Store};
 ghost use Rattle.upload_rules.specs.World.{at_rest};
 ghost use Rattle.upload_rules.specs.Answers.{Limits, Quiet, Counts};
@@ -51,8 +51,8 @@ impl<U: Uploads> Session<U> {
     ///
     /// `AllocError`.
     pub fn new(alloc: Global) -> Result<Self, AllocError>
-        ensures { (sure : Bool) (store : U) (m : Store) (blocks : Option ℕ) → U.stands store sure (at_rest m blocks)
-            → IfOk result (λ s. SessionStands U.Uploads sure (places_of s) store (beginning m blocks)) }
+        ensures { (sure : Bool) (store : U) (m : Store) (blocks : Option ℕ) → U.represents store sure (at_rest m blocks)
+            → IfOk result (λ s. SessionRepresents U.Uploads sure (links_of s) store (beginning m blocks)) }
     {
         let routes = Routes::new(alloc)?;
         let buffer = Box::new(alloc, [0; PIECE])?;
@@ -78,8 +78,8 @@ impl<U: Uploads> Session<U> {
     /// `TooMany`.
     pub fn opened(&mut self, conn: usize) -> Result<(), SessionError>
         ensures answer { (sure : Bool) (store : U) (st : State)
-            → SessionStands U.Uploads sure (places_of self.old) store st
-            → Opens U.Uploads sure (places_of self.new) store result st (Opened conn) }
+            → SessionRepresents U.Uploads sure (links_of self.old) store st
+            → Opens U.Uploads sure (links_of self.new) store result st (Opened conn) }
         ensures no_disk_fault { IsErrOf result (SessionError.Stop Stop.DiskFault) → ⊥ }
         ensures no_down { IsErrOf result SessionError.Down → ⊥ }
     {
@@ -111,14 +111,14 @@ impl<U: Uploads> Session<U> {
         bytes: &[u8],
         out: &mut Vec<u8>,
     ) -> Result<Answer, SessionError>
-        ensures answer { (sure : Bool) (st : State) → SessionStands U.Uploads sure (places_of self.old) store.old st
-            → Told U.Uploads sure (places_of self.new) store.new result out.old.items out.new.items st
+        ensures answer { (sure : Bool) (st : State) → SessionRepresents U.Uploads sure (links_of self.old) store.old st
+            → RepliesAs U.Uploads sure (links_of self.new) store.new result out.old.items out.new.items st
             (Came conn bytes.now) }
-        ensures crash { (st : State) → SessionStands U.Uploads true (places_of self.old) store.old st
+        ensures crash { (st : State) → SessionRepresents U.Uploads true (links_of self.old) store.old st
             → Limits (U.moment store.old) (U.moment store.new) (U.left_only store.old)
             (U.left_only store.new) st.world.store
             (step st (Came conn bytes.now) Served).state.world.store }
-        ensures unmade { (st : State) → SessionStands U.Uploads true (places_of self.old) store.old st
+        ensures unmade { (st : State) → SessionRepresents U.Uploads true (links_of self.old) store.old st
             → IsErrOf result (SessionError.Stop Stop.NoMemory)
             → Limits (U.moment store.old) (U.moment store.new) (U.left_only store.old)
             (U.left_only store.new) st.world.store st.world.store }
@@ -153,8 +153,8 @@ impl<U: Uploads> Session<U> {
         conn: usize,
         out: &mut Vec<u8>,
     ) -> Result<Answer, SessionError>
-        ensures answer { (sure : Bool) (st : State) → SessionStands U.Uploads sure (places_of self.old) store.old st
-            → Told U.Uploads sure (places_of self.new) store.new result out.old.items out.new.items st (More conn) }
+        ensures answer { (sure : Bool) (st : State) → SessionRepresents U.Uploads sure (links_of self.old) store.old st
+            → RepliesAs U.Uploads sure (links_of self.new) store.new result out.old.items out.new.items st (More conn) }
         ensures crash { Quiet (U.moment store.old) (U.moment store.new) (U.left_only store.old)
             (U.left_only store.new) }
         ensures counts { Counts (IsErrOf result (SessionError.Stop Stop.DiskFault)) (U.failures store.old)
@@ -175,13 +175,13 @@ impl<U: Uploads> Session<U> {
     ///
     /// `Closed` if the connection isn't open; `NoMemory`; `DiskFault`.
     pub fn ended(&mut self, store: &mut U, conn: usize) -> Result<(), SessionError>
-        ensures answer { (sure : Bool) (st : State) → SessionStands U.Uploads sure (places_of self.old) store.old st
-            → Ends U.Uploads sure (places_of self.new) store.new result st (Ended conn) }
-        ensures crash { (st : State) → SessionStands U.Uploads true (places_of self.old) store.old st
+        ensures answer { (sure : Bool) (st : State) → SessionRepresents U.Uploads sure (links_of self.old) store.old st
+            → EndsEvent U.Uploads sure (links_of self.new) store.new result st (Ended conn) }
+        ensures crash { (st : State) → SessionRepresents U.Uploads true (links_of self.old) store.old st
             → Limits (U.moment store.old) (U.moment store.new) (U.left_only store.old)
             (U.left_only store.new) st.world.store
             (step st (Ended conn) Served).state.world.store }
-        ensures unmade { (st : State) → SessionStands U.Uploads true (places_of self.old) store.old st
+        ensures unmade { (st : State) → SessionRepresents U.Uploads true (links_of self.old) store.old st
             → IsErrOf result (SessionError.Stop Stop.NoMemory)
             → Limits (U.moment store.old) (U.moment store.new) (U.left_only store.old)
             (U.left_only store.new) st.world.store st.world.store }
@@ -197,13 +197,13 @@ impl<U: Uploads> Session<U> {
     // Takes the connection out and leaves its place closed.
     fn take(&mut self, conn: usize) -> Result<Link<U::Draft>, SessionError>
         ensures open { (sure : Bool) (store : U) (st : State)
-            → SessionStands U.Uploads sure (places_of self.old) store st
+            → SessionRepresents U.Uploads sure (links_of self.old) store st
             → IfOk result (IsOpen U.Uploads st conn) }
-        ensures taken { OnOk result (IsPut (places_of self.old) (places_of self.new) conn None) }
-        ensures within { OnOk result (conn < length (places_of self.new)) }
+        ensures taken { OnOk result (IsLinkPut (links_of self.old) (links_of self.new) conn None) }
+        ensures within { OnOk result (conn < length (links_of self.new)) }
         ensures closed { (sure : Bool) (store : U) (st : State)
-            → SessionStands U.Uploads sure (places_of self.old) store st
-            → OnErr result ((st.conns conn ≡ None) × SessionStands U.Uploads sure (places_of self.new) store st) }
+            → SessionRepresents U.Uploads sure (links_of self.old) store st
+            → OnErr result ((st.conns conn ≡ None) × SessionRepresents U.Uploads sure (links_of self.new) store st) }
         ensures refusal { IfErr result (λ e. e ≡ SessionError.Closed) }
     {
         if conn >= self.links.len() {
@@ -214,8 +214,8 @@ impl<U: Uploads> Session<U> {
 
     /// Ends the session and drops the open drafts.
     pub fn close(self, store: &mut U)
-        ensures kept { (sure : Bool) (st : State) → SessionStands U.Uploads sure (places_of self) store.old st
-            → U.stands store.new sure (at_rest st.world.store st.world.blocks) }
+        ensures represents { (sure : Bool) (st : State) → SessionRepresents U.Uploads sure (links_of self) store.old st
+            → U.represents store.new sure (at_rest st.world.store st.world.blocks) }
         ensures crash { Quiet (U.moment store.old) (U.moment store.new) (U.left_only store.old)
             (U.left_only store.new) }
         ensures counts { U.failures store.new ≡ U.failures store.old }

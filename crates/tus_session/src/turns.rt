@@ -2,9 +2,9 @@
 ghost use Rattle.std.specs.Prelude.{◌≡◌, false, IsErrOf, Ok, Bool, true};
 ghost use Rattle.upload_rules.specs.World.{World};
 ghost use Rattle.upload_rules.specs.Answers.{Counts, Limits, Quiet};
-ghost use Rattle.tus_request.specs.Buffers.{bytes_of};
+ghost use Rattle.tus_request.specs.Buffers.{head_bytes};
 ghost use Rattle.tus_session.specs.Turns.{Conn, more_turn, ended_world};
-ghost use Rattle.tus_session.specs.Stands.{LinkIs, dropped_by};
+ghost use Rattle.tus_session.specs.Represents.{LinkIs, dropped_by};
 ghost use Rattle.tus_session.specs.Turned.{Turned, Ended};
 ghost use Rattle.tus_session.specs.Turns.{GivesFew};
 
@@ -33,8 +33,8 @@ pub(crate) fn more_of<U: Uploads>(
     buffer: &mut PieceBuffer,
     out: &mut Vec<u8>,
 ) -> Result<(Option<Link<U::Draft>>, Answer), Stop>
-    ensures answer { (sure : Bool) (w : World) (conn : Conn) → U.stands store.old sure w
-        → LinkIs U.Uploads w (bytes_of link.head) link.awaiting conn
+    ensures answer { (sure : Bool) (w : World) (conn : Conn) → U.represents store.old sure w
+        → LinkIs U.Uploads w (head_bytes link.head) link.awaiting conn
         → Turned U.Uploads sure store.new result out.old.items out.new.items w conn.draft (more_turn w conn) }
     ensures crash { Quiet (U.moment store.old) (U.moment store.new) (U.left_only store.old) (U.left_only store.new) }
     ensures counts { Counts (IsErrOf result Stop.DiskFault) (U.failures store.old) (U.failures store.new) }
@@ -72,15 +72,15 @@ fn gave(closes: bool) -> Answer
 
 // Ends a connection: commits what its draft has.
 pub(crate) fn end_of<U: Uploads>(store: &mut U, link: Link<U::Draft>) -> Result<(), Stop>
-    ensures answer { (sure : Bool) (w : World) (conn : Conn) → U.stands store.old sure w
-        → LinkIs U.Uploads w (bytes_of link.head) link.awaiting conn
+    ensures answer { (sure : Bool) (w : World) (conn : Conn) → U.represents store.old sure w
+        → LinkIs U.Uploads w (head_bytes link.head) link.awaiting conn
         → Ended U.Uploads sure store.new result w conn.draft (ended_world w conn) }
-    ensures crash { (w : World) (conn : Conn) → U.stands store.old true w
-        → LinkIs U.Uploads w (bytes_of link.head) link.awaiting conn
+    ensures crash { (w : World) (conn : Conn) → U.represents store.old true w
+        → LinkIs U.Uploads w (head_bytes link.head) link.awaiting conn
         → Limits (U.moment store.old) (U.moment store.new) (U.left_only store.old) (U.left_only store.new) w.store
         (ended_world w conn).store }
-    ensures unmade { (w : World) (conn : Conn) → U.stands store.old true w
-        → LinkIs U.Uploads w (bytes_of link.head) link.awaiting conn → IsErrOf result Stop.NoMemory
+    ensures unmade { (w : World) (conn : Conn) → U.represents store.old true w
+        → LinkIs U.Uploads w (head_bytes link.head) link.awaiting conn → IsErrOf result Stop.NoMemory
         → Limits (U.moment store.old) (U.moment store.new) (U.left_only store.old)
         (U.left_only store.new) w.store w.store }
     ensures counts { Counts (IsErrOf result Stop.DiskFault) (U.failures store.old) (U.failures store.new) }
@@ -96,8 +96,8 @@ pub(crate) fn end_of<U: Uploads>(store: &mut U, link: Link<U::Draft>) -> Result<
 
 // Drops a connection's draft without a commit.
 pub(crate) fn drop_link<U: Uploads>(store: &mut U, link: Link<U::Draft>)
-    ensures kept { (sure : Bool) (w : World) → U.stands store.old sure w
-        → U.stands store.new sure (dropped_by U.Uploads w link.awaiting) }
+    ensures represents { (sure : Bool) (w : World) → U.represents store.old sure w
+        → U.represents store.new sure (dropped_by U.Uploads w link.awaiting) }
     ensures crash { Quiet (U.moment store.old) (U.moment store.new) (U.left_only store.old) (U.left_only store.new) }
     ensures counts { U.failures store.new ≡ U.failures store.old }
 {

@@ -15,9 +15,9 @@ use Rattle.upload_rules.specs.Lengths.{is_length, known_or}
 use Rattle.upload_rules.specs.Store.{Upload, text_of, text_with, with_length, patched, is_complete, accepted_count}
 use Rattle.upload_rules.specs.World.{Patch, is_there, reached, patch_text}
 use Rattle.upload_rules.specs.States.{transcoder_with, state_with, state_of}
-use Rattle.upload_rules.specs.Texts.{HoldsText, IsWhole, IsEnded}
-use Rattle.upload_rules.specs.Slots.{SlotStands}
-use Rattle.upload_rules.specs.Appends.{AppendStands, IsPut}
+use Rattle.upload_rules.specs.Texts.{HoldsText, IsWholeAppend, IsEnded}
+use Rattle.upload_rules.specs.Slots.{SlotRepresents}
+use Rattle.upload_rules.specs.Appends.{AppendRepresents, IsCommitPut}
 
 patch_text_is : (x : IndexSet) (p : Patch) (done : Bool) → patch_text x p done ≡ text_with x p.began p.body done
 unfolding patch_text
@@ -68,15 +68,15 @@ holds_with_length x u declare bytes Complete holds = still u.declared holds
         → is_length (known_or known declare) (accepted_count u) ≡ true
     still known is = grind arith
 
-module _ (x : IndexSet) (next : ℕ) (p : Patch) (o : OpenAppend) (stands : AppendStands x next p o) where
+module _ (x : IndexSet) (next : ℕ) (p : Patch) (o : OpenAppend) (represents : AppendRepresents x next p o) where
   -- with another text
-  pub with_text : (text : NewText) → HoldsText x p.began p.body text → AppendStands x next p (record o { text = text })
+  pub with_text : (text : NewText) → HoldsText x p.began p.body text → AppendRepresents x next p (record o { text = text })
   with_text text holds = assumption
 
   pub with_piece : (piece : List ℕ) (came : ℕ) (text : NewText) → length p.body + length piece ≤ p.count
       → came ≡ length p.body + length piece
       → HoldsText x p.began (p.body ++ piece) text
-      → AppendStands x next (record p { body = p.body ++ piece }) (record o { came = came; text = text })
+      → AppendRepresents x next (record p { body = p.body ++ piece }) (record o { came = came; text = text })
   with_piece piece came text held is holds =
       let long = length-append p.body piece in
       let came_is : came ≡ length (p.body ++ piece) = omega arith in
@@ -84,53 +84,53 @@ module _ (x : IndexSet) (next : ℕ) (p : Patch) (o : OpenAppend) (stands : Appe
       assumption
 
   pub reaches : reached p < 2 ^ 64
-  reaches = let h = stands.held in let w = stands.within in let f = stands.fits in omega (arith, h, w, f)
+  reaches = let h = represents.held in let w = represents.within in let f = represents.fits in omega (arith, h, w, f)
 
   -- the upload as it was at the head moment, but for a length
-  module _ (length_since : Option ℕ) (s : Slot) (kept : SlotStands x p.number (with_length p.began length_since) s)
+  module _ (length_since : Option ℕ) (s : Slot) (slot_is : SlotRepresents x p.number (with_length p.began length_since) s)
     where
       abbrev u : Upload
       u = with_length p.began length_since
 
       -- why the patch isn't put after
-      pub not_put : (e : UploadError) (done : Bool) → IsEnded x u p.body done (Err e) → IsPut x p u done s (Err e)
-      not_put (Stop NoMemory) done ended = kept
+      pub not_put : (e : UploadError) (done : Bool) → IsEnded x u p.body done (Err e) → IsCommitPut x p u done s (Err e)
+      not_put (Stop NoMemory) done ended = slot_is
       not_put (Stop DiskFault) done ended = absurd ended
       not_put (Refused refusals.Unencodable) done ended =
-          (ap is_there (ap (λ r. r.fault) (patch_text_is x p done)) ∙ ended, kept)
+          (ap is_there (ap (λ r. r.fault) (patch_text_is x p done)) ∙ ended, slot_is)
       not_put (Refused e) done ended = absurd ended
 
       -- the slot with what the patch brings
       pub put_there : (n : ℕ) (declared : Option ℕ) (done : Bool) (state more : List ℕ) (new : Slot)
           → is_complete u ≡ false → n ≡ reached p → declared ≡ known_or u.declared p.declare
           → done ≡ is_complete (patched u p.declare p.body)
-          → IsWhole x u p.body done state more
+          → IsWholeAppend x u p.body done state more
           → new.text.items ≡ s.text.items ++ more → new.record ≡ record s.record {
             declared = declared;
             accepted = n;
             text_len = length new.text.items;
             state = state;
           }
-          → IsPut x p u done new (Ok n)
-      put_there n declared done state more new open_still count length_is is whole text told =
+          → IsCommitPut x p u done new (Ok n)
+      put_there n declared done state more new open_still count length_is is whole text recorded =
           let v = patched u p.declare p.body in
           let all : new.text.items ≡ text_of x v =
-          text ∙ ap (λ z. z ++ more) (kept.text ∙ text_of_is x u ∙ ap (λ b. (text_with x u [] b).bytes) open_still)
+          text ∙ ap (λ z. z ++ more) (slot_is.text ∙ text_of_is x u ∙ ap (λ b. (text_with x u [] b).bytes) open_still)
           ∙ whole.rest ∙ ap (λ b. (text_with x u p.body b).bytes) is ∙ sym (text_patched x u p.declare p.body) in
           let long = length-append u.accepted p.body in (
             count,
             ap (λ r. r.fault) (patch_text_is x p done) ∙ whole.encodable,
             record {
-              tells = rw told (record {
-                number_is = kept.tells.number_is;
+              represents = rw recorded (record {
+                number_is = slot_is.represents.number_is;
                 declared = length_is;
                 accepted = omega (arith, count, long);
                 text_len = ap length all;
-                from = kept.tells.from;
-                to = kept.tells.to;
-                mode = kept.tells.mode;
+                from = slot_is.represents.from;
+                to = slot_is.represents.to;
+                mode = slot_is.represents.mode;
                 state = whole.state_is ∙ ap (state_with x u p.body) is ∙ sym (state_patched x u p.declare p.body);
-                metadata = kept.tells.metadata;
+                metadata = slot_is.represents.metadata;
               });
               text = all;
               encodable = ap (λ r. r.fault) (whole_patched x u p.declare p.body)

@@ -13,11 +13,11 @@ use Rattle.upload_rules.specs.World.{World}
 use Rattle.upload_rules.specs.Calls.{terminated, terminate_refusal}
 use Rattle.upload_rules.specs.Reading.{no_such}
 use Rattle.upload_rules.specs.Grown.{IsGrown}
-use Rattle.upload_rules.specs.Slots.{numbers, IsRising, IsBelow, IsFirstAt, IsNowhere, AllStand}
-use Rattle.upload_rules.specs.Table.{TableStands}
+use Rattle.upload_rules.specs.Slots.{numbers, IsRising, IsBelow, IsFirstAt, IsNowhere, AllRepresent}
+use Rattle.upload_rules.specs.Table.{TableRepresents}
 use Rattle.upload_rules.proofs.Lookups.{no_upload, upload_at}
 use Rattle.std.proofs.lemmas.Bool.Decides.{nat_tests}
-use Rattle.upload_rules.proofs.Kept.{counts}
+use Rattle.upload_rules.proofs.RecordOfUpload.{counts}
 use Rattle.upload_rules.proofs.Places.{count_of}
 
 -- ENTRIES
@@ -63,26 +63,26 @@ module _ (ns : List ℕ) (i : ℕ) (lt : i < length ns) where
 -- THE SLOTS
 
 module _ (x : IndexSet) where
-  none_of : (n : ℕ) (us : List (ℕ × Upload)) (ss : List Slot) → AllStand x us ss → IsNowhere (numbers ss) n
+  none_of : (n : ℕ) (us : List (ℕ × Upload)) (ss : List Slot) → AllRepresent x us ss → IsNowhere (numbers ss) n
       → others n us ≡ us
   none_of n [] ss all other = refl
   none_of n (u ∷ us) [] all other = absurd all
   none_of n (u ∷ us) (t ∷ ss) all other =
       let ih = none_of n us ss all.1 (λ k l e. other (suc k) (omega arith) e) in
-      grind (arith, nat_tests, all.0.tells.number_is, other 0)
+      grind (arith, nat_tests, all.0.represents.number_is, other 0)
 
-  removed : (n : ℕ) (us : List (ℕ × Upload)) (ss : List Slot) (place : ℕ) → AllStand x us ss → place < length ss
-      → slice_index (numbers ss) place ≡ n → IsRising (numbers ss) → AllStand x (others n us) (remove ss place)
+  removed : (n : ℕ) (us : List (ℕ × Upload)) (ss : List Slot) (place : ℕ) → AllRepresent x us ss → place < length ss
+      → slice_index (numbers ss) place ≡ n → IsRising (numbers ss) → AllRepresent x (others n us) (remove ss place)
   removed n [] ss place all lt here rising = absurd (let c = counts x [] ss all in omega arith)
   removed n (u ∷ us) [] place all lt here rising = absurd all
   removed n (u ∷ us) (t ∷ ss) zero all lt here rising =
-      let e : u.0 ≡ n = sym all.0.tells.number_is ∙ here in
+      let e : u.0 ≡ n = sym all.0.represents.number_is ∙ here in
       let greater : IsNowhere (numbers ss) n =
       λ k l same. (let r = rising 0 (suc k) (omega arith) (omega arith) in omega (arith, r, same, here)) in
       rw (eq-eqb u.0 n e, none_of n us ss all.1 greater) all.1
   removed n (u ∷ us) (t ∷ ss) (suc place) all lt here rising =
       let less = rising 0 (suc place) (omega arith) (let c = count_of (t ∷ ss) in omega (arith, c, lt)) in
-      let ne : u.0 ≡ n → ⊥ = λ e. (let f = all.0.tells.number_is in omega (arith, e, f, less, here)) in
+      let ne : u.0 ≡ n → ⊥ = λ e. (let f = all.0.represents.number_is in omega (arith, e, f, less, here)) in
       rw (ne_eqb u.0 n ne) (
         all.0,
         removed n us ss place all.1 (omega arith) here
@@ -99,25 +99,25 @@ grown_deleted w n grown = record {
   ];
 }
 
-module _ (t : Table) (w : World) (stands : TableStands t w) (n : ℕ) where
+module _ (t : Table) (w : World) (represents : TableRepresents t w) (n : ℕ) where
   pub not_there : IsNowhere (numbers t.slots.items) n → terminate_refusal w n ≡ Some refusals.NoSuch
-  not_there other = ap no_such (no_upload t w stands n other)
+  not_there other = ap no_such (no_upload t w represents n other)
 
   pub deletes : (place : ℕ) (slots : Vec Slot Global) → IsFirstAt (numbers t.slots.items) n place
       → slots.items ≡ remove t.slots.items place
-      → TableStands (record t { slots = slots }) (terminated w n)
+      → TableRepresents (record t { slots = slots }) (terminated w n)
   deletes place slots first is =
       let lt : place < length t.slots.items = let l = first.within in omega (arith, l, count_of t.slots.items) in
       let same : numbers slots.items ≡ remove (numbers t.slots.items) place =
       ap numbers is ∙ numbers_removed t.slots.items place in
-      let slots' : AllStand w.store.indexes (others n w.store.uploads) slots.items =
-      rw is (removed w.store.indexes n w.store.uploads t.slots.items place stands.slots lt first.here stands.rising) in
+      let slots' : AllRepresent w.store.indexes (others n w.store.uploads) slots.items =
+      rw is (removed w.store.indexes n w.store.uploads t.slots.items place represents.slots lt first.here represents.rising) in
       let rising : IsRising (numbers slots.items) =
-      rw same (rising_removed (numbers t.slots.items) place first.within stands.rising) in
+      rw same (rising_removed (numbers t.slots.items) place first.within represents.rising) in
       let below : IsBelow (numbers slots.items) w.store.next =
-      rw same (below_removed (numbers t.slots.items) place first.within w.store.next stands.below) in
-      assumption (grown_deleted w n stands.grown)
+      rw same (below_removed (numbers t.slots.items) place first.within w.store.next represents.below) in
+      assumption (grown_deleted w n represents.grown)
 
   pub there : (place : ℕ) (s : Slot) → IsFirstAt (numbers t.slots.items) n place → s ≡ get_or t.slots.items place s
       → terminate_refusal w n ≡ None
-  there place s first is = ap no_such (upload_at t w stands n place s first is).1
+  there place s first is = ap no_such (upload_at t w represents n place s first is).1

@@ -34,30 +34,30 @@ grew_at_once : (p : Patch) (u : Upload) → p.began ≡ u → GrewFrom p (Some u
 grew_at_once p u e = (None, [], rw (known_already, append-nil) (sym e))
 
 -- what is found after the changes of patches was there before
-kept_without : (d e : ℕ) (p : Patch) (ps : List (ℕ × Patch)) → IsApart ps → find e (without d ps) ≡ Some p
+unchanged_without : (d e : ℕ) (p : Patch) (ps : List (ℕ × Patch)) → IsApart ps → find e (without d ps) ≡ Some p
     → find e ps ≡ Some p
-kept_without d e p ps apart h =
+unchanged_without d e p ps apart h =
     grind (arith, cases_eq d e, find_without_same d ps apart, find_without_other d e ps)
 
-kept_replaced : (d e : ℕ) (p q r : Patch) (ps : List (ℕ × Patch)) → find d ps ≡ Some p
+unchanged_replaced : (d e : ℕ) (p q r : Patch) (ps : List (ℕ × Patch)) → find d ps ≡ Some p
     → find e (replaced d q ps) ≡ Some r
     → ((d ≡ e) × (q ≡ r)) ⊎ (find e ps ≡ Some r)
-kept_replaced d e p q r ps there h =
+unchanged_replaced d e p q r ps there h =
     grind (arith, cases_eq d e, find_replaced_same d p q ps there, find_replaced_other d e q ps)
 
-kept_more : (d e : ℕ) (q r : Patch) (ps : List (ℕ × Patch)) → find e ((d, q) ∷ ps) ≡ Some r
+unchanged_more : (d e : ℕ) (q r : Patch) (ps : List (ℕ × Patch)) → find e ((d, q) ∷ ps) ≡ Some r
     → (q ≡ r) ⊎ (find e ps ≡ Some r)
-kept_more d e q r ps h = grind (arith, nat_tests)
+unchanged_more d e q r ps h = grind (arith, nat_tests)
 
 module _ (w : World) (grown : IsGrown w) where
   pub grown_dropped : (d : ℕ) → IsApart w.patches → IsGrown (dropped w d)
-  grown_dropped d apart = record { each = λ e p found. grown.each e p (kept_without d e p w.patches apart found) }
+  grown_dropped d apart = record { each = λ e p found. grown.each e p (unchanged_without d e p w.patches apart found) }
 
   -- with more of a patch's body
   pub grown_longer : (d : ℕ) (p : Patch) (body : List ℕ) (short : Bool) → find d w.patches ≡ Some p
       → IsGrown (record w { patches = replaced d (record p { body = body; short = short }) w.patches })
   grown_longer d p body short there = record {
-    each = λ e r found. elim (kept_replaced d e p (record p { body = body; short = short }) r w.patches there found) [
+    each = λ e r found. elim (unchanged_replaced d e p (record p { body = body; short = short }) r w.patches there found) [
       | inl same ↦ rw (sym same.1) (grown.each d p there)
       | inr old ↦ grown.each e r old
     ];
@@ -66,7 +66,7 @@ module _ (w : World) (grown : IsGrown w) where
   pub grown_begun : (n count : ℕ) (declare : Option ℕ) (u : Upload) (d : ℕ) → upload_of w.store n ≡ Some u
       → IsGrown (record w { patches = (d, first_patch n count declare u) ∷ w.patches })
   grown_begun n count declare u d there = record {
-    each = λ e r found. elim (kept_more d e (first_patch n count declare u) r w.patches found) [
+    each = λ e r found. elim (unchanged_more d e (first_patch n count declare u) r w.patches found) [
       | inl same ↦ rw (sym same, there) (grew_at_once (first_patch n count declare u) u refl)
       | inr old ↦ grown.each e r old
     ];

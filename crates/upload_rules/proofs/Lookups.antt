@@ -6,23 +6,23 @@ use Rattle.upload_rules.specs.declared.slot.Slot.{Slot}
 use Rattle.upload_rules.specs.declared.table.Table.{Table}
 use Rattle.upload_rules.specs.Store.{Upload, upload_of}
 use Rattle.upload_rules.specs.World.{World}
-use Rattle.upload_rules.specs.Records.{TellsOf, above, with_number}
-use Rattle.upload_rules.specs.Slots.{numbers, IsNowhere, IsFirstAt, IsDivided, SlotStands}
-use Rattle.upload_rules.specs.Table.{TableStands, IsSlotOf}
+use Rattle.upload_rules.specs.Records.{RepresentsOf, above, with_number}
+use Rattle.upload_rules.specs.Slots.{numbers, IsNowhere, IsFirstAt, IsDivided, SlotRepresents}
+use Rattle.upload_rules.specs.Table.{TableRepresents, IsSlotOf}
 use Rattle.upload_rules.proofs.Places.{count_of}
-use Rattle.upload_rules.proofs.Kept.{found, none_found, next_found, no_next}
+use Rattle.upload_rules.proofs.RecordOfUpload.{found, none_found, next_found, no_next}
 
-module _ (t : Table) (w : World) (stands : TableStands t w) (n : ℕ) where
+module _ (t : Table) (w : World) (represents : TableRepresents t w) (n : ℕ) where
   x : IndexSet
   x = w.store.indexes
 
   pub no_upload : IsNowhere (numbers t.slots.items) n → upload_of w.store n ≡ None
-  no_upload other = none_found w.store.indexes n w.store.uploads t.slots.items stands.slots other
+  no_upload other = none_found w.store.indexes n w.store.uploads t.slots.items represents.slots other
 
   pub upload_at : (place : ℕ) (s : Slot) → IsFirstAt (numbers t.slots.items) n place → s ≡ get_or t.slots.items place s
-      → (u : Upload) × (upload_of w.store n ≡ Some u) × SlotStands w.store.indexes n u s
+      → (u : Upload) × (upload_of w.store n ≡ Some u) × SlotRepresents w.store.indexes n u s
   upload_at place s first is =
-      found w.store.indexes n w.store.uploads t.slots.items place s stands.slots
+      found w.store.indexes n w.store.uploads t.slots.items place s represents.slots
       (let l = first.within in omega (arith, l, count_of t.slots.items)) first.here first.before is
 
   pub no_slot : (o : Option Slot) → o ≡ None → IsNowhere (numbers t.slots.items) n
@@ -36,27 +36,27 @@ module _ (t : Table) (w : World) (stands : TableStands t w) (n : ℕ) where
   -- the upload of the least number above n
   pub following : (place : ℕ) (s : Slot) → IsDivided (numbers t.slots.items) n place → place < length t.slots.items
       → s ≡ get_or t.slots.items place s
-      → TellsOf w.store.indexes (above n w.store.uploads) (Some s.record)
+      → RepresentsOf w.store.indexes (above n w.store.uploads) (Some s.record)
   following place s parts lt is =
-      let u = next_found w.store.indexes n w.store.uploads t.slots.items place s stands.slots lt parts.before
+      let u = next_found w.store.indexes n w.store.uploads t.slots.items place s represents.slots lt parts.before
       (parts.after place (omega arith) (omega (arith, lt, count_of t.slots.items))) is in
-      rw u.1 u.2.tells
+      rw u.1 u.2.represents
 
   pub none_following : (place : ℕ) (r : Option Record) → IsDivided (numbers t.slots.items) n place
       → length t.slots.items ≤ place → r ≡ None
-      → TellsOf w.store.indexes (above n w.store.uploads) r
+      → RepresentsOf w.store.indexes (above n w.store.uploads) r
   none_following place r parts le none =
-      let e = no_next w.store.indexes n w.store.uploads t.slots.items stands.slots
+      let e = no_next w.store.indexes n w.store.uploads t.slots.items represents.slots
       (λ k lt. parts.before k (omega arith)) in
       rw (e, none) tt
 
 -- the record reports the slot's upload
-pub told : (y : IndexSet) (n : ℕ) (u : Option Upload) (s : Slot) → IsSlotOf y n u (Some s)
-    → TellsOf y (with_number n u) (Some s.record)
-told y n None s h = absurd h
-told y n (Some u) s h = h.tells
+pub recorded : (y : IndexSet) (n : ℕ) (u : Option Upload) (s : Slot) → IsSlotOf y n u (Some s)
+    → RepresentsOf y (with_number n u) (Some s.record)
+recorded y n None s h = absurd h
+recorded y n (Some u) s h = h.represents
 
-pub not_told : (y : IndexSet) (n : ℕ) (u : Option Upload) (r : Option Record) → r ≡ None → IsSlotOf y n u None
-    → TellsOf y (with_number n u) r
-not_told y n None r e h = rw e tt
-not_told y n (Some u) r e h = absurd h
+pub not_recorded : (y : IndexSet) (n : ℕ) (u : Option Upload) (r : Option Record) → r ≡ None → IsSlotOf y n u None
+    → RepresentsOf y (with_number n u) r
+not_recorded y n None r e h = rw e tt
+not_recorded y n (Some u) r e h = absurd h

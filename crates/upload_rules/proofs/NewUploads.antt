@@ -13,7 +13,7 @@ use Rattle.enc_model.specs.Utf16.{utf16}
 use Rattle.enc_model.specs.Japanese.{SingleState, single, shift_jis, euc_jp, iso2022}
 use Rattle.enc_model.specs.Decode.{decoding, decoding_start, decoded, decode, text}
 use Rattle.enc_model.proofs.Pieces.{decoded_none}
-use Rattle.enc_stream.specs.Standing.{Standing, start, finished}
+use Rattle.enc_stream.specs.TranscoderState.{TranscoderState, start, ended_state}
 use Rattle.upload_rules.specs.Lengths.{is_length}
 use Rattle.upload_rules.specs.States.{transcoder_with}
 use Rattle.upload_rules.specs.Store.{New, new_upload, text_of, text_with, is_complete}
@@ -73,13 +73,13 @@ pub new_encodable : (x : IndexSet) (new : New) (done : Bool) → (text_with x (n
 new_encodable x new done = ap (λ r. r.fault) (text_of_nothing (tables x) new.from new.to new.mode done)
 
 -- the transcoder of a new upload has read nothing, or is past the end if no bytes are to come
-pub new_open : (x : IndexSet) (new : New) (t : Standing) → t ≡ start new.from new.to new.mode → is_length
+pub new_open : (x : IndexSet) (new : New) (t : TranscoderState) → t ≡ start new.from new.to new.mode → is_length
     new.declared 0 ≡ false
     → t.transcoder ≡ transcoder_with x (new_upload new) [] (is_complete (new_upload new))
 new_open x new t is some =
     rw (is, some, decoded_none (tables x) new.from, text_of_nothing (tables x) new.from new.to new.mode false) refl
 
-pub new_complete : (x : IndexSet) (new : New) (t : Standing) → t ≡ finished (start new.from new.to new.mode)
+pub new_complete : (x : IndexSet) (new : New) (t : TranscoderState) → t ≡ ended_state (start new.from new.to new.mode)
     → is_length new.declared 0 ≡ true
     → t.transcoder ≡ transcoder_with x (new_upload new) [] (is_complete (new_upload new))
 new_complete x new t is none = rw (is, none) refl

@@ -53,30 +53,30 @@ module _ {A : Type 0} (R : Patch → A → Type 0) (ps : List (ℕ × Patch)) (o
   cleared : (d : ℕ) → draft_at (set old d None) d ≡ None
   cleared d = grind (arith, get_or-set_same, get_or_past, length-set, cases_lt d (length old))
 
-  pub dropped_stand : (d : ℕ) → IsApart ps → new ≡ set old d None → (e : ℕ)
+  pub dropped_represents : (d : ℕ) → IsApart ps → new ≡ set old d None → (e : ℕ)
       → DraftOf R (find e (without d ps)) (draft_at new e)
-  dropped_stand d apart is e =
+  dropped_represents d apart is e =
       elim (cases_eq d e) [
         | inl same ↦ rw (sym same, find_without_same d ps apart, is, cleared d) tt
         | inr other ↦ rw (find_without_other d e ps other, is, get_or-set_other old d e None None (λ s. other (sym s)))
             (all e)
       ]
 
-  pub appended_stand : (d : ℕ) (p q : Patch) (o : A) → find d ps ≡ Some p → d < length old → new ≡ set old d (Some o)
+  pub appended_represents : (d : ℕ) (p q : Patch) (o : A) → find d ps ≡ Some p → d < length old → new ≡ set old d (Some o)
       → R q o
       → (e : ℕ) → DraftOf R (find e (replaced d q ps)) (draft_at new e)
-  appended_stand d p q o there lt is stands e =
+  appended_represents d p q o there lt is represents e =
       elim (cases_eq d e) [
-        | inl same ↦ rw (sym same, find_replaced_same d p q ps there, is, get_or-set_same old d (Some o) None lt) stands
+        | inl same ↦ rw (sym same, find_replaced_same d p q ps there, is, get_or-set_same old d (Some o) None lt) represents
         | inr other ↦
             rw (find_replaced_other d e q ps other, is, get_or-set_other old d e (Some o) None (λ s. other (sym s)))
             (all e)
       ]
 
-  pub begun_stand : (d : ℕ) (p : Patch) (o : A) → IsPlaced old o d new → R p o
+  pub begun_represents : (d : ℕ) (p : Patch) (o : A) → IsPlaced old o d new → R p o
       → (e : ℕ) → DraftOf R (find e ((d, p) ∷ ps)) (draft_at new e)
-  begun_stand d p o placed stands e =
+  begun_represents d p o placed represents e =
       elim (cases_eq d e) [
-        | inl same ↦ rw (placed.after e, sym same, eq-eqb d d refl) stands
+        | inl same ↦ rw (placed.after e, sym same, eq-eqb d d refl) represents
         | inr other ↦ rw (placed.after e, ne_eqb d e other, ne_eqb e d (λ s. other (sym s))) (all e)
       ]

@@ -6,7 +6,7 @@ use Rattle.std.proofs.lemmas.Bool.{leb-true, leb-false, eqb-true, eqb-false, cas
 use Rattle.std.proofs.lemmas.List.{get_or-map, length-map}
 use Rattle.std.specs.List.Sorted.{IsNonDecreasingBy, IsPartitionPoint}
 use Rattle.upload_rules.specs.declared.slot.Slot.{Slot}
-use Rattle.upload_rules.specs.Slots.{number_of, numbers, IsRising, IsDivided, IsFirstAt, IsNowhere}
+use Rattle.upload_rules.specs.Slots.{slot_number_of, numbers, IsRising, IsDivided, IsFirstAt, IsNowhere}
 
 -- some slot, where there is a place
 pub slot_there : (slots : List Slot) (k : ℕ) → k < length slots → Slot
@@ -14,31 +14,31 @@ slot_there [] k lt = absurd (omega arith)
 slot_there (s ∷ slots) k lt = s
 
 pub number_at : (slots : List Slot) (k : ℕ) (d : Slot) → k < length slots
-    → slice_index (numbers slots) k ≡ number_of (get_or slots k d)
-number_at slots k d lt = get_or-map number_of slots k d 0 lt
+    → slice_index (numbers slots) k ≡ slot_number_of (get_or slots k d)
+number_at slots k d lt = get_or-map slot_number_of slots k d 0 lt
 
 pub count_of : (slots : List Slot) → length (numbers slots) ≡ length slots
-count_of slots = length-map slots number_of
+count_of slots = length-map slots slot_number_of
 
-pub not_falling : (slots : List Slot) → IsRising (numbers slots) → IsNonDecreasingBy number_of slots
+pub not_falling : (slots : List Slot) → IsRising (numbers slots) → IsNonDecreasingBy slot_number_of slots
 not_falling slots rising i j d le lt =
     grind (arith, number_at slots i d, number_at slots j d, rising i j, count_of slots, cases_order i j)
 
 -- where the slots of numbers up to n end
 pub divided : (slots : List Slot) (n place : ℕ) → place ≤ length slots
-    → IsPartitionPoint (λ s. leb (number_of s) n ≡ true) (λ s. leb (number_of s) n ≡ false) slots place
+    → IsPartitionPoint (λ s. leb (slot_number_of s) n ≡ true) (λ s. leb (slot_number_of s) n ≡ false) slots place
     → IsDivided (numbers slots) n place
 divided slots n place within point = record {
   within = omega (arith, count_of slots);
   before = λ k lt. (
       let inside : k < length slots = omega arith in
       let d = slot_there slots k inside in
-      let p = leb-true (number_of (get_or slots k d)) n (point.0 k d (omega arith) lt) in
+      let p = leb-true (slot_number_of (get_or slots k d)) n (point.0 k d (omega arith) lt) in
       omega (arith, p, number_at slots k d inside));
   after = λ k le lt. (
       let inside : k < length slots = omega (arith, count_of slots) in
       let d = slot_there slots k inside in
-      let p = leb-false (number_of (get_or slots k d)) n (point.1 k d le inside) in
+      let p = leb-false (slot_number_of (get_or slots k d)) n (point.1 k d le inside) in
       omega (arith, p, number_at slots k d inside));
 }
 
@@ -67,11 +67,11 @@ module _ (ns : List ℕ) (n : ℕ) (rising : IsRising ns) where
 -- the slot before that place is the number's, or there is none
 pub place_found : (slots : List Slot) (n place end : ℕ) (s : Slot) (answer : Option ℕ) → IsRising (numbers slots)
     → IsDivided (numbers slots) n end
-    → place + 1 ≡ end → place < length slots → answer ≡ then_some (eqb (number_of (get_or slots place s)) n) place
+    → place + 1 ≡ end → place < length slots → answer ≡ then_some (eqb (slot_number_of (get_or slots place s)) n) place
     → MatchOption answer (IsNowhere (numbers slots) n) (IsFirstAt (numbers slots) n)
 place_found slots n place end s answer rising parts next lt is =
     let here = number_at slots place s lt in
-    elim (cases_Bool (eqb (number_of (get_or slots place s)) n)) [
+    elim (cases_Bool (eqb (slot_number_of (get_or slots place s)) n)) [
       | inl same ↦ rw (is, same)
           (first_at (numbers slots) n rising place (omega (arith, count_of slots, lt)) (here ∙ eqb-true _ n same))
       | inr other ↦ rw (is, other) (nowhere (numbers slots) n rising end parts (λ k before same. eqb-false _ n other

@@ -19,15 +19,15 @@ use Rattle.upload_rules.specs.Store.{Upload, Store, find, upload_of, with_length
 use Rattle.upload_rules.specs.Store.{patched_at, text_with, is_complete, accepted_count}
 use Rattle.upload_rules.specs.World.{Patch, World, is_there, reached, length_then, completes, patch_text}
 use Rattle.upload_rules.specs.Room.{is_short}
-use Rattle.upload_rules.specs.Calls.{committed_store, length_refusal, commit_refusal, text_refusal, declares_at, longer}
+use Rattle.upload_rules.specs.Calls.{committed_store, length_refusal, commit_refusal, text_refusal, declares_at, longer_patch}
 use Rattle.upload_rules.specs.Calls.{text_stays, committed, is_empty, declares, appended, or_else, is_idle, dropped}
 use Rattle.enc_model.specs.Indexes.{IndexSet}
 use Rattle.upload_rules.specs.declared.errors.UploadRefusal.{UploadRefusal}
 use Rattle.upload_rules.specs.Answers.{Answers, IsLate}
-use Rattle.upload_rules.specs.Slots.{numbers, IsNowhere, IsFirstAt, SlotStands}
+use Rattle.upload_rules.specs.Slots.{numbers, IsNowhere, IsFirstAt, SlotRepresents}
 use Rattle.upload_rules.specs.Drafts.{draft_at}
-use Rattle.upload_rules.specs.Appends.{AppendStands, IsPut}
-use Rattle.upload_rules.specs.Table.{TableStands}
+use Rattle.upload_rules.specs.Appends.{AppendRepresents, IsCommitPut}
+use Rattle.upload_rules.specs.Table.{TableRepresents}
 use Rattle.upload_rules.proofs.Finds.{replaced_same}
 use Rattle.upload_rules.proofs.Places.{count_of}
 use Rattle.upload_rules.proofs.Same.{same_upload}
@@ -135,19 +135,19 @@ in_range appends d o is = grind (arith, get_or_past, cases_lt)
 
 -- a patch with a piece more is not short of room
 longer_is : (w : World) (d : ℕ) (p : Patch) (piece : List ℕ) → p.short ≡ false → w.blocks ≡ None
-    → longer w d p piece ≡ record p { body = p.body ++ piece }
+    → longer_patch w d p piece ≡ record p { body = p.body ++ piece }
 longer_is w d p piece e f =
     let q : Patch = record p { body = p.body ++ piece } in
     ap (λ b. record q { short = b }) (never_short w d q false e f ∙ sym e)
 
-module _ (t : Table) (w : World) (stands : TableStands t w) (d : ℕ) (p : Patch) (there : find d w.patches ≡ Some p)
+module _ (t : Table) (w : World) (represents : TableRepresents t w) (d : ℕ) (p : Patch) (there : find d w.patches ≡ Some p)
   where
     -- the append of the draft is the patch's
-    pub append_is : (o : OpenAppend) → Some o ≡ draft_at t.appends.items d → AppendStands w.store.indexes
+    pub append_is : (o : OpenAppend) → Some o ≡ draft_at t.appends.items d → AppendRepresents w.store.indexes
         w.store.next p o
     append_is o is =
-        let a = draft_of (AppendStands w.store.indexes w.store.next) p (find d w.patches) (draft_at t.appends.items d)
-        there (stands.appends d) in
+        let a = draft_of (AppendRepresents w.store.indexes w.store.next) p (find d w.patches) (draft_at t.appends.items d)
+        there (represents.appends d) in
         rw (same_Some a.0 o (sym a.1 ∙ sym is)) at a.2
 
     -- the append was taken out and is put back with more of its body
@@ -157,25 +157,25 @@ module _ (t : Table) (w : World) (stands : TableStands t w) (d : ℕ) (p : Patch
       put_back : v.items ≡ set t.appends.items d (Some new)
       put_back = back ∙ ap (λ l. set l d (Some new)) gone ∙ set-set t.appends.items d None (Some new)
 
-      pub fed : (piece : List ℕ) → AppendStands w.store.indexes w.store.next (record p { body = p.body ++ piece }) new
-          → TableStands (record t { appends = v }) (appended w d piece)
+      pub fed : (piece : List ℕ) → AppendRepresents w.store.indexes w.store.next (record p { body = p.body ++ piece }) new
+          → TableRepresents (record t { appends = v }) (appended w d piece)
       fed piece held =
-          let q = longer_is w d p piece (append_is o is).roomy stands.unlimited in
+          let q = longer_is w d p piece (append_is o is).roomy represents.unlimited in
           rw (there, q)
-          (appends_more t w stands d p (p.body ++ piece) new v there (in_range t.appends.items d o is) put_back held)
+          (appends_more t w represents d p (p.body ++ piece) new v there (in_range t.appends.items d o is) put_back held)
 
-      pub not_fed : AppendStands w.store.indexes w.store.next p new → TableStands (record t { appends = v }) w
+      pub not_fed : AppendRepresents w.store.indexes w.store.next p new → TableRepresents (record t { appends = v }) w
       not_fed held =
           rw (replaced_same d p w.patches there) at
-          (appends_more t w stands d p p.body new v there (in_range t.appends.items d o is) put_back held)
+          (appends_more t w represents d p p.body new v there (in_range t.appends.items d o is) put_back held)
 
     module _ (v : Appends) (gone : v.items ≡ set t.appends.items d None) where
       pub refused_missing : (o : OpenAppend) → Some o ≡ draft_at t.appends.items d
           → IsNowhere (numbers t.slots.items) o.number
-          → (commit_refusal w d p ≡ Some refusals.NoSuch) × TableStands (record t { appends = v }) (dropped w d)
+          → (commit_refusal w d p ≡ Some refusals.NoSuch) × TableRepresents (record t { appends = v }) (dropped w d)
       refused_missing o is other = (
-        no_such_upload w d p (no_upload t w stands p.number (rw (append_is o is).number at other)),
-        drops t w stands d v gone,
+        no_such_upload w d p (no_upload t w represents p.number (rw (append_is o is).number at other)),
+        drops t w represents d v gone,
       )
 
       -- an upload's bytes are as many as at the head moment
@@ -183,15 +183,15 @@ module _ (t : Table) (w : World) (stands : TableStands t w) (d : ℕ) (p : Patch
           (first : IsFirstAt (numbers t.slots.items) o.number place)
           (here : s ≡ get_or t.slots.items place s) where
         -- the upload of the slot
-        abbrev pub upload : (u : Upload) × (upload_of w.store p.number ≡ Some u) × SlotStands w.store.indexes
+        abbrev pub upload : (u : Upload) × (upload_of w.store p.number ≡ Some u) × SlotRepresents w.store.indexes
             p.number u s
-        upload = upload_at t w stands p.number place s (rw (append_is o is).number at first) here
+        upload = upload_at t w represents p.number place s (rw (append_is o is).number at first) here
 
         pub refused_offset : (s.record.accepted ≡ o.offset → ⊥)
-            → (commit_refusal w d p ≡ Some refusals.Offset) × TableStands (record t { appends = v }) (dropped w d)
+            → (commit_refusal w d p ≡ Some refusals.Offset) × TableRepresents (record t { appends = v }) (dropped w d)
         refused_offset other = (
-          other_offset w d p upload.0 upload.1 (λ e. other (upload.2.tells.accepted ∙ e ∙ sym (append_is o is).offset)),
-          drops t w stands d v gone,
+          other_offset w d p upload.0 upload.1 (λ e. other (upload.2.represents.accepted ∙ e ∙ sym (append_is o is).offset)),
+          drops t w represents d v gone,
         )
 
         module _ (same : s.record.accepted ≡ o.offset) where
@@ -202,28 +202,28 @@ module _ (t : Table) (w : World) (stands : TableStands t w) (d : ℕ) (p : Patch
           there_is = upload.1
 
           as_long : accepted_count u ≡ accepted_count p.began
-          as_long = sym upload.2.tells.accepted ∙ same ∙ (append_is o is).offset
+          as_long = sym upload.2.represents.accepted ∙ same ∙ (append_is o is).offset
 
           -- so it is the upload of the head moment, but for a length
           pub as_before : (since : Option ℕ) × (u ≡ with_length p.began since)
-          as_before = same_upload w d p u stands.grown there there_is as_long
+          as_before = same_upload w d p u represents.grown there there_is as_long
 
           end_is : o.offset + o.came ≡ reached p
           end_is = let a = append_is o is in omega (arith, a.offset, a.came)
 
           length_is : length_refusal s.record.declared o.declare (o.offset + o.came) ≡ length_refusal u.declared
               p.declare (reached p)
-          length_is = cc (upload.2.tells.declared, (append_is o is).declare, end_is)
+          length_is = cc (upload.2.represents.declared, (append_is o is).declare, end_is)
 
           new_is : is_new s.record.declared o.declare ≡ is_new u.declared p.declare
-          new_is = cc (upload.2.tells.declared, (append_is o is).declare)
+          new_is = cc (upload.2.represents.declared, (append_is o is).declare)
 
           pub refused_length : (e : UploadRefusal)
               → length_refusal s.record.declared o.declare (o.offset + o.came) ≡ Some e
-              → (commit_refusal w d p ≡ Some e) × TableStands (record t { appends = v }) (dropped w d)
+              → (commit_refusal w d p ≡ Some e) × TableRepresents (record t { appends = v }) (dropped w d)
           refused_length e refusal = (
             same_offset w d p u there_is as_long ∙ rw (sym length_is, refusal) refl,
-            drops t w stands d v gone,
+            drops t w represents d v gone,
           )
 
           -- the length lets the bytes come
@@ -232,7 +232,7 @@ module _ (t : Table) (w : World) (stands : TableStands t w) (d : ℕ) (p : Patch
             refused = sym (same_offset w d p u there_is as_long ∙ rw (sym length_is, fits) refl)
 
             pub commits_nothing : (if is_new s.record.declared o.declare then false else o.came == 0) ≡ true
-                → (commit_refusal w d p ≡ None) × ((o.offset ≡ reached p) × TableStands (record t { appends = v })
+                → (commit_refusal w d p ≡ None) × ((o.offset ≡ reached p) × TableRepresents (record t { appends = v })
                 (committed w d p))
             commits_nothing idle =
                 let a = append_is o is in
@@ -243,7 +243,7 @@ module _ (t : Table) (w : World) (stands : TableStands t w) (d : ℕ) (p : Patch
                   sym refused ∙ nothing_refused w d p (idle_stays w.store p u there_is still e),
                   (
                     omega (arith, empty, a.offset),
-                    rw (store_same w.store p u there_is still e) (drops t w stands d v gone),
+                    rw (store_same w.store p u there_is still e) (drops t w represents d v gone),
                   ),
                 )
 
@@ -254,7 +254,7 @@ module _ (t : Table) (w : World) (stands : TableStands t w) (d : ℕ) (p : Patch
                   sym new_is ∙ brings (is_new s.record.declared o.declare) o.came busy ((append_is o is).came ∙ none)
 
               pub known_is : known_or s.record.declared o.declare ≡ known_or u.declared p.declare
-              known_is = cc (upload.2.tells.declared, (append_is o is).declare)
+              known_is = cc (upload.2.represents.declared, (append_is o is).declare)
 
               pub still_open : (declared : Option ℕ) → declared ≡ known_or s.record.declared o.declare
                   → o.offset + o.came ≤ longest declared → is_complete u ≡ false
@@ -272,18 +272,18 @@ module _ (t : Table) (w : World) (stands : TableStands t w) (d : ℕ) (p : Patch
               late = rw refused at (late_text w d p)
 
               slots_same : (new : Slot) (slots : Slots) → slots.items ≡ set t.slots.items place new
-                  → SlotStands w.store.indexes p.number u new
-                  → TableStands (record t { slots = slots; appends = v }) (dropped w d)
-              slots_same new slots after_put kept =
+                  → SlotRepresents w.store.indexes p.number u new
+                  → TableRepresents (record t { slots = slots; appends = v }) (dropped w d)
+              slots_same new slots after_put slot_is =
                   let ups = w.store.uploads in
                   let back : replaced p.number (patched u None []) ups ≡ ups =
                   ap (λ z. replaced p.number z ups) (with_nothing u) ∙ replaced_same p.number u ups there_is in
-                  subst (λ us. TableStands (record t { slots = slots; appends = v })
+                  subst (λ us. TableRepresents (record t { slots = slots; appends = v })
                   (record w { store = record w.store { uploads = us }; patches = without d w.patches })) back
-                  (puts (record t { appends = v }) (dropped w d) (drops t w stands d v gone) p.number u None [] place
+                  (puts (record t { appends = v }) (dropped w d) (drops t w represents d v gone) p.number u None [] place
                   new
                   slots there_is first_of_patch inside after_put
-                  (rw (with_nothing u) kept))
+                  (rw (with_nothing u) slot_is))
 
               -- what has no value is no text that stays
               no_value : (done : Bool) → completes w.store p ≡ done → is_complete u ≡ false
@@ -313,24 +313,24 @@ module _ (t : Table) (w : World) (stands : TableStands t w) (d : ℕ) (p : Patch
               pub commits : (r : Result ℕ UploadError) (done : Bool) (new : Slot) (slots : Slots)
                   → completes w.store p ≡ done → is_complete u ≡ false
                   → slots.items ≡ set t.slots.items place new
-                  → IsPut w.store.indexes p u done new r
+                  → IsCommitPut w.store.indexes p u done new r
                   → Answers (commit_refusal w d p) r
-                  (λ n. (n ≡ reached p) × TableStands (record t { slots = slots; appends = v }) (committed w d p))
-                  (TableStands (record t { slots = slots; appends = v }) (dropped w d))
+                  (λ n. (n ≡ reached p) × TableRepresents (record t { slots = slots; appends = v }) (committed w d p))
+                  (TableRepresents (record t { slots = slots; appends = v }) (dropped w d))
               commits (Ok n) done new slots is_done unfinished after_put put = (
                 sym refused ∙ text_fine w d p (text_stays w.store p) refl
                     (ap (λ b. (patch_text w.store.indexes p b).fault) is_done ∙ put.1) (append_is o is).roomy
-                    stands.unlimited,
+                    represents.unlimited,
                 (
                   put.0,
                   rw (store_longer w.store p u there_is brings_is)
-                      (puts (record t { appends = v }) (dropped w d) (drops t w stands d v gone) p.number u p.declare
+                      (puts (record t { appends = v }) (dropped w d) (drops t w represents d v gone) p.number u p.declare
                       p.body place new slots there_is first_of_patch inside after_put put.2),
                 ),
               )
-              commits (Err (Stop NoMemory)) done new slots is_done unfinished after_put kept =
-                  (late, slots_same new slots after_put kept)
-              commits (Err (Stop DiskFault)) done new slots is_done unfinished after_put kept = absurd kept
-              commits (Err (Refused refusals.Unencodable)) done new slots is_done unfinished after_put kept =
-                  (no_value done is_done unfinished kept.0, slots_same new slots after_put kept.1)
-              commits (Err (Refused e)) done new slots is_done unfinished after_put kept = absurd kept
+              commits (Err (Stop NoMemory)) done new slots is_done unfinished after_put slot_is =
+                  (late, slots_same new slots after_put slot_is)
+              commits (Err (Stop DiskFault)) done new slots is_done unfinished after_put slot_is = absurd slot_is
+              commits (Err (Refused refusals.Unencodable)) done new slots is_done unfinished after_put slot_is =
+                  (no_value done is_done unfinished slot_is.0, slots_same new slots after_put slot_is.1)
+              commits (Err (Refused e)) done new slots is_done unfinished after_put slot_is = absurd slot_is

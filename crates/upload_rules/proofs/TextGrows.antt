@@ -6,10 +6,10 @@ use Rattle.enc_model.specs.declared.Encoding.{Encoding}
 use Rattle.enc_model.specs.declared.Mode.{Mode}
 use Rattle.enc_model.specs.Encode.{Tables, Shift, InAscii, Encoder, Coded, led_by, coded, encoder, encode}
 use Rattle.enc_model.specs.Encode.{ended_coded}
-use Rattle.enc_model.specs.Stream.{Run}
+use Rattle.enc_model.specs.Stream.{DecoderRun}
 use Rattle.enc_model.specs.Decode.{Decoded, Held, Reading, Decoding, decoded, decoding, decoded_text, decode, advance}
 use Rattle.enc_model.specs.Decode.{conclude, undecided, text}
-use Rattle.enc_model.specs.Transcode.{Phase, Before, During, Over, Fed, fed_of, phase_of, fed, fed_end}
+use Rattle.enc_model.specs.Transcode.{Phase, Before, During, Over, FedText, fed_of, phase_of, fed_text, fed_end}
 use Rattle.enc_model.proofs.Pieces.{advance_more, conclude_all, decoded_held, decoded_reading, decoding_append}
 use Rattle.enc_model.proofs.Steady.{encoder_steady}
 use Rattle.enc_model.proofs.Transcoding.{coded_both, coded_fault}
@@ -20,17 +20,17 @@ use Rattle.upload_rules.specs.Store.{Origin, decoded_since, text_from}
 
 -- the code points of a piece, and the phase after it, in one
 abbrev FedMore : Tables → Encoding → Decoded → List ℕ → Type 0
-FedMore t e d c = fed_of (advance t e d c) ≡ (let r = fed t e (phase_of d) c in record {
+FedMore t e d c = fed_of (advance t e d c) ≡ (let r = fed_text t e (phase_of d) c in record {
   text = decoded_text d ++ r.text;
   phase = r.phase;
 })
 
 fed_more : (t : Tables) (e : Encoding) (d : Decoded) (c : List ℕ) → FedMore t e d c
-unfolding advance fed
+unfolding advance fed_text
 fed_more t e (Held b) c = refl
 fed_more t e (Reading r) c = refl
 
-decode_more : (t : Tables) (e : Encoding) (b c : List ℕ) → fed_of (decoded t e (b ++ c) false) ≡ (let r = fed t e
+decode_more : (t : Tables) (e : Encoding) (b c : List ℕ) → fed_of (decoded t e (b ++ c) false) ≡ (let r = fed_text t e
     (phase_of (decoded t e b false)) c in record {
       text = decoded_text (decoded t e b false) ++ r.text;
       phase = r.phase;
@@ -38,9 +38,9 @@ decode_more : (t : Tables) (e : Encoding) (b c : List ℕ) → fed_of (decoded t
 decode_more t e b c = ap fed_of (sym (advance_more t e b c)) ∙ fed_more t e (decoded t e b false) c
 
 -- from any phase, more bytes are fed after these
-fed_both : (t : Tables) (e : Encoding) (p : Phase) (b c : List ℕ) → fed t e p (b ++ c) ≡ (let r = fed t e p b in
-    let q = fed t e r.phase c in record { text = r.text ++ q.text; phase = q.phase })
-unfolding fed
+fed_both : (t : Tables) (e : Encoding) (p : Phase) (b c : List ℕ) → fed_text t e p (b ++ c) ≡ (let r = fed_text t e p b in
+    let q = fed_text t e r.phase c in record { text = r.text ++ q.text; phase = q.phase })
+unfolding fed_text
 fed_both t e (Before h) b c =
     ap (λ z. fed_of (decoded t e z false)) (sym (append_assoc h b c)) ∙ decode_more t e (h ++ b) c
 fed_both t e (During s) b c = rw (decoding_append t false s b c) refl
@@ -54,7 +54,7 @@ end_held : (t : Tables) (e : Encoding) (b : List ℕ) → EndsAs t e b (Held b)
 unfolding fed_end
 end_held t e b = refl
 
-end_reading : (t : Tables) (e : Encoding) (b : List ℕ) (r : Run Decoding)
+end_reading : (t : Tables) (e : Encoding) (b : List ℕ) (r : DecoderRun Decoding)
     → conclude t e (Reading r) ≡ decoded t e b true → EndsAs t e b (Reading r)
 unfolding conclude fed_end
 end_reading t e b r all = ap decoded_text (sym all)
@@ -114,16 +114,16 @@ module _ (t : Tables) (from to : Encoding) (mode : Mode) where
   text_done None b = refl
   text_done (Some p) b = refl
 
-  pub phase_more : (o : Option Origin) (b c : List ℕ) → phase_from t o from (b ++ c) ≡ (fed t from
+  pub phase_more : (o : Option Origin) (b c : List ℕ) → phase_from t o from (b ++ c) ≡ (fed_text t from
       (phase_from t o from b) c).phase
-  phase_more None b c = ap (λ (z : Fed). z.phase) (decode_more t from b c)
-  phase_more (Some p) b c = ap (λ (z : Fed). z.phase) (fed_both t from p.phase b c)
+  phase_more None b c = ap (λ (z : FedText). z.phase) (decode_more t from b c)
+  phase_more (Some p) b c = ap (λ (z : FedText). z.phase) (fed_both t from p.phase b c)
 
-  points_more : (o : Option Origin) (b c : List ℕ) → points o (b ++ c) false ≡ points o b false ++ (fed t from
+  points_more : (o : Option Origin) (b c : List ℕ) → points o (b ++ c) false ≡ points o b false ++ (fed_text t from
       (phase_from t o from b) c).text
   unfolding decode
-  points_more None b c = ap (λ (z : Fed). z.text) (decode_more t from b c)
-  points_more (Some p) b c = ap (λ (z : Fed). z.text) (fed_both t from p.phase b c)
+  points_more None b c = ap (λ (z : FedText). z.text) (decode_more t from b c)
+  points_more (Some p) b c = ap (λ (z : FedText). z.text) (fed_both t from p.phase b c)
 
   points_end : (o : Option Origin) (b : List ℕ) → points o b true ≡ points o b false ++ fed_end t from
       (phase_from t o from b)
@@ -134,9 +134,9 @@ module _ (t : Tables) (from to : Encoding) (mode : Mode) where
   -- what is decoded of more bytes has what is decoded of these at the start
   points_after : (o : Option Origin) (b c : List ℕ) (done : Bool)
       → (more : List ℕ) × (points o (b ++ c) done ≡ points o b false ++ more)
-  points_after o b c false = ((fed t from (phase_from t o from b) c).text, points_more o b c)
+  points_after o b c false = ((fed_text t from (phase_from t o from b) c).text, points_more o b c)
   points_after o b c true =
-      let y = (fed t from (phase_from t o from b) c).text in
+      let y = (fed_text t from (phase_from t o from b) c).text in
       let z = fed_end t from (phase_from t o from (b ++ c)) in (
         y ++ z,
         points_end o (b ++ c) ∙ ap (λ d. d ++ z) (points_more o b c) ∙ append_assoc (points o b false) y z,
@@ -171,10 +171,10 @@ module _ (t : Tables) (from to : Encoding) (mode : Mode) where
 
     -- the text grows by the code of a piece
     pub text_more : (c : List ℕ) → text_from t o from to mode (b ++ c) false ≡ (let r = text_from t o from to mode b
-        false in led_by r.bytes (coded f mode r.state (fed t from (phase_from t o from b) c).text))
+        false in led_by r.bytes (coded f mode r.state (fed_text t from (phase_from t o from b) c).text))
     text_more c =
         text_open o (b ++ c) ∙ ap (λ z. led_by (first o) (coded f mode (shift o) z)) (points_more o b c)
-        ∙ more_coded (fed t from (phase_from t o from b) c).text
+        ∙ more_coded (fed_text t from (phase_from t o from b) c).text
 
     more_ended : (c more : List ℕ) → points o (b ++ c) true ≡ points o b false ++ more
         → text_from t o from to mode (b ++ c) true ≡ (let r = text_from t o from to mode b false in led_by r.bytes

@@ -3,15 +3,15 @@ use Rattle.std.proofs.Common.{◌≡◌, ℕ, Bool, true, false, List, [], ◌++
 use Rattle.std.proofs.Common.{append_assoc, append-nil, Vec, Global}
 use Rattle.enc_model.specs.Indexes.{IndexSet, tables}
 use Rattle.enc_model.specs.Encode.{Coded, led_by}
-use Rattle.enc_model.specs.Transcode.{Transcoder, fed, added, added_end}
-use Rattle.enc_stream.specs.Standing.{Standing, stepped_on, finished, Answers}
-use Rattle.enc_stream.specs.StateBytes.{IsValid, standing, state_bytes}
+use Rattle.enc_model.specs.Transcode.{Transcoder, fed_text, added, added_end}
+use Rattle.enc_stream.specs.TranscoderState.{TranscoderState, stepped_on, ended_state, RefusedAs}
+use Rattle.enc_stream.specs.StateBytes.{IsValidState, transcoder_state, state_bytes}
 use Rattle.enc_stream.specs.declared.error.TranscodeError.{TranscodeError}
 use Rattle.enc_stream.specs.declared.error.TranscodeError.TheVariants as errors
 use Rattle.upload_rules.specs.Store.{Upload, text_from, text_with}
 use Rattle.upload_rules.specs.World.{is_there}
 use Rattle.upload_rules.specs.States.{phase_from, transcoder_with, state_with}
-use Rattle.upload_rules.specs.Texts.{IsReading, IsRest, IsWhole}
+use Rattle.upload_rules.specs.Texts.{IsReading, IsRest, IsWholeAppend}
 use Rattle.upload_rules.proofs.TextGrows.{fault_stays, phase_more, text_end, text_more}
 
 over : (s r : Transcoder) → s.from ≡ r.from → s.to ≡ r.to → s.mode ≡ r.mode → s.phase ≡ r.phase → s.shift ≡ r.shift
@@ -19,8 +19,8 @@ over : (s r : Transcoder) → s.from ≡ r.from → s.to ≡ r.to → s.mode ≡
 over s r e1 e2 e3 e4 e5 = rw (e1, e2, e3, e4, e5) refl
 
 -- a transcoder that stands where an open text's bytes end
-pub reads : (x : IndexSet) (u : Upload) (bytes : List ℕ) (t : Standing) → (text_with x u bytes false).fault ≡ None
-    → t ≡ standing (transcoder_with x u bytes false)
+pub reads : (x : IndexSet) (u : Upload) (bytes : List ℕ) (t : TranscoderState) → (text_with x u bytes false).fault ≡ None
+    → t ≡ transcoder_state (transcoder_with x u bytes false)
     → IsReading x u bytes t
 reads x u bytes t ok is =
     rw is (record {
@@ -33,30 +33,30 @@ reads x u bytes t ok is =
       encodable = ok;
     })
 
-module _ (x : IndexSet) (u : Upload) (bytes : List ℕ) (t : Standing) (here : IsReading x u bytes t) where
+module _ (x : IndexSet) (u : Upload) (bytes : List ℕ) (t : TranscoderState) (here : IsReading x u bytes t) where
   -- where it stands is the state
   still_open : t.transcoder ≡ transcoder_with x u bytes false
   still_open = over t.transcoder (transcoder_with x u bytes false) here.from here.to here.mode here.phase here.shift
 
-  stands_further : (piece : List ℕ) → text_with x u (bytes ++ piece) false ≡ led_by (text_with x u bytes false).bytes
+  represents_further : (piece : List ℕ) → text_with x u (bytes ++ piece) false ≡ led_by (text_with x u bytes false).bytes
       (added (tables x) t.transcoder piece)
-  stands_further piece =
+  represents_further piece =
       ap (λ b. text_from (tables x) u.origin u.from u.to u.mode b false) (sym (append_assoc u.accepted bytes piece))
       ∙ text_more (tables x) u.from u.to u.mode u.origin (u.accepted ++ bytes) here.encodable piece
       ∙ ap (λ s. led_by (text_with x u bytes false).bytes (added (tables x) s piece)) (sym still_open)
 
-  stands_ended : text_with x u bytes true ≡ led_by (text_with x u bytes false).bytes (added_end (tables x) t.transcoder)
-  stands_ended =
+  represents_ended : text_with x u bytes true ≡ led_by (text_with x u bytes false).bytes (added_end (tables x) t.transcoder)
+  represents_ended =
       text_end (tables x) u.from u.to u.mode u.origin (u.accepted ++ bytes) here.encodable
       ∙ ap (λ s. led_by (text_with x u bytes false).bytes (added_end (tables x) s)) (sym still_open)
 
   -- a piece without a code makes the text without a value
   pub piece_fault : (piece : List ℕ) (d : ℕ) → (added (tables x) t.transcoder piece).fault ≡ Some d
       → is_there (text_with x u (bytes ++ piece) false).fault ≡ true
-  piece_fault piece d h = ap is_there (ap (λ r. r.fault) (stands_further piece) ∙ h)
+  piece_fault piece d h = ap is_there (ap (λ r. r.fault) (represents_further piece) ∙ h)
 
   -- one piece further
-  pub further : (piece old new : List ℕ) (next : Standing) → IsRest x u bytes false old
+  pub further : (piece old new : List ℕ) (next : TranscoderState) → IsRest x u bytes false old
       → (added (tables x) t.transcoder piece).fault ≡ None → next ≡ stepped_on (tables x) t piece
       → new ≡ old ++ (added (tables x) t.transcoder piece).bytes
       → IsReading x u (bytes ++ piece) next × IsRest x u (bytes ++ piece) false new
@@ -67,25 +67,25 @@ module _ (x : IndexSet) (u : Upload) (bytes : List ℕ) (t : Standing) (here : I
       to = ap (λ s. s.transcoder.to) is ∙ here.to;
       mode = ap (λ s. s.transcoder.mode) is ∙ here.mode;
       phase = ap (λ s. s.transcoder.phase) is
-          ∙ ap (λ (s : Transcoder). (fed (tables x) s.from s.phase piece).phase) still_open
+          ∙ ap (λ (s : Transcoder). (fed_text (tables x) s.from s.phase piece).phase) still_open
           ∙ sym (phase_more (tables x) u.from u.to u.mode u.origin (u.accepted ++ bytes) piece)
           ∙ ap (phase_from (tables x) u.origin u.from) (append_assoc u.accepted bytes piece);
-      shift = ap (λ s. s.transcoder.shift) is ∙ sym (ap (λ r. r.state) (stands_further piece));
-      encodable = ap (λ r. r.fault) (stands_further piece) ∙ ok;
+      shift = ap (λ s. s.transcoder.shift) is ∙ sym (ap (λ r. r.state) (represents_further piece));
+      encodable = ap (λ r. r.fault) (represents_further piece) ∙ ok;
     },
     let start = (text_with x u [] false).bytes in
         let more = (added (tables x) t.transcoder piece).bytes in
         ap (λ z. start ++ z) grown ∙ sym (append_assoc start old more) ∙ ap (λ z. z ++ more) rest
-        ∙ sym (ap (λ r. r.bytes) (stands_further piece)),
+        ∙ sym (ap (λ r. r.bytes) (represents_further piece)),
   )
 
   -- an end without a code
   pub end_fault : (d : ℕ) → (added_end (tables x) t.transcoder).fault ≡ Some d
       → is_there (text_with x u bytes true).fault ≡ true
-  end_fault d h = ap is_there (ap (λ r. r.fault) stands_ended ∙ h)
+  end_fault d h = ap is_there (ap (λ r. r.fault) represents_ended ∙ h)
 
-  pub whole_open : (state old : List ℕ) → state ≡ state_bytes t.transcoder → IsValid t.transcoder
-      → IsRest x u bytes false old → IsWhole x u bytes false state old
+  pub whole_open : (state old : List ℕ) → state ≡ state_bytes t.transcoder → IsValidState t.transcoder
+      → IsRest x u bytes false old → IsWholeAppend x u bytes false state old
   unfolding state_with
   whole_open state old is valid rest = record {
     state_is = is ∙ ap state_bytes still_open;
@@ -95,14 +95,14 @@ module _ (x : IndexSet) (u : Upload) (bytes : List ℕ) (t : Standing) (here : I
   }
 
   -- at the end
-  at_end : (next : Standing) → next ≡ finished t → next.transcoder ≡ transcoder_with x u bytes true
+  at_end : (next : TranscoderState) → next ≡ ended_state t → next.transcoder ≡ transcoder_with x u bytes true
   at_end next is = ap (λ s. s.transcoder) is ∙ rw (here.from, here.to, here.mode) refl
 
-  pub whole_ended : (next : Standing) (state old new : List ℕ) → next ≡ finished t → state ≡ state_bytes next.transcoder
-      → IsValid next.transcoder
+  pub whole_ended : (next : TranscoderState) (state old new : List ℕ) → next ≡ ended_state t → state ≡ state_bytes next.transcoder
+      → IsValidState next.transcoder
       → IsRest x u bytes false old → (added_end (tables x) t.transcoder).fault ≡ None
       → new ≡ old ++ (added_end (tables x) t.transcoder).bytes
-      → IsWhole x u bytes true state new
+      → IsWholeAppend x u bytes true state new
   unfolding state_with
   whole_ended next state old new is packed valid rest ok grown = record {
     state_is = packed ∙ ap state_bytes (at_end next is);
@@ -111,8 +111,8 @@ module _ (x : IndexSet) (u : Upload) (bytes : List ℕ) (t : Standing) (here : I
         let start = (text_with x u [] false).bytes in
         let more = (added_end (tables x) t.transcoder).bytes in
         ap (λ z. start ++ z) grown ∙ sym (append_assoc start old more) ∙ ap (λ z. z ++ more) rest
-        ∙ sym (ap (λ r. r.bytes) stands_ended));
-    encodable = ap (λ r. r.fault) stands_ended ∙ ok;
+        ∙ sym (ap (λ r. r.bytes) represents_ended));
+    encodable = ap (λ r. r.fault) represents_ended ∙ ok;
   }
 
 -- a text without a value has none with more bytes
@@ -136,6 +136,6 @@ unencodable_ended x u bytes done h =
     ap (λ b. is_there (text_with x u b done).fault) (sym (append-nil bytes)) ∙ stays_unencodable x u bytes [] done h
 
 -- why a transcoder stopped
-pub code_fault : (e : TranscodeError) (c : ℕ) (r : Coded) (old new : Vec ℕ Global) (before after : Standing)
-    → e ≡ errors.Unencodable c → Answers e r old new before after → r.fault ≡ Some c
+pub code_fault : (e : TranscodeError) (c : ℕ) (r : Coded) (old new : Vec ℕ Global) (before after : TranscoderState)
+    → e ≡ errors.Unencodable c → RefusedAs e r old new before after → r.fault ≡ Some c
 code_fault e c r old new before after is why = (rw is at why).0.reason

@@ -26,9 +26,9 @@ Answers refusal (Err (Stop DiskFault)) done same = IsLate refusal
 Answers refusal (Err (Refused e)) done same = (refusal ≡ Some e) × same
 
 -- The draft represents the first patch of the upload.
-abbrev pub IsBegun : (Patch → Type 0) → ℕ → ℕ → Option ℕ → Option Upload → Type 0
-IsBegun holds number count declare None = Unit {0}
-IsBegun holds number count declare (Some u) = holds (first_patch number count declare u)
+abbrev pub BeginsWith : (Patch → Type 0) → ℕ → ℕ → Option ℕ → Option Upload → Type 0
+BeginsWith holds number count declare None = Unit {0}
+BeginsWith holds number count declare (Some u) = holds (first_patch number count declare u)
 
 -- The store is one of these.
 abbrev pub Among : Store → List Store → Type 0
@@ -45,5 +45,5 @@ pub record Limits (moment moment' : ℕ) (left_only left_only' : Option ℕ → 
 -- A call that changes no upload: crash images are limited as before.
 pub record Quiet (moment moment' : ℕ) (left_only left_only' : Option ℕ → ℕ → List Store → Type 0) : Type 0 where
   pub later : moment ≤ moment'
-  pub keeps : (blocks : Option ℕ) (t : ℕ) (ms : List Store) → t ≤ moment → left_only blocks t ms
+  pub limits : (blocks : Option ℕ) (t : ℕ) (ms : List Store) → t ≤ moment → left_only blocks t ms
       → left_only' blocks t ms

@@ -8,13 +8,13 @@ use Rattle.upload_rules.specs.declared.errors.UploadRefusal.TheVariants as refus
 use Rattle.upload_rules.specs.Lengths.{known_or, longest}
 use Rattle.upload_rules.specs.Store.{Upload, patched, accepted_count}
 use Rattle.upload_rules.specs.World.{Patch, is_there, reached, patch_text}
-use Rattle.upload_rules.specs.Slots.{SlotStands}
+use Rattle.upload_rules.specs.Slots.{SlotRepresents}
 use Rattle.upload_rules.specs.Texts.{HoldsText}
 use Rattle.upload_rules.specs.declared.slot.Slot.{Slot}
 use Rattle.upload_rules.specs.declared.appends.OpenAppend.{OpenAppend}
 
 -- The append stands for the patch, whose upload is below the next number.
-pub record AppendStands (x : IndexSet) (next : ℕ) (p : Patch) (o : OpenAppend) : Type 0 where
+pub record AppendRepresents (x : IndexSet) (next : ℕ) (p : Patch) (o : OpenAppend) : Type 0 where
   pub number : o.number ≡ p.number
   pub offset : o.offset ≡ accepted_count p.began
   pub came : o.came ≡ length p.body
@@ -27,10 +27,10 @@ pub record AppendStands (x : IndexSet) (next : ℕ) (p : Patch) (o : OpenAppend)
   pub text : HoldsText x p.began p.body o.text
 
 -- The result of committing a patch that brings bytes or a length to its slot.
-abbrev pub IsPut : IndexSet → Patch → Upload → Bool → Slot → Result ℕ UploadError → Type 0
-IsPut x p u done s (Ok n) =
-    (n ≡ reached p) × ((patch_text x p done).fault ≡ None) × SlotStands x p.number (patched u p.declare p.body) s
-IsPut x p u done s (Err (Stop NoMemory)) = SlotStands x p.number u s
-IsPut x p u done s (Err (Refused refusals.Unencodable)) =
-    (is_there (patch_text x p done).fault ≡ true) × SlotStands x p.number u s
-IsPut x p u done s (Err e) = ⊥
+abbrev pub IsCommitPut : IndexSet → Patch → Upload → Bool → Slot → Result ℕ UploadError → Type 0
+IsCommitPut x p u done s (Ok n) =
+    (n ≡ reached p) × ((patch_text x p done).fault ≡ None) × SlotRepresents x p.number (patched u p.declare p.body) s
+IsCommitPut x p u done s (Err (Stop NoMemory)) = SlotRepresents x p.number u s
+IsCommitPut x p u done s (Err (Refused refusals.Unencodable)) =
+    (is_there (patch_text x p done).fault ≡ true) × SlotRepresents x p.number u s
+IsCommitPut x p u done s (Err e) = ⊥

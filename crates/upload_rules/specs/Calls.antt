@@ -91,13 +91,13 @@ begun w number count declare = begun_at w number count declare (upload_of w.stor
 -- The body of a patch.
 
 -- The patch with another piece of its body. From here on it may be short of room.
-abbrev pub longer : World → ℕ → Patch → List ℕ → Patch
-longer w d p piece = let q = record p { body = p.body ++ piece } in record q { short = is_short w d q false }
+abbrev pub longer_patch : World → ℕ → Patch → List ℕ → Patch
+longer_patch w d p piece = let q = record p { body = p.body ++ piece } in record q { short = is_short w d q false }
 
 -- The world with another piece of this patch.
 abbrev pub appended_at : World → ℕ → List ℕ → Option Patch → World
 appended_at w d piece None = w
-appended_at w d piece (Some p) = record w { patches = replaced d (longer w d p piece) w.patches }
+appended_at w d piece (Some p) = record w { patches = replaced d (longer_patch w d p piece) w.patches }
 
 -- The world with another piece of the patch of draft d.
 abbrev pub appended : World → ℕ → List ℕ → World

@@ -4,12 +4,12 @@ use Rattle.common.specs.declared.limits.TheConstants.{MOST_METADATA}
 use Rattle.enc_model.specs.Indexes.{IndexSet, offers}
 use Rattle.enc_model.specs.declared.Encoding.TheVariants.{Utf16Be, Utf16Le}
 use Rattle.upload_rules.specs.declared.records.Record.{Record}
-use Rattle.enc_stream.specs.StateBytes.{IsValid}
+use Rattle.enc_stream.specs.StateBytes.{IsValidState}
 use Rattle.upload_rules.specs.Store.{New, Upload, text_of, text_with, is_complete, accepted_count}
 use Rattle.upload_rules.specs.States.{state_of, transcoder_with}
 
 -- The record represents the upload.
-pub record Tells (x : IndexSet) (number : ℕ) (r : Record) (u : Upload) : Type 0 where
+pub record Represents (x : IndexSet) (number : ℕ) (r : Record) (u : Upload) : Type 0 where
   pub number_is : r.number ≡ number
   pub declared : r.declared ≡ u.declared
   pub accepted : r.accepted ≡ accepted_count u
@@ -25,16 +25,16 @@ abbrev pub IsShort : Record → Type 0
 IsShort r = length r.metadata.bytes.items ≤ MOST_METADATA
 
 -- The record represents the upload, its text has no unmappable character, and its state bytes can be unpacked.
-pub record Keeps (x : IndexSet) (number : ℕ) (r : Record) (u : Upload) : Type 0 where
-  pub tells : Tells x number r u
+pub record RepresentsValid (x : IndexSet) (number : ℕ) (r : Record) (u : Upload) : Type 0 where
+  pub represents : Represents x number r u
   pub encodable : (text_with x u [] (is_complete u)).fault ≡ None
-  pub valid : IsValid (transcoder_with x u [] (is_complete u))
+  pub valid : IsValidState (transcoder_with x u [] (is_complete u))
 
 -- The record represents the entry, or neither is there.
-abbrev pub TellsOf : IndexSet → Option (ℕ × Upload) → Option Record → Type 0
-TellsOf x None None = Unit {0}
-TellsOf x (Some entry) (Some r) = Tells x entry.0 r entry.1
-TellsOf x _ _ = ⊥
+abbrev pub RepresentsOf : IndexSet → Option (ℕ × Upload) → Option Record → Type 0
+RepresentsOf x None None = Unit {0}
+RepresentsOf x (Some entry) (Some r) = Represents x entry.0 r entry.1
+RepresentsOf x _ _ = ⊥
 
 -- The entry of an upload with its number.
 abbrev pub with_number : ℕ → Option Upload → Option (ℕ × Upload)
@@ -47,7 +47,7 @@ above n [] = None
 above n (entry ∷ entries) = if nat_lt n entry.0 then Some entry else above n entries
 
 -- The fields of a new upload are valid, whatever the index set.
-pub record IsWellFormed (new : New) : Type 0 where
+pub record IsValidNew (new : New) : Type 0 where
   pub no_utf16 : (new.to ≡ Utf16Be → ⊥) × (new.to ≡ Utf16Le → ⊥)
   pub short : length new.metadata ≤ MOST_METADATA
   pub printable : All (λ b. (0x20 ≤ b) × (b ≤ 0x7E)) new.metadata

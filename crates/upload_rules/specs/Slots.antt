@@ -1,19 +1,19 @@
 -- The slots of a table.
 use Rattle.std.specs.Prelude.{◌≡◌, ◌≤◌, ◌<◌, ℕ, List, [], ◌∷◌, None, map, length, slice_index}
 use Rattle.enc_model.specs.Indexes.{IndexSet}
-use Rattle.enc_stream.specs.StateBytes.{IsValid}
+use Rattle.enc_stream.specs.StateBytes.{IsValidState}
 use Rattle.upload_rules.specs.Store.{Upload, text_of, text_with, is_complete}
-use Rattle.upload_rules.specs.Records.{Tells}
+use Rattle.upload_rules.specs.Records.{Represents}
 use Rattle.upload_rules.specs.States.{transcoder_with}
 use Rattle.upload_rules.specs.declared.slot.Slot.{Slot}
 
 -- The slot's number.
-abbrev pub number_of : Slot → ℕ
-number_of s = s.record.number
+abbrev pub slot_number_of : Slot → ℕ
+slot_number_of s = s.record.number
 
 -- The numbers of the slots.
 abbrev pub numbers : List Slot → List ℕ
-numbers slots = map number_of slots
+numbers slots = map slot_number_of slots
 
 -- Each number is above those before it.
 abbrev pub IsRising : List ℕ → Type 0
@@ -40,14 +40,14 @@ abbrev pub IsNowhere : List ℕ → ℕ → Type 0
 IsNowhere ns n = (k : ℕ) → k < length ns → slice_index ns k ≡ n → ⊥
 
 -- The slot stands for the upload: its record represents it, and its text is stored.
-pub record SlotStands (x : IndexSet) (n : ℕ) (u : Upload) (s : Slot) : Type 0 where
-  pub tells : Tells x n s.record u
+pub record SlotRepresents (x : IndexSet) (n : ℕ) (u : Upload) (s : Slot) : Type 0 where
+  pub represents : Represents x n s.record u
   pub text : s.text.items ≡ text_of x u
   pub encodable : (text_with x u [] (is_complete u)).fault ≡ None
-  pub valid : IsValid (transcoder_with x u [] (is_complete u))
+  pub valid : IsValidState (transcoder_with x u [] (is_complete u))
 
 -- Each slot stands for its upload.
-abbrev pub AllStand : IndexSet → List (ℕ × Upload) → List Slot → Type 0
-AllStand x [] [] = Unit {0}
-AllStand x (entry ∷ entries) (s ∷ slots) = SlotStands x entry.0 entry.1 s × AllStand x entries slots
-AllStand x _ _ = ⊥
+abbrev pub AllRepresent : IndexSet → List (ℕ × Upload) → List Slot → Type 0
+AllRepresent x [] [] = Unit {0}
+AllRepresent x (entry ∷ entries) (s ∷ slots) = SlotRepresents x entry.0 entry.1 s × AllRepresent x entries slots
+AllRepresent x _ _ = ⊥

@@ -5,14 +5,14 @@ use Rattle.enc_model.specs.declared.Mode.{Mode}
 use Rattle.enc_model.specs.Encode.{Tables, InAscii}
 use Rattle.enc_model.specs.Indexes.{IndexSet, tables}
 use Rattle.enc_model.specs.Decode.{decoded}
-use Rattle.enc_model.specs.Transcode.{Transcoder, Phase, Over, phase_of, fed}
-use Rattle.enc_stream.specs.StateBytes.{IsValid, state_bytes}
+use Rattle.enc_model.specs.Transcode.{Transcoder, Phase, Over, phase_of, fed_text}
+use Rattle.enc_stream.specs.StateBytes.{IsValidState, state_bytes}
 use Rattle.upload_rules.specs.Store.{Origin, Upload, is_complete, text_from}
 
 -- The phase after these bytes, which come after an origin if there is one.
 abbrev pub phase_from : Tables → Option Origin → Encoding → List ℕ → Phase
 phase_from t None from bytes = phase_of (decoded t from bytes false)
-phase_from t (Some p) from bytes = (fed t from p.phase bytes).phase
+phase_from t (Some p) from bytes = (fed_text t from p.phase bytes).phase
 
 -- The transcoder after these bytes. `true` means that the bytes end there.
 abbrev pub transcoder_from : Tables → Option Origin → Encoding → Encoding → Mode → List ℕ → Bool → Transcoder
@@ -47,21 +47,21 @@ state_of x u = state_with x u [] (is_complete u)
 -- These are the state bytes of a valid transcoder.
 pub record IsState (state : List ℕ) : Type 0 where
   pub transcoder : Transcoder
-  pub valid : IsValid transcoder
+  pub valid : IsValidState transcoder
   pub is : state ≡ state_bytes transcoder
 
 -- The other transcoder has the encodings and the mode of these state bytes.
 pub record IsStateLike (state : List ℕ) (other : Transcoder) : Type 0 where
-  pub from : (s : Transcoder) → IsValid s → state ≡ state_bytes s → other.from ≡ s.from
-  pub to : (s : Transcoder) → IsValid s → state ≡ state_bytes s → other.to ≡ s.to
-  pub mode : (s : Transcoder) → IsValid s → state ≡ state_bytes s → other.mode ≡ s.mode
+  pub from : (s : Transcoder) → IsValidState s → state ≡ state_bytes s → other.from ≡ s.from
+  pub to : (s : Transcoder) → IsValidState s → state ≡ state_bytes s → other.to ≡ s.to
+  pub mode : (s : Transcoder) → IsValidState s → state ≡ state_bytes s → other.mode ≡ s.mode
 
 -- The two states have equal encodings and modes.
 pub record SameEncodings (old new : List ℕ) : Type 0 where
   pub before : Transcoder
   pub after : Transcoder
-  pub before_valid : IsValid before
-  pub after_valid : IsValid after
+  pub before_valid : IsValidState before
+  pub after_valid : IsValidState after
   pub was : old ≡ state_bytes before
   pub is : new ≡ state_bytes after
   pub from : after.from ≡ before.from

@@ -6,7 +6,7 @@ use Rattle.enc_model.specs.declared.Mode.{Mode}
 use Rattle.enc_model.specs.Encode.{Tables, Shift, Coded, led_by, coded, encoder, ended_coded}
 use Rattle.enc_model.specs.Indexes.{IndexSet, tables}
 use Rattle.enc_model.specs.Decode.{text}
-use Rattle.enc_model.specs.Transcode.{Phase, fed, fed_end}
+use Rattle.enc_model.specs.Transcode.{Phase, fed_text, fed_end}
 use Rattle.upload_rules.specs.Lengths.{is_length, known_or}
 
 -- The fields of a new upload.
@@ -96,8 +96,8 @@ patched u declare bytes = record (with_length u declare) { accepted = u.accepted
 
 -- The code points of bytes after an origin, and of the end if it is there.
 abbrev pub decoded_since : Tables → Encoding → Origin → List ℕ → Bool → List ℕ
-decoded_since t from p bytes false = (fed t from p.phase bytes).text
-decoded_since t from p bytes true = let r = fed t from p.phase bytes in r.text ++ fed_end t from r.phase
+decoded_since t from p bytes false = (fed_text t from p.phase bytes).text
+decoded_since t from p bytes true = let r = fed_text t from p.phase bytes in r.text ++ fed_end t from r.phase
 
 -- The text of an origin and of bytes after it.
 abbrev pub text_since : Tables → Encoding → Encoding → Mode → Origin → List ℕ → Bool → Coded

@@ -9,19 +9,19 @@ use Rattle.upload_rules.specs.World.{World}
 use Rattle.upload_rules.specs.Calls.{begin_refusal_at, first_patch}
 use Rattle.upload_rules.specs.Apart.{IsApart}
 use Rattle.upload_rules.specs.Grown.{IsGrown}
-use Rattle.upload_rules.specs.Slots.{numbers, IsRising, IsBelow, SlotStands, AllStand}
+use Rattle.upload_rules.specs.Slots.{numbers, IsRising, IsBelow, SlotRepresents, AllRepresent}
 use Rattle.upload_rules.specs.Drafts.{DraftOf, draft_at}
-use Rattle.upload_rules.specs.Appends.{AppendStands}
+use Rattle.upload_rules.specs.Appends.{AppendRepresents}
 use Rattle.upload_rules.specs.declared.table.Table.{Table}
 
 -- The table stands for the world.
-pub record TableStands (t : Table) (w : World) : Type 0 where
+pub record TableRepresents (t : Table) (w : World) : Type 0 where
   pub indexes : t.indexes ≡ w.store.indexes
   pub next : t.next ≡ w.store.next
-  pub slots : AllStand w.store.indexes w.store.uploads t.slots.items
+  pub slots : AllRepresent w.store.indexes w.store.uploads t.slots.items
   pub rising : IsRising (numbers t.slots.items)
   pub below : IsBelow (numbers t.slots.items) w.store.next
-  pub appends : (d : ℕ) → DraftOf (AppendStands w.store.indexes w.store.next) (find d w.patches)
+  pub appends : (d : ℕ) → DraftOf (AppendRepresents w.store.indexes w.store.next) (find d w.patches)
       (draft_at t.appends.items d)
   pub apart : IsApart w.patches
   pub grown : IsGrown w
@@ -30,7 +30,7 @@ pub record TableStands (t : Table) (w : World) : Type 0 where
 -- The slot stands for the upload, or neither is there.
 abbrev pub IsSlotOf : IndexSet → ℕ → Option Upload → Option Slot → Type 0
 IsSlotOf x n None None = Unit {0}
-IsSlotOf x n (Some u) (Some s) = SlotStands x n u s
+IsSlotOf x n (Some u) (Some s) = SlotRepresents x n u s
 IsSlotOf x n _ _ = ⊥
 
 -- The append of an upload, or the refusal of the rules.
@@ -38,5 +38,5 @@ abbrev pub IsOpened : World → ℕ → ℕ → ℕ → Option ℕ → Option Up
 IsOpened w n offset count declare None (Ok o) = ⊥
 IsOpened w n offset count declare (Some u) (Ok o) =
     (begin_refusal_at offset count declare (Some u) ≡ None)
-    × AppendStands w.store.indexes w.store.next (first_patch n count declare u) o
+    × AppendRepresents w.store.indexes w.store.next (first_patch n count declare u) o
 IsOpened w n offset count declare u (Err e) = begin_refusal_at offset count declare u ≡ Some e

@@ -2,8 +2,8 @@
 use Rattle.std.specs.Prelude.{◌≡◌, ℕ, Bool, true, false, List, [], ◌++◌, None, Result, Ok, Err, Vec}
 use Rattle.std.specs.declared.alloc.Global.{Global}
 use Rattle.enc_model.specs.Indexes.{IndexSet, tables}
-use Rattle.enc_stream.specs.Standing.{Standing}
-use Rattle.enc_stream.specs.StateBytes.{IsValid}
+use Rattle.enc_stream.specs.TranscoderState.{TranscoderState}
+use Rattle.enc_stream.specs.StateBytes.{IsValidState}
 use Rattle.upload_rules.specs.Store.{Upload, text_with, is_complete}
 use Rattle.upload_rules.specs.States.{IsStateLike, phase_from, transcoder_with, state_with}
 use Rattle.upload_rules.specs.World.{is_there}
@@ -15,7 +15,7 @@ use Rattle.upload_rules.specs.declared.new_text.NewText.{NewText}
 use Rattle.upload_rules.specs.declared.new_text.NewText.TheVariants.{Growing, Unencodable, Complete}
 
 -- The transcoder is in the state after the accepted bytes and these.
-pub record IsReading (x : IndexSet) (u : Upload) (bytes : List ℕ) (t : Standing) : Type 0 where
+pub record IsReading (x : IndexSet) (u : Upload) (bytes : List ℕ) (t : TranscoderState) : Type 0 where
   pub unspent : t.spent ≡ false
   pub from : t.transcoder.from ≡ u.from
   pub to : t.transcoder.to ≡ u.to
@@ -35,27 +35,27 @@ HoldsText x u bytes Unencodable = is_there (text_with x u bytes false).fault ≡
 HoldsText x u bytes Complete = is_complete u ≡ true
 
 -- If bytes may come, the encodings and the mode are those of these state bytes.
-abbrev pub GoesOn : List ℕ → NewText → Type 0
-GoesOn state (Growing t text) = IsStateLike state t.transcoder
-GoesOn state Unencodable = Unit {0}
-GoesOn state Complete = Unit {0}
+abbrev pub IsTextStateOf : List ℕ → NewText → Type 0
+IsTextStateOf state (Growing t text) = IsStateLike state t.transcoder
+IsTextStateOf state Unencodable = Unit {0}
+IsTextStateOf state Complete = Unit {0}
 
 -- Bytes may come.
-abbrev pub IsGrowing : NewText → Type 0
-IsGrowing (Growing t text) = Unit {0}
-IsGrowing Unencodable = ⊥
-IsGrowing Complete = ⊥
+abbrev pub IsGrowingText : NewText → Type 0
+IsGrowingText (Growing t text) = Unit {0}
+IsGrowingText Unencodable = ⊥
+IsGrowingText Complete = ⊥
 
 -- The text with the append's bytes has no unmappable character; these are its new part and its state.
-pub record IsWhole (x : IndexSet) (u : Upload) (bytes : List ℕ) (done : Bool) (state text : List ℕ) : Type 0 where
+pub record IsWholeAppend (x : IndexSet) (u : Upload) (bytes : List ℕ) (done : Bool) (state text : List ℕ) : Type 0 where
   pub state_is : state ≡ state_with x u bytes done
-  pub valid : IsValid (transcoder_with x u bytes done)
+  pub valid : IsValidState (transcoder_with x u bytes done)
   pub rest : IsRest x u bytes done text
   pub encodable : (text_with x u bytes done).fault ≡ None
 
 -- The result of an append's end.
 abbrev pub IsEnded : IndexSet → Upload → List ℕ → Bool → Result (List ℕ × Vec ℕ Global) UploadError → Type 0
-IsEnded x u bytes done (Ok parts) = IsWhole x u bytes done parts.0 parts.1.items
+IsEnded x u bytes done (Ok parts) = IsWholeAppend x u bytes done parts.0 parts.1.items
 IsEnded x u bytes done (Err (Stop NoMemory)) = Unit {0}
 IsEnded x u bytes done (Err (Refused refusals.Unencodable)) = is_there (text_with x u bytes done).fault ≡ true
 IsEnded x u bytes done (Err e) = ⊥

@@ -5,8 +5,8 @@ ghost use Rattle.std.specs.Prelude.{IsErrOf};
 ghost use Rattle.upload_rules.specs.Lengths.{is_length, is_new, known_or};
 ghost use Rattle.upload_rules.specs.Store.{Upload, with_length, is_complete};
 ghost use Rattle.upload_rules.specs.World.{Patch, reached};
-ghost use Rattle.upload_rules.specs.Slots.{SlotStands};
-ghost use Rattle.upload_rules.specs.Appends.{AppendStands, IsPut};
+ghost use Rattle.upload_rules.specs.Slots.{SlotRepresents};
+ghost use Rattle.upload_rules.specs.Appends.{AppendRepresents, IsCommitPut};
 
 use crate::UploadError;
 use crate::lengths::{is_length, is_new};
@@ -35,11 +35,11 @@ pub(crate) struct OpenAppend {
 impl OpenAppend {
     /// Takes a piece of the body. Out of memory, the append is unchanged.
     pub(crate) fn feed(&mut self, indexes: &IndexSet, piece: &[u8]) -> Result<(), AllocError>
-        ensures ok { (next : ℕ) (p : Patch) → AppendStands indexes.now next p self.old
+        ensures ok { (next : ℕ) (p : Patch) → AppendRepresents indexes.now next p self.old
             → length p.body + length piece.now ≤ p.count
-            → OnOk result (AppendStands indexes.now next (record p { body = p.body ++ piece.now }) self.new) }
-        ensures err { (next : ℕ) (p : Patch) → AppendStands indexes.now next p self.old
-            → OnErr result (AppendStands indexes.now next p self.new) }
+            → OnOk result (AppendRepresents indexes.now next (record p { body = p.body ++ piece.now }) self.new) }
+        ensures err { (next : ℕ) (p : Patch) → AppendRepresents indexes.now next p self.old
+            → OnErr result (AppendRepresents indexes.now next p self.new) }
     {
         let text = mem::replace(&mut self.text, NewText::Unencodable);
         let (text, outcome) = text.with(indexes, piece);
@@ -63,10 +63,10 @@ impl OpenAppend {
         declared: Option<u64>,
         indexes: &IndexSet,
     ) -> Result<u64, UploadError>
-        ensures put { (next : ℕ) (p : Patch) (u : Upload) → AppendStands indexes.now next p self
+        ensures put { (next : ℕ) (p : Patch) (u : Upload) → AppendRepresents indexes.now next p self
             → (length : Option ℕ) × (u ≡ with_length p.began length) → is_complete u ≡ false
-            → declared ≡ known_or u.declared p.declare → SlotStands indexes.now p.number u slot.old
-            → IsPut indexes.now p u (is_length declared (reached p)) slot.new result }
+            → declared ≡ known_or u.declared p.declare → SlotRepresents indexes.now p.number u slot.old
+            → IsCommitPut indexes.now p u (is_length declared (reached p)) slot.new result }
         ensures no_disk_fault { IsErrOf result (UploadError.Stop Stop.DiskFault) → ⊥ }
     {
         let OpenAppend {

@@ -31,21 +31,21 @@ pub enum NewText {
 }
 
 impl NewText {
-    ghost use Rattle.upload_rules.specs.Texts.{GoesOn, HoldsText, IsEnded, IsGrowing};
-    ghost use Rattle.upload_rules.specs.Records.{Tells};
+    ghost use Rattle.upload_rules.specs.Texts.{IsTextStateOf, HoldsText, IsEnded, IsGrowingText};
+    ghost use Rattle.upload_rules.specs.Records.{Represents};
     ghost use Rattle.upload_rules.specs.States.{IsState, SameEncodings, transcoder_with};
-    ghost use Rattle.enc_stream.specs.StateBytes.{IsValid};
+    ghost use Rattle.enc_stream.specs.StateBytes.{IsValidState};
 
     /// Nothing yet, for an append to this upload. None if the record's state bytes aren't a state.
     pub fn after(alloc: Global, upload: &Record) -> Option<Self>
-        ensures holds { (x : Indexes) (n : ℕ) (u : Upload) → Tells x n upload.now u
+        ensures holds { (x : Indexes) (n : ℕ) (u : Upload) → Represents x n upload.now u
             → (text_with x u [] (is_complete u)).fault ≡ None
-            → IsValid (transcoder_with x u [] (is_complete u)) → MatchOption result ⊥ (HoldsText x u []) }
+            → IsValidState (transcoder_with x u [] (is_complete u)) → MatchOption result ⊥ (HoldsText x u []) }
 
         // These hold of any record, even if it represents no upload.
-        ensures goes_on { IfSome result (GoesOn upload.now.state) }
+        ensures goes_on { IfSome result (IsTextStateOf upload.now.state) }
         ensures room { IfSome result
-            (λ text. IsGrowing text → is_length upload.now.declared upload.now.accepted ≡ false) }
+            (λ text. IsGrowingText text → is_length upload.now.declared upload.now.accepted ≡ false) }
     {
         if is_length(upload.declared, upload.accepted) {
             return Some(NewText::Complete);
@@ -62,8 +62,8 @@ impl NewText {
             → OnOk result.1 (HoldsText indexes.now u (bytes ++ piece.now) result.0) }
         ensures err { (u : Upload) (bytes : List ℕ) → HoldsText indexes.now u bytes self
             → OnErr result.1 (HoldsText indexes.now u bytes result.0) }
-        ensures goes_on { (state : List ℕ) → GoesOn state self → GoesOn state result.0 }
-        ensures growing { IsGrowing result.0 → IsGrowing self }
+        ensures goes_on { (state : List ℕ) → IsTextStateOf state self → IsTextStateOf state result.0 }
+        ensures growing { IsGrowingText result.0 → IsGrowingText self }
     {
         match self {
             NewText::Unencodable => (NewText::Unencodable, Ok(())),
@@ -105,9 +105,9 @@ impl NewText {
     ) -> Result<([u8; 32], Vec<u8>), UploadError>
         ensures ended { (u : Upload) (bytes : List ℕ) → HoldsText indexes.now u bytes self → is_complete u ≡ false
             → IsEnded indexes.now u bytes completes result }
-        ensures same { (state : List ℕ) → IsState state → GoesOn state self
+        ensures same { (state : List ℕ) → IsState state → IsTextStateOf state self
             → IfOk result (λ end. SameEncodings state end.0) }
-        ensures growing { IsOk result → IsGrowing self }
+        ensures growing { IsOk result → IsGrowingText self }
         ensures no_disk_fault { IsErrOf result (UploadError.Stop Stop.DiskFault) → ⊥ }
         ensures refusal { (e : Refusal) → IsErrOf result (UploadError.Refused e) → e ≡ UploadRefusal.Unencodable }
     {

@@ -2,7 +2,7 @@
 
 ghost use Rattle.std.specs.Prelude.{◌≡◌, ◌≤◌, ◌<◌, ◌+◌, ◌^◌, ℕ, false, IsOk, None, Some, MatchResult};
 ghost use Rattle.enc_model.specs.Indexes.{IndexSet};
-ghost use Rattle.enc_stream.specs.Standing.{IsOutput};
+ghost use Rattle.enc_stream.specs.TranscoderState.{IsOutput};
 ghost use Rattle.upload_rules.specs.Calls.{begin_refusal_at};
 ghost use Rattle.upload_rules.specs.Lengths.{is_too_large, known_or, longest};
 ghost use Rattle.upload_rules.specs.Store.{New as Fields, Upload, new_upload};
@@ -60,12 +60,12 @@ impl Model for New {
 }
 
 impl Record {
-    ghost use Rattle.upload_rules.specs.Records.{Keeps, Tells};
+    ghost use Rattle.upload_rules.specs.Records.{RepresentsValid, Represents};
 
     /// The record of a new upload. One of length 0 is complete at once.
     pub fn first(number: u64, fields: New) -> Record
         requires { IsOutput fields.to }
-        ensures kept { (x : IndexSet) → Keeps x number result (new_upload fields) }
+        ensures valid { (x : IndexSet) → RepresentsValid x number result (new_upload fields) }
         ensures metadata { result.metadata.bytes.items ≡ fields.metadata }
     {
         let New {
@@ -103,7 +103,7 @@ impl Record {
             × (offset + count ≤ longest (known_or self.now.declared declare))
             × (longest (known_or self.now.declared declare) < 2 ^ 64) }
         ensures small { IsOk result → is_too_large declare ≡ false }
-        ensures rules { (x : IndexSet) (n : ℕ) (u : Upload) → Tells x n self.now u
+        ensures rules { (x : IndexSet) (n : ℕ) (u : Upload) → Represents x n self.now u
             → MatchResult result (λ _. begin_refusal_at offset count declare (Some u) ≡ None)
             (λ e. begin_refusal_at offset count declare (Some u) ≡ Some e) }
     {

@@ -35,11 +35,11 @@ impl Table {
     ghost use Rattle.std.specs.Prelude.{◌≡◌, None, MatchOption, MatchResult, option_copied};
     ghost use Rattle.upload_rules.specs.Store.{no_uploads, upload_of};
     ghost use Rattle.upload_rules.specs.World.{World, at_rest};
-    ghost use Rattle.upload_rules.specs.Table.{TableStands, IsSlotOf, IsOpened};
+    ghost use Rattle.upload_rules.specs.Table.{TableRepresents, IsSlotOf, IsOpened};
 
     /// A table without uploads.
     pub fn new(alloc: Global, indexes: IndexSet) -> Self
-        ensures { TableStands result (at_rest (no_uploads indexes) None) }
+        ensures { TableRepresents result (at_rest (no_uploads indexes) None) }
     {
         Table {
             alloc,
@@ -52,7 +52,7 @@ impl Table {
 
     /// The slot of this number.
     fn slot(&self, number: u64) -> Option<&Slot>
-        ensures { (w : World) → TableStands self.now w → IsSlotOf w.store.indexes number (upload_of w.store number)
+        ensures { (w : World) → TableRepresents self.now w → IsSlotOf w.store.indexes number (upload_of w.store number)
             (option_copied result) }
     {
         let place = place_of(&self.slots, number)?;
@@ -67,7 +67,7 @@ impl Table {
         count: u64,
         declare: Option<u64>,
     ) -> Result<OpenAppend, UploadRefusal>
-        ensures { (w : World) → TableStands self.now w
+        ensures { (w : World) → TableRepresents self.now w
             → IsOpened w number offset count declare (upload_of w.store number) result }
     {
         let Some(slot) = self.slot(number) else {
@@ -88,12 +88,12 @@ impl Table {
 }
 
 impl Uploads for Table {
-    ghost use Rattle.upload_rules.specs.Table.{TableStands};
+    ghost use Rattle.upload_rules.specs.Table.{TableRepresents};
     ghost use Rattle.upload_rules.specs.Numbers.{upload_below};
 
     type Draft = TableDraft;
 
-    ghost stands = { λ t sure w. TableStands t w };
+    ghost represents = { λ t sure w. TableRepresents t w };
 
     ghost number_of = { λ d. d.number };
 
@@ -105,9 +105,9 @@ impl Uploads for Table {
 
     ghost failures = { λ t. 0 };
 
-    ghost below = { λ t sure w number u stands there. upload_below t w stands number u there };
+    ghost below = { λ t sure w number u represents there. upload_below t w represents number u there };
 
-    ghost durable = { λ t w ms stands among. tt };
+    ghost durable = { λ t w ms represents among. tt };
 
     fn record(&self, number: u64) -> Option<&Record> {
         Some(&self.slot(number)?.record)

@@ -40,7 +40,7 @@ module _ (order : List NumberedSlot) (place n : ℕ) (rises : Rises order) (with
   pub without_number : IsWithout order n (remove order place)
   without_number = record {
     rises = rises_on;
-    kept = λ m s other l. elim (cases_lt l.place place) [
+    preserved = λ m s other l. elim (cases_lt l.place place) [
       | inl before ↦ search (arith, common_steps)
       | inr from ↦ elim (cases_eq l.place place) [
         | inl same ↦ absurd (other (sym (num l.here) ∙ ap (number_at order) same ∙ here))

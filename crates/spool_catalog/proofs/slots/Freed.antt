@@ -19,7 +19,7 @@ module _ (slot : ℕ) (old new : List Row) (frees : FreesRows slot old new) wher
     size = frees.size;
     listed = λ i lt. absurd (omega (arith, lt));
     freed = λ b k not from owns. frees.freed b k owns;
-    kept = λ b not none. frees.kept b (λ k owns. none k (omega arith) owns);
+    preserved = λ b not none. frees.preserved b (λ k owns. none k (omega arith) owns);
   }
 
   nobody : Unowned old []

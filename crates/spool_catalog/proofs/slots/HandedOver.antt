@@ -38,8 +38,8 @@ module _ (list more : List ℕ) (first : ℕ) (low : first ≤ length list) wher
 module _ (old : List Row) (slot first : ℕ) (more : List ℕ) (new : List Row) (hands : HandsOver old slot first more new)
     (no_owner : Unowned old more) where
   -- and keeps its row, but for the slot's last ones
-  keeps : (b s i : ℕ) → Owns old b s i → (s ≡ slot → i < first) → Owns new b s i
-  keeps b s i owns low = search (arith, common_steps)
+  preserves : (b s i : ℕ) → Owns old b s i → (s ≡ slot → i < first) → Owns new b s i
+  preserves b s i owns low = search (arith, common_steps)
 
   -- each row was handed over, or was there
   pub row_was : (b s i : ℕ) → Owns new b s i
@@ -62,7 +62,7 @@ module _ (old : List Row) (slot first : ℕ) (more : List ℕ) (new : List Row) 
       ]
 
       by_row : IsOut more b → (o : Row) → get_or old b None ≡ o → Owns old b s i × (s ≡ slot → i < first)
-      by_row not None e = clash (hands.kept b not (λ k from own. clash e own) ∙ e) owns
+      by_row not None e = clash (hands.preserved b not (λ k from own. clash e own) ∙ e) owns
       by_row not (Some o) e =
           let stays : (o.0 ≢ slot) ⊎ (o.1 < first) = low_or not o.0 o.1 e in
           let same : get_or new b None ≡ get_or old b None = search (arith, common_steps) in
@@ -71,7 +71,7 @@ module _ (old : List Row) (slot first : ℕ) (more : List ℕ) (new : List Row) 
           (was, λ mine. elim stays [ inl other ↦ absurd (other (sym is.0 ∙ mine)) | inr lt ↦ omega (arith, lt, is.1) ])
 
   pub others_same : SameOthers slot old new
-  others_same = grind (arith, common_steps, keeps, row_was)
+  others_same = grind (arith, common_steps, preserves, row_was)
 
   once_still : ((a b i : ℕ) → Owns old a slot i → Owns old b slot i → a ≡ b) → (a b i : ℕ) → Owns new a slot i
       → Owns new b slot i → a ≡ b
@@ -91,7 +91,7 @@ module _ (old : List Row) (slot first : ℕ) (more : List ℕ) (new : List Row) 
   owns_one_each n low one = record {
     there = λ i lt. elim (cases_lt i first) [
       | inl before ↦ let own = one.there i
-          (omega (arith, before, low)) in (own.0, keeps own.0 slot i own.1 (λ same. before))
+          (omega (arith, before, low)) in (own.0, preserves own.0 slot i own.1 (λ same. before))
       | inr from ↦
           let at : first + (i - first) ≡ i = omega (arith, from) in (
             get_or more (i - first) 0,
@@ -138,7 +138,7 @@ module _ (old : List Row) (slot first : ℕ) (more : List ℕ) (new : List Row) 
       → ((b : ℕ) → IsOut changed b → IsOut more b)
       → ((i : ℕ) → first ≤ i → i < n → (k : ℕ) × (k < length changed) × (get_or changed k 0 ≡ get_or list i 0))
       → SameRowsBut changed old new
-  rows_but n list changed one listed size covers tail b not = hands.kept b (covers b not) (λ k from owns.
+  rows_but n list changed one listed size covers tail b not = hands.preserved b (covers b not) (λ k from owns.
       let lt = one.only b k owns in
       let at = tail k from lt in
       not at.0 at.1 (at.2 ∙ listed.once (get_or list k 0) b k (listed.owned k (omega (arith, lt, size))) owns))

@@ -8,9 +8,9 @@ use Rattle.common.specs.declared.limits.TheConstants.{SLOTS}
 use Rattle.upload_rules.specs.Store.{Store}
 use Rattle.spool_pages.specs.View.{SlotRecord, View}
 use Rattle.spool_catalog.specs.declared.order.NumberedSlot.{NumberedSlot}
-use Rattle.spool_catalog.specs.Holding.{Holding, FitsTogether, Lists, Orders, numbered, number_at}
+use Rattle.spool_catalog.specs.Holding.{Holding, FitsTogether, IsListedAt, Orders, numbered, number_at}
 use Rattle.spool_catalog.specs.TakenIn.{HasRoomAt}
-use Rattle.spool_catalog.specs.Kept.{KeepsView}
+use Rattle.spool_catalog.specs.Catalog.{HasView}
 use Rattle.spool_catalog.specs.Shows.{Shows}
 use Rattle.spool_catalog.proofs.Answered.{listed}
 use Rattle.spool_catalog.proofs.numbers.Entries.{length-numbers, found_at as number_found}
@@ -48,7 +48,7 @@ all_listed slots order orders full = pigeons SLOTS (length order) (λ s i. (get_
     at s lt (Some r) e some = let l = orders.all s r lt e in
         (l.place, l.below, ap (λ (p : NumberedSlot). p.slot) l.here)
 
-module _ {h : Holding} {v : View} {m : Store} (kept : KeepsView h v) (shows : Shows v m) where
+module _ {h : Holding} {v : View} {m : Store} (catalog : HasView h v) (shows : Shows v m) where
   pub not_more : length h.order ≤ length m.uploads
   not_more = rw (length-numbers m.uploads) at (pigeons (length h.order) (length (numbers m.uploads))
       (λ i j. (i < length h.order) × (slice_index (numbers m.uploads) j ≡ number_at h.order i)) (λ i lt. at i lt) one)
@@ -56,17 +56,17 @@ module _ {h : Holding} {v : View} {m : Store} (kept : KeepsView h v) (shows : Sh
       at : (i : ℕ) → i < length h.order → (j : ℕ) × (j < length (numbers m.uploads))
           × ((i < length h.order) × (slice_index (numbers m.uploads) j ≡ number_at h.order i))
       at i lt =
-          let l : Lists h.order (get_or h.order i (numbered 0 0)).number (get_or h.order i (numbered 0 0)).slot =
+          let l : IsListedAt h.order (get_or h.order i (numbered 0 0)).number (get_or h.order i (numbered 0 0)).slot =
           record { place = i; below = lt; here = refl } in
-          let used = kept.ordered.names (get_or h.order i (numbered 0 0)).number
+          let used = catalog.ordered.names (get_or h.order i (numbered 0 0)).number
           (get_or h.order i (numbered 0 0)).slot l in
-          let told = shows.told (get_or h.order i (numbered 0 0)).slot used.used used.there in
-          let place = found_at m.uploads used.used.number told.upload told.there in
+          let recorded = shows.recorded (get_or h.order i (numbered 0 0)).slot used.used used.there in
+          let place = found_at m.uploads used.used.number recorded.upload recorded.there in
           (place.0, place.1, (lt, place.2 ∙ used.is))
 
       one : (a b j : ℕ) → (a < length h.order) × (slice_index (numbers m.uploads) j ≡ number_at h.order a)
           → (b < length h.order) × (slice_index (numbers m.uploads) j ≡ number_at h.order b) → a ≡ b
-      one a b j p q = one_place (number_at h.order) (length h.order) kept.ordered.rises a b p.0 q.0 (sym p.1 ∙ q.1)
+      one a b j p q = one_place (number_at h.order) (length h.order) catalog.ordered.rises a b p.0 q.0 (sym p.1 ∙ q.1)
 
   pub not_fewer : length m.uploads ≤ length h.order
   not_fewer = rw (length-numbers m.uploads) at (pigeons (length (numbers m.uploads)) (length h.order) (λ i j. (i <
@@ -76,7 +76,7 @@ module _ {h : Holding} {v : View} {m : Store} (kept : KeepsView h v) (shows : Sh
           × ((i < length (numbers m.uploads)) × (number_at h.order j ≡ slice_index (numbers m.uploads) i))
       at i lt =
           let found = number_found m.uploads i (omega (arith, lt, length-numbers m.uploads)) in
-          let place = listed kept shows (slice_index (numbers m.uploads) i) found.0 found.1 in
+          let place = listed catalog shows (slice_index (numbers m.uploads) i) found.0 found.1 in
           (place.0, place.1, (lt, place.2))
 
       one : (a b j : ℕ) → (a < length (numbers m.uploads)) × (number_at h.order j ≡ slice_index (numbers m.uploads) a)
@@ -98,10 +98,10 @@ room_at h slots fits same next X (Some s) e = record {
 
 module _ (h : Holding) (slots : List (Option SlotRecord)) (fits : FitsTogether h) (same : slots ≡ h.slots)
     (room : length h.order < SLOTS) where
-  pub few_at : {v : View} {m : Store} → KeepsView h v → Shows v m → (P : ℕ → Type 0) (o : Option ℕ)
+  pub few_at : {v : View} {m : Store} → HasView h v → Shows v m → (P : ℕ → Type 0) (o : Option ℕ)
       → MatchOption o ((s : ℕ) → s < SLOTS → IsSome (get_or slots s None)) P
       → MatchOption o ((SLOTS ≤ length m.uploads) ⊎ (10 ^ 18 ≤ m.next)) (λ s. length m.uploads < SLOTS)
-  few_at kept shows P None all =
+  few_at catalog shows P None all =
       let full = all_listed h.slots h.order fits.ordered (λ s lt. rw same at (all s lt)) in
       absurd (omega (arith, full, room))
-  few_at kept shows P (Some s) e = let le = not_fewer kept shows in omega (arith, le, room)
+  few_at catalog shows P (Some s) e = let le = not_fewer catalog shows in omega (arith, le, room)

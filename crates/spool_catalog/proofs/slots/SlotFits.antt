@@ -10,7 +10,7 @@ use Rattle.spool_pages.specs.Fits.{FitsRow}
 use Rattle.spool_pages.specs.View.{SlotRecord}
 use Rattle.spool_catalog.specs.declared.order.NumberedSlot.{NumberedSlot}
 use Rattle.spool_catalog.specs.Rows.{SameOthers}
-use Rattle.spool_catalog.specs.Holding.{AreListsTo, FitsTogether, Holding, IsListOf, Lists, Orders, Rises}
+use Rattle.spool_catalog.specs.Holding.{AreListsTo, FitsTogether, Holding, IsListOf, IsListedAt, Orders, Rises}
 use Rattle.spool_catalog.proofs.slots.ChangedSlots.{slot_else, slot_here, slot_is}
 
 -- rows that stay are the other slots'
@@ -27,10 +27,10 @@ list_stays slot old new others s other (Some r) list is =
 -- the slot's number is listed where it has a record; the other slots are listed as they were
 pub record IsReordered (slot n : ℕ) (o : Option SlotRecord) (old new : List NumberedSlot) : Type 0 where
   pub rises : Rises new
-  pub there : (r : SlotRecord) → o ≡ Some r → Lists new n slot
-  pub kept : (k s : ℕ) → s ≢ slot → Lists old k s → Lists new k s
-  pub only : (k s : ℕ) → Lists new k s
-      → ((s ≢ slot) × Lists old k s) ⊎ ((k ≡ n) × (s ≡ slot) × ((r : SlotRecord) × (o ≡ Some r)))
+  pub there : (r : SlotRecord) → o ≡ Some r → IsListedAt new n slot
+  pub preserved : (k s : ℕ) → s ≢ slot → IsListedAt old k s → IsListedAt new k s
+  pub only : (k s : ℕ) → IsListedAt new k s
+      → ((s ≢ slot) × IsListedAt old k s) ⊎ ((k ≡ n) × (s ≡ slot) × ((r : SlotRecord) × (o ≡ Some r)))
 
 module _ (h : Holding) (fits : FitsTogether h) (slot n : ℕ) (o : Option SlotRecord) (few : slot < SLOTS) (next : ℕ)
     (more : h.next ≤ next) (numbered : (r : SlotRecord) → o ≡ Some r → (r.number ≡ n) × (n < next))
@@ -57,7 +57,7 @@ module _ (h : Holding) (fits : FitsTogether h) (slot n : ℕ) (o : Option SlotRe
     ];
     all = λ s q lt e. elim (slot_is h.slots slot o s q inside e) [
       | inl here ↦ rw (here.0, (numbered q here.1).0) (entries.there q here.1)
-      | inr was ↦ entries.kept q.number s was.0 (fits.ordered.all s q lt was.1)
+      | inr was ↦ entries.preserved q.number s was.0 (fits.ordered.all s q lt was.1)
     ];
   }
 

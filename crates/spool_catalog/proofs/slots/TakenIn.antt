@@ -6,12 +6,12 @@ use Rattle.std.proofs.lemmas.Option.{same_Some}
 use Rattle.spool_pages.specs.View.{SlotRecord}
 use Rattle.spool_catalog.specs.TakenIn.{HasRoomAt}
 use Rattle.spool_catalog.specs.declared.order.NumberedSlot.{NumberedSlot}
-use Rattle.spool_catalog.specs.Holding.{Holding, FitsTogether, IsAdded, Lists}
+use Rattle.spool_catalog.specs.Holding.{Holding, FitsTogether, IsAdded, IsListedAt}
 use Rattle.spool_catalog.proofs.slots.SlotFits.{same_others}
 use Rattle.spool_catalog.proofs.slots.SlotFits.{changed_fits}
 
 -- the next number is none of those in use
-pub next_free : (h : Holding) → FitsTogether h → (s : ℕ) → Lists h.order h.next s → ⊥
+pub next_free : (h : Holding) → FitsTogether h → (s : ℕ) → IsListedAt h.order h.next s → ⊥
 next_free h fits s l =
     let used = fits.ordered.names h.next s l in
     omega (arith, fits.below s used.used used.there, used.is)
@@ -26,7 +26,7 @@ taken_fits h slot r fits room number no_text order is =
     record {
       rises = is.rises;
       there = λ q e. is.there;
-      kept = λ k s other. is.kept k s;
+      preserved = λ k s other. is.preserved k s;
       only = λ k s l. elim (is.only k s l) [
         | inl old ↦ search (arith, common_steps)
         | inr this ↦ inr (this.0, this.1, (r, refl))

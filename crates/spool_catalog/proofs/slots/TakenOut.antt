@@ -12,7 +12,7 @@ use Rattle.spool_catalog.specs.TakenOut.{IsWithout}
 use Rattle.spool_catalog.proofs.slots.Freed.{others_stay, rows_still_fit}
 use Rattle.spool_catalog.proofs.numbers.Ordered.{orders_distinct}
 use Rattle.spool_catalog.proofs.slots.SlotFits.{changed_fits}
-use Rattle.spool_catalog.proofs.slots.LongerKept.{slot_few}
+use Rattle.spool_catalog.proofs.slots.LongerInCatalog.{slot_few}
 
 module _ (h : Holding) (slot number : ℕ) (fits : FitsTogether h) (used : IsUsedBy h.slots slot number) where
   pub slot_below : slot < SLOTS
@@ -40,9 +40,9 @@ module _ (h : Holding) (slot number : ℕ) (fits : FitsTogether h) (used : IsUse
       record {
         rises = is.rises;
         there = λ q e. absurd cc;
-        kept = λ k s other l.
+        preserved = λ k s other l.
             let u = fits.ordered.names k s l in
-            is.kept k s (λ same. other (only_there s u.used u.there (u.is ∙ same))) l;
+            is.preserved k s (λ same. other (only_there s u.used u.there (u.is ∙ same))) l;
         only = search (arith, common_steps);
       } blocks frees.size (others_stay slot h.blocks.rows blocks.rows frees)
       (rows_still_fit slot h.blocks.rows blocks.rows frees slot_below fits.rows_fit) (set h.lists slot [])

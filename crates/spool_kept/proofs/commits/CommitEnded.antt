@@ -9,8 +9,8 @@ use Rattle.spool_disk.specs.declared.disk.Disk.{Ghosts}
 use Rattle.spool_disk.specs.Views.{Lasts}
 use Rattle.spool_disk.proofs.Firm.{lasts_more}
 use Rattle.spool_journal.specs.Image.{journal_pages, text_page}
-use Rattle.spool_drafts.specs.Drafts.{EndsAs, EndsAfter, Holds, Carries, IsPlaced, IsWhole, committed_len_of, list_of}
-use Rattle.spool_drafts.specs.Drafts.{KeepsTail, offset_of, came_of, open_text}
+use Rattle.spool_drafts.specs.Drafts.{EndsAs, EndsAfter, Holds, Carries, IsTailPlaced, IsWholeDraft, committed_len_of, list_of}
+use Rattle.spool_drafts.specs.Drafts.{PreservesTail, offset_of, appended_count, open_text}
 use Rattle.spool_drafts.specs.Effect.{Effect, RunsShort}
 use Rattle.spool_drafts.specs.declared.draft.DraftEnd.{DraftEnd}
 use Rattle.spool_drafts.specs.declared.draft.SpoolDraft.{SpoolDraft}
@@ -30,7 +30,7 @@ use Rattle.upload_rules.specs.declared.errors.UploadError.TheVariants.{Stop, Ref
 use Rattle.common.specs.declared.stop.Stop.TheVariants.{NoMemory, DiskFault}
 use Rattle.upload_rules.specs.declared.errors.UploadRefusal.TheVariants as refusals
 use Rattle.spool_kept.specs.Committing.{HasSameCount, IsCommit, IsFound}
-use Rattle.spool_kept.specs.Drafting.{DraftsHold, DraftStands, OnlyReserves}
+use Rattle.spool_kept.specs.Drafting.{DraftsHold, DraftRepresents, OnlyReserves}
 use Rattle.spool_kept.specs.Extending.{IsPending}
 use Rattle.spool_catalog.specs.Longer.{MayExtend}
 use Rattle.spool_catalog.specs.Holding.{Holding}
@@ -38,7 +38,7 @@ use Rattle.spool_catalog.specs.Shows.{ImageShows, IsRecordOf}
 use Rattle.spool_kept.specs.Stored.{Stored}
 use Rattle.spool_kept.specs.declared.committing.Found.{Found}
 use Rattle.spool_catalog.specs.declared.longer.Longer.{Longer}
-use Rattle.spool_kept.proofs.slots.SlotChange.{told_upload}
+use Rattle.spool_kept.proofs.slots.SlotChange.{recorded_upload}
 use Rattle.spool_kept.proofs.commits.CommitRefusals as rules
 use Rattle.spool_kept.proofs.commits.CommitTexts as texts
 use Rattle.spool_kept.proofs.drafts.DraftLonger.{WentOn, fit_longer, holds_all, lacks, moved, put_on}
@@ -50,10 +50,10 @@ pub only_blocks : (h : Holding) (blocks : Held) → blocks.rows ≡ h.blocks.row
 only_blocks h blocks rows = record { same = refl; rows = rows }
 
 -- the same of what is kept, told otherwise
-pub on_kept : {D : Type 0} {sure : Bool} {disk : Ghosts D} {d : D} {h k : Holding} {drafts : List (Option SpoolDraft)}
+pub on_unchanged : {D : Type 0} {sure : Bool} {disk : Ghosts D} {d : D} {h k : Holding} {drafts : List (Option SpoolDraft)}
     {number : ℕ} {o : SpoolDraft} {w : World} {p : Patch} → k ≡ h → IsCommit sure disk d h drafts number o w p
     → IsCommit sure disk d k drafts number o w p
-on_kept same is = rw same is
+on_unchanged same is = rw same is
 
 -- the slot's upload may become what the text of a draft that is after it ends in
 pub may : (h : Holding) (slot : ℕ) (declared : Option ℕ) (accepted : ℕ) (list : List ℕ) (end : DraftEnd)
@@ -69,7 +69,7 @@ may h slot declared accepted list end used there ends = search (arith, common_st
 
 -- what the draft began after is placed as it was
 pub placed_still : (n : ℕ) (o o' : SpoolDraft) → committed_len_of o' ≡ committed_len_of o
-    → KeepsTail o o' → IsPlaced n o → IsPlaced n o'
+    → PreservesTail o o' → IsTailPlaced n o → IsTailPlaced n o'
 placed_still n o o' len (inl same) is = search (arith, common_steps)
 placed_still n o o' len (inr none) is = record {
   below = λ i lt. absurd (omega (arith, lt, ap length none.0));
@@ -81,7 +81,7 @@ module _ {D : Type 0} {sure : Bool} {disk : Ghosts D} {d d' : D} {h h' : Holding
     (is : IsCommit sure disk d h drafts number o w p)
     (effect : Effect disk (journal_pages h.layout) (list_of o) (list_of o') d d' h.blocks h'.blocks) where
   abbrev s : Stored sure disk d h w.store
-  s = is.stands.stored
+  s = is.represents.stored
 
   unowned : Unowned s.view.rows effect.own
   unowned i lt = cc (effect.grasp.reserved.no_owner i lt)
@@ -95,16 +95,16 @@ module _ {D : Type 0} {sure : Bool} {disk : Ghosts D} {d d' : D} {h h' : Holding
   pub quiet_after : sure ≡ true → Lasts disk d d' (λ image. ImageShows h.layout image w.store)
   quiet_after known = lasts_more (effect.writes (s.honest known)).lasts (λ image is'. record {
     view = s.view;
-    blocks = sym s.keeps.blocks;
-    is = rests_aside effect.own image (sym s.keeps.blocks) (s.rests known) unowned is';
+    blocks = sym s.has_view.blocks;
+    is = rests_aside effect.own image (sym s.has_view.blocks) (s.rests known) unowned is';
     shows = s.shows;
   })
 
   -- THE DRAFT
 
-  own_draft : DraftStands (sure ≡ true) w.store.indexes (disk.current d) (text_page h.layout) h.slots h.blocks.rows
+  own_draft : DraftRepresents (sure ≡ true) w.store.indexes (disk.current d) (text_page h.layout) h.slots h.blocks.rows
       w.store p o
-  own_draft = head.own_draft (record { stands = is.stands; patch = is.patch; here = is.here })
+  own_draft = head.own_draft (record { represents = is.represents; patch = is.patch; here = is.here })
 
   held : Holds w.store.indexes p o
   held = own_draft.holds
@@ -115,17 +115,17 @@ module _ {D : Type 0} {sure : Bool} {disk : Ghosts D} {d d' : D} {h h' : Holding
     has = finds.same
 
     there : get_or s.view.slots found.slot None ≡ Some finds.same.used
-    there = ap (λ (xs : List (Option SlotRecord)). get_or xs found.slot None) (sym s.keeps.slots) ∙ has.there
+    there = ap (λ (xs : List (Option SlotRecord)). get_or xs found.slot None) (sym s.has_view.slots) ∙ has.there
 
-    told : IsRecordOf w.store.indexes finds.same.used (s.view.texts found.slot) (with_length p.began is.still.0)
-    told = told_upload s.view w.store s.shows found.slot has.used there (with_length p.began is.still.0)
+    recorded : IsRecordOf w.store.indexes finds.same.used (s.view.texts found.slot) (with_length p.began is.still.0)
+    recorded = recorded_upload s.view w.store s.shows found.slot has.used there (with_length p.began is.still.0)
         (ap (λ (k : ℕ). find k w.store.uploads) (has.number ∙ held.number) ∙ is.still.1)
 
     -- its length then
     declared_is : found.declared ≡ known_or (known_or p.began.declared is.still.0) p.declare
-    declared_is = rw (finds.declared, told.declared, held.declare) refl
+    declared_is = rw (finds.declared, recorded.declared, held.declare) refl
 
-    reached_is : offset_of o + came_of o ≡ reached p
+    reached_is : offset_of o + appended_count o ≡ reached p
     reached_is = omega (arith, held.offset, held.came)
 
     within : reached p ≤ longest (known_or (known_or p.began.declared is.still.0) p.declare)
@@ -138,7 +138,7 @@ module _ {D : Type 0} {sure : Bool} {disk : Ghosts D} {d d' : D} {h h' : Holding
     pub whole_is : is_complete (patched (with_length p.began is.still.0) p.declare p.body) ≡ completes w.store p
     whole_is = cc (complete_patched (with_length p.began is.still.0) p.declare p.body)
 
-    module _ {accepted : ℕ} (sum : accepted ≡ min (offset_of o + came_of o) (2 ^ 64 - 1)) where
+    module _ {accepted : ℕ} (sum : accepted ≡ min (offset_of o + appended_count o) (2 ^ 64 - 1)) where
       pub all_came : accepted ≡ reached p
       all_came = omega (arith, sum, reached_is, finds.within, finds.fits)
 
@@ -146,15 +146,15 @@ module _ {D : Type 0} {sure : Bool} {disk : Ghosts D} {d d' : D} {h h' : Holding
       completes_is = ap (is_length found.declared) all_came ∙ sym done_is
 
       indexes_are : h.indexes ≡ w.store.indexes
-      indexes_are = s.keeps.indexes ∙ s.shows.indexes
+      indexes_are = s.has_view.indexes ∙ s.shows.indexes
 
       open_began : is_complete p.began ≡ false
       open_began = texts.open_before p.began is.still.0 is.still.2
 
-      module _ {done : Bool} (done_says : done ≡ is_length found.declared accepted)
+      module _ {done : Bool} (done_encodes : done ≡ is_length found.declared accepted)
           (result : Result DraftEnd UploadError) where
         done_then : done ≡ completes w.store p
-        done_then = done_says ∙ completes_is
+        done_then = done_encodes ∙ completes_is
 
         -- how the text ended
         pub ends_as : ((q' : Patch) → Holds h.indexes q' o → is_complete q'.began ≡ false
@@ -175,7 +175,7 @@ module _ {D : Type 0} {sure : Bool} {disk : Ghosts D} {d d' : D} {h h' : Holding
 
   -- THE RULES
 
-  module _ (placed : IsPlaced h.layout o') (reserved : IsReserved h'.blocks (list_of o'))
+  module _ (placed : IsTailPlaced h.layout o') (reserved : IsReserved h'.blocks (list_of o'))
       (size : length h.blocks.reserved ≡ length h.blocks.rows) where
     abbrev on : WentOn h.blocks h'.blocks drafts number o o' (set drafts number (Some o'))
     on = put_on number o' is.here effect.grasp
@@ -185,11 +185,11 @@ module _ {D : Type 0} {sure : Bool} {disk : Ghosts D} {d d' : D} {h h' : Holding
 
     roomy : (done : Bool) → p.short ≡ false → length (list_of o') ≡ wants w.store.indexes p done
         → is_short w number p done ≡ false
-    roomy = holds_all is.stands.stands is.fits on only.rows s.shows s.keeps.rows size fit_mid p
+    roomy = holds_all is.represents.represents is.fits on only.rows s.shows s.has_view.rows size fit_mid p
 
     short : (done : Bool) → RunsShort h.blocks h'.blocks (list_of o) (wants w.store.indexes p done)
         → is_short w number p done ≡ true
-    short = lacks is.stands.stands is.fits on only.rows s.shows s.keeps.rows size fit_mid p
+    short = lacks is.represents.represents is.fits on only.rows s.shows s.has_view.rows size fit_mid p
 
     stays_short : (done : Bool) → p.short ≡ true → is_short w number p done ≡ true
     unfolding is_short
@@ -215,7 +215,7 @@ module _ {D : Type 0} {sure : Bool} {disk : Ghosts D} {d d' : D} {h h' : Holding
         → Answers (commit_refusal w number p) r done (Unit {0})
     not_ended {T = T} done r e is_err ended was ends = grind (arith, common_steps, refused)
 
-    module _ (end : DraftEnd) (whole : IsWhole w.store.indexes p (completes w.store p) o' end) {found : Found}
+    module _ (end : DraftEnd) (whole : IsWholeDraft w.store.indexes p (completes w.store p) o' end) {found : Found}
         (finds : IsFound h.slots o found) where
       pub allowed : commit_refusal w number p ≡ None
       allowed = rules.allowed w number p is.allowed is.changes whole.encodable

@@ -5,7 +5,7 @@ use Rattle.std.proofs.Common.{false, if◌then◌else◌, List, [], ◌∷◌, O
 use Rattle.std.proofs.Common.{subst, arith, eqb-true}
 use Rattle.spool_disk.specs.declared.disk.Disk.{Ghosts}
 use Rattle.spool_journal.specs.Image.{text_page}
-use Rattle.spool_drafts.specs.Drafts.{Holds, came_of, declare_of, number_of, offset_of}
+use Rattle.spool_drafts.specs.Drafts.{Holds, appended_count, declare_of, upload_number_of, offset_of}
 use Rattle.spool_drafts.specs.declared.draft.SpoolDraft.{SpoolDraft}
 use Rattle.spool_pages.specs.View.{SlotRecord}
 use Rattle.upload_rules.specs.Calls.{commit_refusal, committed, committed_store, declares, declares_at, dropped}
@@ -23,9 +23,9 @@ use Rattle.upload_rules.specs.declared.errors.UploadRefusal.TheVariants.{LengthS
 use Rattle.upload_rules.proofs.Refusals.{no_such_upload, other_offset}
 use Rattle.upload_rules.proofs.Same.{same_upload}
 use Rattle.spool_kept.specs.Committing.{Finds, HasOtherCount, HasSameCount, IsCommit, IsFound, with_length_at}
-use Rattle.spool_kept.specs.Drafting.{DraftStands, DraftsHold, IsStillOpen, StandsFor}
+use Rattle.spool_kept.specs.Drafting.{DraftRepresents, DraftsHold, IsStillOpen, StandsFor}
 use Rattle.spool_catalog.specs.Holding.{Holding, IsUsedBy}
-use Rattle.spool_catalog.specs.Shows.{IsTold}
+use Rattle.spool_catalog.specs.Shows.{IsRecorded}
 use Rattle.spool_kept.specs.declared.committing.Found.{Found}
 use Rattle.spool_catalog.proofs.Answered.{no_upload}
 use Rattle.spool_kept.proofs.commits.CommitRefusals.{by_length, nothing_committed, nothing_refused, refused_by_length}
@@ -75,18 +75,18 @@ found_open slots o found finds goes = search (arith, common_steps)
 -- the draft of a number stands for a patch
 pub record IsOpen {D : Type 0} (sure : Bool) (disk : Ghosts D) (d : D) (h : Holding)
     (drafts : List (Option SpoolDraft)) (number : ℕ) (o : SpoolDraft) (w : World) (p : Patch) : Type 0 where
-  pub stands : StandsFor sure disk d h drafts w
+  pub represents : StandsFor sure disk d h drafts w
   pub patch : find number w.patches ≡ Some p
   pub here : draft_at drafts number ≡ Some o
 
 pub opened : {D : Type 0} {sure : Bool} {disk : Ghosts D} {d : D} {h : Holding} {drafts : List (Option SpoolDraft)}
     (number : ℕ) {o : SpoolDraft} {w : World} {p : Patch} → StandsFor sure disk d h drafts w
     → find number w.patches ≡ Some p → Some o ≡ draft_at drafts number → IsOpen sure disk d h drafts number o w p
-opened number stands patch taken = record { stands = stands; patch = patch; here = sym taken }
+opened number represents patch taken = record { represents = represents; patch = patch; here = sym taken }
 
 module _ {D : Type 0} {sure : Bool} {disk : Ghosts D} {d : D} {h : Holding} {drafts : List (Option SpoolDraft)}
     {number : ℕ} {o : SpoolDraft} {w : World} {p : Patch} (k : IsOpen sure disk d h drafts number o w p) where
-  pub own_draft : DraftStands (sure ≡ true) w.store.indexes (disk.current d) (text_page h.layout) h.slots h.blocks.rows
+  pub own_draft : DraftRepresents (sure ≡ true) w.store.indexes (disk.current d) (text_page h.layout) h.slots h.blocks.rows
       w.store p o
   own_draft = search (arith, common_steps)
 
@@ -94,53 +94,53 @@ module _ {D : Type 0} {sure : Bool} {disk : Ghosts D} {d : D} {h : Holding} {dra
   held = own_draft.holds
 
   -- what a slot's record tells
-  told : (slot : ℕ) (used : SlotRecord) → get_or h.slots slot None ≡ Some used
-      → IsTold w.store used (k.stands.stored.view.texts slot)
-  told slot used there = k.stands.stored.shows.told slot used (cc)
+  recorded : (slot : ℕ) (used : SlotRecord) → get_or h.slots slot None ≡ Some used
+      → IsRecorded w.store used (k.represents.stored.view.texts slot)
+  recorded slot used there = k.represents.stored.shows.recorded slot used (cc)
 
-  upload_there : (used : SlotRecord) (u : Upload) → used.number ≡ number_of o
+  upload_there : (used : SlotRecord) (u : Upload) → used.number ≡ upload_number_of o
       → find used.number w.store.uploads ≡ Some u → upload_of w.store p.number ≡ Some u
   upload_there used u is found = ap (λ (n : ℕ). find n w.store.uploads) (sym (is ∙ held.number)) ∙ found
 
-  reached_is : offset_of o + came_of o ≡ reached p
+  reached_is : offset_of o + appended_count o ≡ reached p
   reached_is = omega (arith, held.offset, held.came)
 
   module _ {slot : ℕ} (same : HasSameCount h.slots o slot) where
-    abbrev is : IsTold w.store same.used (k.stands.stored.view.texts slot)
-    is = told slot same.used same.there
+    abbrev is : IsRecorded w.store same.used (k.represents.stored.view.texts slot)
+    is = recorded slot same.used same.there
 
     there : upload_of w.store p.number ≡ Some is.upload
     there = upload_there same.used is.upload same.number is.there
 
     as_long : accepted_count is.upload ≡ accepted_count p.began
-    as_long = sym is.tells.accepted ∙ same.count ∙ held.offset
+    as_long = sym is.represents.accepted ∙ same.count ∙ held.offset
 
     -- the length is refused by what is known of it in the record as by what is known of the upload
-    length_is : length_refusal same.used.declared (declare_of o) (offset_of o + came_of o) ≡ length_refusal
+    length_is : length_refusal same.used.declared (declare_of o) (offset_of o + appended_count o) ≡ length_refusal
         is.upload.declared p.declare (reached p)
     length_is =
-        ap (λ (k : Option ℕ). length_refusal k (declare_of o) (offset_of o + came_of o)) is.tells.declared
-        ∙ ap (λ (k : Option ℕ). length_refusal is.upload.declared k (offset_of o + came_of o)) held.declare
+        ap (λ (k : Option ℕ). length_refusal k (declare_of o) (offset_of o + appended_count o)) is.represents.declared
+        ∙ ap (λ (k : Option ℕ). length_refusal is.upload.declared k (offset_of o + appended_count o)) held.declare
         ∙ ap (length_refusal is.upload.declared p.declare) reached_is
 
     refused_so : (e : UploadRefusal)
-        → length_refusal same.used.declared (declare_of o) (offset_of o + came_of o) ≡ Some e
+        → length_refusal same.used.declared (declare_of o) (offset_of o + appended_count o) ≡ Some e
         → commit_refusal w number p ≡ Some e
     refused_so e refused = refused_by_length w number p is.upload e there as_long (sym length_is ∙ refused)
 
   pub head_refused : (e : UploadRefusal) → Finds h.slots o (Err e) → commit_refusal w number p ≡ Some e
   head_refused NoSuch free =
-      let stored = k.stands.stored in
-      no_such_upload w number p (no_upload stored.keeps stored.shows p.number
+      let stored = k.represents.stored in
+      no_such_upload w number p (no_upload stored.has_view stored.shows p.number
       (λ slot used. free slot (subst (IsUsedBy h.slots slot) (sym held.number) used)))
   head_refused Offset other =
-      let is = told other.slot other.used.used other.used.there in
+      let is = recorded other.slot other.used.used other.used.there in
       other_offset w number p is.upload (upload_there other.used.used is.upload other.used.is is.there)
       (λ same. other.none other.slot (record {
         used = other.used.used;
         there = other.used.there;
         number = other.used.is;
-        count = is.tells.accepted ∙ same ∙ sym held.offset;
+        count = is.represents.accepted ∙ same ∙ sym held.offset;
       }))
   head_refused TooLong other = refused_so other.same TooLong other.refused
   head_refused LengthSet other = refused_so other.same LengthSet other.refused
@@ -158,11 +158,11 @@ module _ {D : Type 0} {sure : Bool} {disk : Ghosts D} {d : D} {h : Holding} {dra
 
     declares_is : declares w.store p ≡ found.declares
     declares_is = ap (declares_at p) here_is ∙ sym (finds.declares
-        ∙ ap (λ (k : Option ℕ). is_new k (declare_of o)) (is finds.same).tells.declared
+        ∙ ap (λ (k : Option ℕ). is_new k (declare_of o)) (is finds.same).represents.declared
         ∙ ap (is_new u.declared) held.declare)
 
     declared_is : found.declared ≡ known_or u.declared p.declare
-    declared_is = finds.declared ∙ ap (λ (k : Option ℕ). known_or k (declare_of o)) (is finds.same).tells.declared
+    declared_is = finds.declared ∙ ap (λ (k : Option ℕ). known_or k (declare_of o)) (is finds.same).represents.declared
         ∙ ap (known_or u.declared) held.declare
 
     completes_is : completes w.store p ≡ is_length found.declared (reached p)
@@ -177,12 +177,12 @@ module _ {D : Type 0} {sure : Bool} {disk : Ghosts D} {d : D} {h : Holding} {dra
 
       still : IsStillOpen w.store p
       still =
-          let tells = (is finds.same).tells in
-          let was = same_upload w number p u k.stands.stands.grown k.patch here_is (as_long finds.same) in (
+          let is_record = (is finds.same).represents in
+          let was = same_upload w number p u k.represents.represents.grown k.patch here_is (as_long finds.same) in (
             was.0,
             here_is ∙ ap (λ (v : Upload). Some v) was.1,
             subst (λ (v : Upload). is_complete v ≡ false) was.1
-                (rw (← tells.declared, ← tells.accepted) (found_open h.slots o found finds goes)),
+                (rw (← is_record.declared, ← is_record.accepted) (found_open h.slots o found finds goes)),
           )
 
       pub commits : DraftsHold h.layout h.blocks drafts → IsCommit sure disk d h drafts number o w p
@@ -191,7 +191,7 @@ module _ {D : Type 0} {sure : Bool} {disk : Ghosts D} {d : D} {h : Holding} {dra
     -- THE TEXT STAYS
 
     module _ (stays : found.stays ≡ true) where
-      none : came_of o ≡ 0
+      none : appended_count o ≡ 0
       none = (finds.stays stays).0
 
       no_body : length p.body ≡ 0
@@ -207,11 +207,11 @@ module _ {D : Type 0} {sure : Bool} {disk : Ghosts D} {d : D} {h : Holding} {dra
       left_reached offset e = omega (arith, e, reached_is, none)
 
       -- nothing is brought
-      pub idle_stands : found.declares ≡ false → (h' : Holding) (drafts' : List (Option SpoolDraft))
+      pub idle_represents : found.declares ≡ false → (h' : Holding) (drafts' : List (Option SpoolDraft))
           → StandsFor sure disk d h' drafts' (dropped w number)
           → StandsFor sure disk d h' drafts' (committed w number p)
-      idle_stands old h' drafts' stands = subst (StandsFor sure disk d h' drafts')
-          (sym (nothing_committed w number p (idle_patch w.store p (declares_is ∙ old) no_body))) stands
+      idle_represents old h' drafts' represents = subst (StandsFor sure disk d h' drafts')
+          (sym (nothing_committed w number p (idle_patch w.store p (declares_is ∙ old) no_body))) represents
 
       -- a length is
       module _ (new : found.declares ≡ true) where
@@ -224,8 +224,8 @@ module _ {D : Type 0} {sure : Bool} {disk : Ghosts D} {d : D} {h : Holding} {dra
         pub store_is : committed_store w.store p ≡ patched_store w.store p.number found.declared []
         store_is = grind (arith, common_steps, store_declared, declares_is, length_declared, nil_from_length, no_body)
 
-        pub length_stands : committed w number p ≡ with_length_at (dropped w number) p.number found.declared
-        length_stands = ap (λ (m : Store). record (dropped w number) { store = m }) store_is
+        pub length_represents : committed w number p ≡ with_length_at (dropped w number) p.number found.declared
+        length_represents = ap (λ (m : Store). record (dropped w number) { store = m }) store_is
 
         pub used_is : IsUsedBy h.slots found.slot p.number
         used_is = search (arith, common_steps)
@@ -234,7 +234,7 @@ module _ {D : Type 0} {sure : Bool} {disk : Ghosts D} {d : D} {h : Holding} {dra
 
 -- it is refused so exactly where the draft's upload is gone
 abbrev pub IsGoneFor : {T : Type 0} → List (Option SlotRecord) → SpoolDraft → Result T UploadError → Type 0
-IsGoneFor slots o result = IsErrOf result (Refused NoSuch) ↔ ((s : ℕ) → IsUsedBy slots s (number_of o) → ⊥)
+IsGoneFor slots o result = IsErrOf result (Refused NoSuch) ↔ ((s : ℕ) → IsUsedBy slots s (upload_number_of o) → ⊥)
 
 -- and so exactly where that has another count
 abbrev pub IsOtherFor : {T : Type 0} → List (Option SlotRecord) → SpoolDraft → Result T UploadError → Type 0

@@ -7,7 +7,7 @@ use Rattle.spool_blocks.specs.Blocks.{Held}
 use Rattle.spool_disk.specs.declared.disk.Disk.{Ghosts}
 use Rattle.spool_disk.specs.Views.{Lasts}
 use Rattle.spool_journal.specs.Image.{journal_pages, text_page}
-use Rattle.spool_drafts.specs.Drafts.{IsPlaced, list_of, tail_of}
+use Rattle.spool_drafts.specs.Drafts.{IsTailPlaced, list_of, tail_of}
 use Rattle.spool_drafts.specs.Effect.{Effect, OnlyWrites}
 use Rattle.spool_drafts.specs.declared.draft.SpoolDraft.{SpoolDraft}
 use Rattle.spool_drafts.proofs.Stays.{has_same}
@@ -27,17 +27,17 @@ use Rattle.common.specs.declared.stop.Stop.TheVariants.{NoMemory, DiskFault}
 use Rattle.upload_rules.specs.declared.errors.UploadRefusal.{UploadRefusal}
 use Rattle.upload_rules.proofs.Growing.{grown_dropped, grown_put}
 use Rattle.spool_kept.specs.Committing.{IsCommit, with_length_at}
-use Rattle.spool_kept.specs.Drafting.{DraftStands, DraftsStand, OnlyReserves, StandsFor}
-use Rattle.spool_catalog.specs.Longer.{HandsOn, IsLonger, longer_record}
+use Rattle.spool_kept.specs.Drafting.{DraftRepresents, DraftsRepresent, OnlyReserves, StandsFor}
+use Rattle.spool_catalog.specs.Longer.{HandsOn, HasLonger, longer_record}
 use Rattle.spool_kept.specs.Extending.{IsAppend}
 use Rattle.spool_catalog.specs.Holding.{Holding}
 use Rattle.spool_catalog.specs.Shows.{ImageShows}
 use Rattle.spool_kept.specs.Stored.{ShowsEither, Stored}
 use Rattle.spool_catalog.specs.declared.longer.Longer.{Longer}
 use Rattle.spool_kept.proofs.commits.CommitRefusals as rules
-use Rattle.spool_kept.proofs.drafts.DraftLonger.{WentOn, held_both, other_stands, put_on}
+use Rattle.spool_kept.proofs.drafts.DraftLonger.{WentOn, held_both, other_represents, put_on}
 use Rattle.spool_kept.proofs.drafts.DraftSpent.{all_given, all_handed, open_before, other_upload, owned_declared}
-use Rattle.spool_kept.proofs.drafts.DraftSpent.{rows_handed, stand_spent, others_longer}
+use Rattle.spool_kept.proofs.drafts.DraftSpent.{rows_handed, represents_spent, others_longer}
 use Rattle.spool_kept.proofs.drafts.Drafted.{stored_on, reserves_only}
 use Rattle.spool_kept.proofs.slots.SlotChange.{owned_still}
 
@@ -78,43 +78,43 @@ stopped refusal DiskFault done same none unmade = subst IsLate (sym none) tt
 
 pub on_disk : {D : Type 0} {sure : Bool} (disk : Ghosts D) (d d' : D) (h : Holding) (drafts : List (Option SpoolDraft))
     (w : World) → d' ≡ d → StandsFor sure disk d h drafts w → StandsFor sure disk d' h drafts w
-on_disk {sure = sure} disk d d' h drafts w same stands = subst (λ e. StandsFor sure disk e h drafts w) (sym same) stands
+on_disk {sure = sure} disk d d' h drafts w same represents = subst (λ e. StandsFor sure disk e h drafts w) (sym same) represents
 
 module _ {D : Type 0} {sure : Bool} {disk : Ghosts D} {d d' : D} {h h' : Holding} (only : OnlyReserves h h')
     {drafts : List (Option SpoolDraft)} {number : ℕ} {o : SpoolDraft} (o' : SpoolDraft) {w : World} {p : Patch}
     (is : IsCommit sure disk d h drafts number o w p)
     (effect : Effect disk (journal_pages h.layout) (list_of o) (list_of o') d d' h.blocks h'.blocks)
-    (reserved : IsReserved h'.blocks (list_of o')) (placed : IsPlaced h.layout o') where
+    (reserved : IsReserved h'.blocks (list_of o')) (placed : IsTailPlaced h.layout o') where
   abbrev on : WentOn h.blocks h'.blocks drafts number o o' (set drafts number (Some o'))
   on = put_on number o' is.here effect.grasp
 
   -- the other drafts after the call
   others : (e : ℕ) → number ≢ e → (r : Patch) (a : SpoolDraft) → draft_at drafts e ≡ Some a
-      → DraftStands (sure ≡ true) w.store.indexes (disk.current d)
+      → DraftRepresents (sure ≡ true) w.store.indexes (disk.current d)
       (text_page h.layout) h.slots h.blocks.rows w.store r a
-      → DraftStands (sure ≡ true) w.store.indexes (disk.current d')
+      → DraftRepresents (sure ≡ true) w.store.indexes (disk.current d')
       (text_page h.layout) h.slots h'.blocks.rows w.store r a
-  others = other_stands (disk.current d') is.stands.stands is.fits on only.rows
-      (λ known. (effect.writes (is.stands.stored.honest known)).writes.outside)
+  others = other_represents (disk.current d') is.represents.represents is.fits on only.rows
+      (λ known. (effect.writes (is.represents.stored.honest known)).writes.outside)
 
   -- its blocks are given back
-  pub stands_dropped : {inside : Holding} {blocks : Held} → inside ≡ h' → GivesBack inside.blocks blocks (list_of o')
+  pub represents_dropped : {inside : Holding} {blocks : Held} → inside ≡ h' → GivesBack inside.blocks blocks (list_of o')
       → Stored sure disk d' h' w.store
       → StandsFor sure disk d' (record inside { blocks = blocks }) (set drafts number None) (dropped w number)
-  stands_dropped {inside = inside} {blocks = blocks} same given stored =
+  represents_dropped {inside = inside} {blocks = blocks} same given stored =
       let h'' : Holding = record inside { blocks = blocks } in
       let gives : GivesBack h'.blocks blocks (list_of o') = rw same at given in
-      let here : DraftsStand (sure ≡ true) w.store.indexes (disk.current d') (text_page h.layout) h.slots blocks
-      (dropped w number) (set drafts number None) = stand_spent (disk.current d') h.slots blocks w.store number
-      is.stands.stands (λ e other r a found there s. rw gives.rows (others e other r a there s))
-      (grown_dropped w is.stands.stands.grown number is.stands.stands.apart)
+      let here : DraftsRepresent (sure ≡ true) w.store.indexes (disk.current d') (text_page h.layout) h.slots blocks
+      (dropped w number) (set drafts number None) = represents_spent (disk.current d') h.slots blocks w.store number
+      is.represents.represents (λ e other r a found there s. rw gives.rows (others e other r a there s))
+      (grown_dropped w is.represents.represents.grown number is.represents.represents.apart)
       (omega (arith, ap length gives.rows, ap length only.rows))
-      (all_given is.fits on reserved placed is.stands.stands.all blocks gives) in
+      (all_given is.fits on reserved placed is.represents.represents.all blocks gives) in
       let fields : ◌≡◌ {A = ℕ × List (Option SlotRecord)} (inside.layout, inside.slots) (h.layout, h.slots) =
       ap (λ (k : Holding). (k.layout, k.slots)) (same ∙ only.same) in
       record {
         stored = stored_on disk d' h' h'' w.store (reserves_only h' inside h'' same refl given.rows) stored;
-        stands = subst (λ (k : ℕ × List (Option SlotRecord)). DraftsStand (sure ≡ true) w.store.indexes
+        represents = subst (λ (k : ℕ × List (Option SlotRecord)). DraftsRepresent (sure ≡ true) w.store.indexes
             (disk.current d') (text_page k.0) k.1 blocks (dropped w number) (set drafts number None)) (sym fields) here;
       }
 
@@ -123,7 +123,7 @@ module _ {D : Type 0} {sure : Bool} {disk : Ghosts D} {d d' : D} {h h' : Holding
 
   -- its blocks are its upload's
   module _ {longer : Longer} (append : IsAppend sure disk d' h' w.store p.number p.declare p.body longer (list_of o'))
-      {used : SlotRecord} {d'' : D} {h'' : Holding} (is_longer : IsLonger h' used longer (list_of o') h'')
+      {used : SlotRecord} {d'' : D} {h'' : Holding} (is_longer : HasLonger h' used longer (list_of o') h'')
       (hands : HandsOn h'.blocks.reserved h''.blocks.reserved (list_of o'))
       (texts : sure ≡ true → (q : ℕ) → PAGE * text_page h'.layout ≤ q → disk.current d'' q ≡ disk.current d' q)
       (stored : Stored sure disk d'' h'' (patched_store w.store p.number p.declare p.body)) where
@@ -141,16 +141,16 @@ module _ {D : Type 0} {sure : Bool} {disk : Ghosts D} {d d' : D} {h h' : Holding
     slots_same = ap (λ (k : Holding). k.slots) only.same
 
     grown : IsGrown (record w { store = after; patches = without number w.patches })
-    grown = grown_put (dropped w number) (grown_dropped w is.stands.stands.grown number is.stands.stands.apart) p.number
+    grown = grown_put (dropped w number) (grown_dropped w is.represents.represents.grown number is.represents.represents.apart) p.number
         (with_length p.began is.still.0) p.declare p.body is.still.1
 
-    put_stands : (e : ℕ) → number ≢ e → (r : Patch) (a : SpoolDraft) → find e w.patches ≡ Some r
-        → draft_at drafts e ≡ Some a → DraftStands (sure ≡ true) w.store.indexes (disk.current d) (text_page h.layout)
-        h.slots h.blocks.rows w.store r a → DraftStands (sure ≡ true) w.store.indexes (disk.current d'')
+    put_represents : (e : ℕ) → number ≢ e → (r : Patch) (a : SpoolDraft) → find e w.patches ≡ Some r
+        → draft_at drafts e ≡ Some a → DraftRepresents (sure ≡ true) w.store.indexes (disk.current d) (text_page h.layout)
+        h.slots h.blocks.rows w.store r a → DraftRepresents (sure ≡ true) w.store.indexes (disk.current d'')
         (text_page h.layout) h''.slots h''.blocks.rows after r a
-    put_stands e other r a found there s =
+    put_represents e other r a found there s =
         let mid = others e other r a there s in
-        let other_number = other_upload w is.stands.stands.grown p.number (with_length p.began is.still.0) is.still.1
+        let other_number = other_upload w is.represents.represents.grown p.number (with_length p.began is.still.0) is.still.1
         p.declare p.body brings e r found in
         let same : sure ≡ true → (q : ℕ) → PAGE * text_page h.layout ≤ q → disk.current d'' q ≡ disk.current d' q =
         λ known q from. texts known q (rw (← (ap (λ (k : Holding). k.layout) only.same)) at from) in
@@ -165,30 +165,30 @@ module _ {D : Type 0} {sure : Bool} {disk : Ghosts D} {d d' : D} {h h' : Holding
               append.used away.0 (rw (← slots_same) at (mid.tail away.1));
         }
 
-    here : DraftsStand (sure ≡ true) w.store.indexes (disk.current d'') (text_page h.layout) h''.slots h''.blocks
+    here : DraftsRepresent (sure ≡ true) w.store.indexes (disk.current d'') (text_page h.layout) h''.slots h''.blocks
         (record w { store = after; patches = without number w.patches }) (set drafts number None)
     here =
-        stand_spent (disk.current d'') h''.slots h''.blocks after number is.stands.stands put_stands grown
+        represents_spent (disk.current d'') h''.slots h''.blocks after number is.represents.represents put_represents grown
         (omega (arith, (rows_handed h' h'' used longer (list_of o') is_longer).size, ap length only.rows))
-        (all_handed is.fits on reserved placed is.stands.stands.all h''.blocks hands)
+        (all_handed is.fits on reserved placed is.represents.represents.all h''.blocks hands)
 
-    pub stands_committed : StandsFor sure disk d'' h'' (set drafts number None) (committed w number p)
-    stands_committed =
+    pub represents_committed : StandsFor sure disk d'' h'' (set drafts number None) (committed w number p)
+    represents_committed =
         subst (λ (m : Store). StandsFor sure disk d'' h'' (set drafts number None)
         (record w { store = m; patches = without number w.patches }))
         (sym (cc (rules.store_changed w.store p is.changes))) record {
           stored = subst (Stored sure disk d'' h'') after_is stored;
-          stands = rw (← layout) at here;
+          represents = rw (← layout) at here;
         }
 
 -- ITS LENGTH ALONE
 
 -- an upload gets its length, while all drafts stay
 module _ {D : Type 0} {sure : Bool} {disk : Ghosts D} {d d' d'' : D} {h h' : Holding}
-    {drafts : List (Option SpoolDraft)} {w : World} (stands : StandsFor sure disk d h drafts w) {longer : Longer}
+    {drafts : List (Option SpoolDraft)} {w : World} (represents : StandsFor sure disk d h drafts w) {longer : Longer}
     {used : SlotRecord} {n : ℕ} (there : get_or h.slots longer.slot None ≡ Some used) {declare : Option ℕ}
     (append : IsAppend sure disk d' h w.store n declare [] longer []) (unknown : append.upload.declared ≡ None)
-    (is_longer : IsLonger h used longer [] h') (only : sure ≡ true → OnlyWrites disk (journal_pages h.layout) [] d d')
+    (is_longer : HasLonger h used longer [] h') (only : sure ≡ true → OnlyWrites disk (journal_pages h.layout) [] d d')
     (texts : sure ≡ true → (q : ℕ) → PAGE * text_page h.layout ≤ q → disk.current d'' q ≡ disk.current d' q)
     (stored : Stored sure disk d'' h' (patched_store w.store n declare [])) where
   abbrev named : Store
@@ -201,20 +201,20 @@ module _ {D : Type 0} {sure : Bool} {disk : Ghosts D} {d d' d'' : D} {h h' : Hol
   current_same known q from = texts known q from ∙ (only known).writes.outside q (λ i. absurd (omega arith))
 
   each_named : (e : ℕ) → DraftOf
-      (DraftStands (sure ≡ true) w.store.indexes (disk.current d'') (text_page h.layout) h'.slots h'.blocks.rows named)
+      (DraftRepresents (sure ≡ true) w.store.indexes (disk.current d'') (text_page h.layout) h'.slots h'.blocks.rows named)
       (find e w.patches) (draft_at drafts e)
   each_named e = held_both
-      (DraftStands (sure ≡ true) w.store.indexes (disk.current d) (text_page h.layout) h.slots h.blocks.rows w.store)
-      (DraftStands (sure ≡ true) w.store.indexes (disk.current d'') (text_page h.layout) h'.slots h'.blocks.rows named)
+      (DraftRepresents (sure ≡ true) w.store.indexes (disk.current d) (text_page h.layout) h.slots h.blocks.rows w.store)
+      (DraftRepresents (sure ≡ true) w.store.indexes (disk.current d'') (text_page h.layout) h'.slots h'.blocks.rows named)
       (find e w.patches) (draft_at drafts e) (λ r a found at s.
-      let before = open_before w stands.stands.grown n append.upload append.there declare [] unknown refl e r found in
+      let before = open_before w represents.represents.grown n append.upload append.there declare [] unknown refl e r found in
       record {
         holds = s.holds;
         below = s.below;
         carries = λ known still. has_same (disk.current d) (disk.current d'') (text_page h.layout) _ a.progress
             (current_same known) (s.carries known (before still));
         tail = λ still. owned_declared h h' used longer r.number (tail_of a) there is_longer (s.tail (before still));
-      }) (stands.stands.each e)
+      }) (represents.represents.each e)
 
-  pub stands_declared : StandsFor sure disk d'' h' drafts (with_length_at w n declare)
-  stands_declared = grind (arith, common_steps, named_is, each_named, grown, grown_put)
+  pub represents_declared : StandsFor sure disk d'' h' drafts (with_length_at w n declare)
+  represents_declared = grind (arith, common_steps, named_is, each_named, grown, grown_put)

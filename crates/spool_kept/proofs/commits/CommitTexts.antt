@@ -6,18 +6,18 @@ use Rattle.std.proofs.lemmas.Bool.{cases_lt}
 use Rattle.std.proofs.lemmas.List.{drop-append-le, nil_from_length}
 use Rattle.spool_journal.specs.declared.TheConstants.{PAGE}
 use Rattle.enc_model.specs.Indexes.{IndexSet}
-use Rattle.enc_stream.specs.StateBytes.{IsValid}
+use Rattle.enc_stream.specs.StateBytes.{IsValidState}
 use Rattle.upload_rules.specs.Lengths.{is_too_large, known_or, longest}
 use Rattle.upload_rules.specs.States.{state_with}
 use Rattle.upload_rules.specs.Store.{Upload, text_of, text_with, with_length, patched, is_complete}
 use Rattle.upload_rules.specs.World.{Patch, reached, patch_text}
 use Rattle.upload_rules.proofs.Commits.{state_patched, text_patched, transcoder_patched, whole_patched}
 use Rattle.upload_rules.proofs.Longer.{text_at_start}
-use Rattle.spool_drafts.specs.Drafts.{IsWhole, list_of, open_text}
+use Rattle.spool_drafts.specs.Drafts.{IsWholeDraft, list_of, open_text}
 use Rattle.spool_drafts.specs.declared.draft.DraftEnd.{DraftEnd}
 use Rattle.spool_drafts.specs.declared.draft.SpoolDraft.{SpoolDraft}
 use Rattle.spool_drafts.proofs.Patches.{value_before}
-use Rattle.spool_room.specs.Holdings.{added}
+use Rattle.spool_room.specs.Holdings.{added_count}
 use Rattle.spool_room.proofs.Needs.{wants_some}
 use Rattle.spool_texts.specs.TextOn.{text_on}
 use Rattle.spool_kept.specs.Extending.{IsExtension, full_bytes}
@@ -44,7 +44,7 @@ module _ (x : IndexSet) (p : Patch) (since : Option ℕ) (o : SpoolDraft) (end :
     (within : reached p ≤ longest (known_or (known_or p.began.declared since) p.declare))
     (small : is_too_large p.declare ≡ false) (done : Bool)
     (is_done : is_complete (patched (with_length p.began since) p.declare p.body) ≡ done)
-    (whole : IsWhole x p done o end) where
+    (whole : IsWholeDraft x p done o end) where
   abbrev u : Upload
   u = with_length p.began since
 
@@ -65,7 +65,7 @@ module _ (x : IndexSet) (p : Patch) (since : Option ℕ) (o : SpoolDraft) (end :
   all_len : length (patch_text x p done).bytes ≡ length (text_of x p.began) + length more
   all_len = omega (arith, ap length all_is, length-append (text_of x p.began) more)
 
-  added_is : added x p done ≡ length more
+  added_is : added_count x p done ≡ length more
   added_is = omega (arith, all_len)
 
   none_added : length (list_of o) ≡ 0 → length more ≡ 0
@@ -90,7 +90,7 @@ module _ (x : IndexSet) (p : Patch) (since : Option ℕ) (o : SpoolDraft) (end :
         few = within;
         small = small;
         state = cc (state_patched x u p.declare p.body);
-        valid = subst IsValid (sym (cc (transcoder_patched x u p.declare p.body))) whole.valid;
+        valid = subst IsValidState (sym (cc (transcoder_patched x u p.declare p.body))) whole.valid;
         encodable = ap (λ r. r.fault) (whole_patched x u p.declare p.body ∙ ap (text_with x u p.body) is_done) ∙ fine;
         text = grown.1;
         text_len = omega (arith, total, same_len, ap length grown.1, length-append (text_of x u) more);

@@ -3,7 +3,7 @@ use Rattle.std.proofs.lemmas.Grind.{common_steps}
 use Rattle.std.proofs.Common.{◌≡◌, ◌∙◌, ℕ, Bool, false, List, [], Option, None, Some, length}
 use Rattle.std.proofs.Common.{refl, sym, ap, subst, arith}
 use Rattle.std.proofs.lemmas.List.{append-nil}
-use Rattle.enc_stream.specs.StateBytes.{IsValid}
+use Rattle.enc_stream.specs.StateBytes.{IsValidState}
 use Rattle.spool_disk.specs.declared.disk.Disk.{Ghosts}
 use Rattle.spool_journal.specs.Image.{text_page}
 use Rattle.spool_pages.specs.View.{SlotRecord}
@@ -14,7 +14,7 @@ use Rattle.upload_rules.proofs.Commits.{state_patched, text_of_is, text_patched,
 use Rattle.spool_kept.specs.Committing.{MayDeclare}
 use Rattle.spool_kept.specs.Extending.{IsExtension, IsPending, OnlyDeclares}
 use Rattle.spool_catalog.specs.Holding.{Holding, IsUsedBy}
-use Rattle.spool_catalog.specs.Shows.{IsTold}
+use Rattle.spool_catalog.specs.Shows.{IsRecorded}
 use Rattle.spool_kept.specs.Stored.{Stored}
 use Rattle.spool_catalog.specs.declared.longer.Longer.{Longer}
 use Rattle.spool_catalog.proofs.slots.ChangedSlots.{one_value}
@@ -47,52 +47,52 @@ only_declares may = record { unknown = may.unknown; accepted = refl; text_len = 
 module _ {D : Type 0} {sure : Bool} {disk : Ghosts D} {d : D} {h : Holding} {m : Store} {n slot : ℕ}
     {declared : Option ℕ} (stored : Stored sure disk d h m) (may : MayDeclare h.slots slot declared)
     (used : IsUsedBy h.slots slot n) (small : is_too_large declared ≡ false) where
-  abbrev told : IsTold m may.used (stored.view.texts slot)
-  told = stored.shows.told slot may.used (cc)
+  abbrev recorded : IsRecorded m may.used (stored.view.texts slot)
+  recorded = stored.shows.recorded slot may.used (cc)
 
   number_is : may.used.number ≡ n
   number_is = ap (λ (r : SlotRecord). r.number) (one_value may.there used.there) ∙ used.is
 
-  there : upload_of m n ≡ Some told.upload
-  there = ap (λ (k : ℕ). find k m.uploads) (sym number_is) ∙ told.there
+  there : upload_of m n ≡ Some recorded.upload
+  there = ap (λ (k : ℕ). find k m.uploads) (sym number_is) ∙ recorded.there
 
-  unknown : told.upload.declared ≡ None
-  unknown = sym told.tells.declared ∙ may.unknown
+  unknown : recorded.upload.declared ≡ None
+  unknown = sym recorded.represents.declared ∙ may.unknown
 
-  known_is : known_or told.upload.declared declared ≡ declared
+  known_is : known_or recorded.upload.declared declared ≡ declared
   known_is = rw unknown refl
 
   -- whatever upload is in the store is that one
   pub unknown_of : (v : Upload) → upload_of m n ≡ Some v → v.declared ≡ None
   unknown_of v is = ap (λ (w : Upload). w.declared) (one_value is there) ∙ unknown
 
-  open_before : is_complete told.upload ≡ false
-  open_before = ap (λ (k : Option ℕ). is_length k (accepted_count told.upload)) unknown
+  open_before : is_complete recorded.upload ≡ false
+  open_before = ap (λ (k : Option ℕ). is_length k (accepted_count recorded.upload)) unknown
 
-  open_still : is_complete (patched told.upload declared []) ≡ false
+  open_still : is_complete (patched recorded.upload declared []) ≡ false
   open_still = search (arith, common_steps)
 
-  alike : is_complete (patched told.upload declared []) ≡ is_complete told.upload
+  alike : is_complete (patched recorded.upload declared []) ≡ is_complete recorded.upload
   alike = open_still ∙ sym open_before
 
-  same_text : text_of m.indexes (patched told.upload declared []) ≡ text_of m.indexes told.upload
+  same_text : text_of m.indexes (patched recorded.upload declared []) ≡ text_of m.indexes recorded.upload
   same_text = grind (arith, common_steps, text_patched, alike, text_of_is)
 
-  extension : {known : Type 0} (current : ℕ → ℕ) → IsExtension known m.indexes told.upload declared [] []
+  extension : {known : Type 0} (current : ℕ → ℕ) → IsExtension known m.indexes recorded.upload declared [] []
       (named may.used slot declared) [] current (text_page h.layout)
   unfolding state_with
   extension current = record {
     declared = sym known_is;
-    accepted = omega (arith, told.tells.accepted);
-    few = omega (arith, told.tells.accepted, may.within, ap longest known_is);
+    accepted = omega (arith, recorded.represents.accepted);
+    few = omega (arith, recorded.represents.accepted, may.within, ap longest known_is);
     small = small;
-    state = told.tells.state ∙ ap (state_with m.indexes told.upload []) (sym alike)
-        ∙ sym (state_patched m.indexes told.upload declared []);
-    valid = subst IsValid (sym (transcoder_patched m.indexes told.upload declared []
-        ∙ ap (transcoder_with m.indexes told.upload []) alike)) told.tells.valid;
+    state = recorded.represents.state ∙ ap (state_with m.indexes recorded.upload []) (sym alike)
+        ∙ sym (state_patched m.indexes recorded.upload declared []);
+    valid = subst IsValidState (sym (transcoder_patched m.indexes recorded.upload declared []
+        ∙ ap (transcoder_with m.indexes recorded.upload []) alike)) recorded.represents.valid;
     encodable = search (arith, common_steps);
-    text = same_text ∙ sym (append-nil (text_of m.indexes told.upload));
-    text_len = told.tells.text_len ∙ ap length (sym same_text);
+    text = same_text ∙ sym (append-nil (text_of m.indexes recorded.upload));
+    text_len = recorded.represents.text_len ∙ ap length (sym same_text);
     nothing = λ none. refl;
     content = λ known some. absurd (omega (arith, some));
   }
@@ -107,7 +107,7 @@ module _ {D : Type 0} {sure : Bool} {disk : Ghosts D} {d : D} {h : Holding} {m :
     append = λ e stored' written. record {
       stored = stored';
       used = used;
-      upload = told.upload;
+      upload = recorded.upload;
       there = there;
       added = [];
       extension = extension (disk.current e);

@@ -2,7 +2,7 @@
 use Rattle.std.proofs.lemmas.Grind.{common_steps}
 use Rattle.std.proofs.Common.{◌≡◌, ◌∙◌, ◌⊎◌, ◌≤◌, ◌<◌, ◌+◌, ◌^◌, inl, inr, ℕ, Bool, true, false, List, Option, None}
 use Rattle.std.proofs.Common.{Some, Err, get_or, ap, subst, arith}
-use Rattle.spool_drafts.specs.Drafts.{came_of, declare_of, number_of, offset_of}
+use Rattle.spool_drafts.specs.Drafts.{appended_count, declare_of, upload_number_of, offset_of}
 use Rattle.spool_drafts.specs.declared.draft.SpoolDraft.{SpoolDraft}
 use Rattle.spool_pages.specs.View.{SlotRecord}
 use Rattle.upload_rules.specs.Calls.{length_refusal}
@@ -11,7 +11,7 @@ use Rattle.upload_rules.specs.declared.errors.UploadRefusal.{UploadRefusal}
 use Rattle.upload_rules.specs.declared.records.Record.{Record}
 use Rattle.spool_kept.specs.Committing.{Finds, HasSameCount, IsFound, HasOtherLength}
 use Rattle.spool_catalog.specs.Holding.{IsUsedBy}
-use Rattle.spool_catalog.specs.Records.{IsUnpacked, said_of}
+use Rattle.spool_catalog.specs.Records.{IsUnpacked, slot_record_of}
 use Rattle.spool_catalog.proofs.slots.ChangedSlots.{one_value}
 use Rattle.spool_kept.proofs.commits.CommitRefusals.{length_refused}
 
@@ -22,19 +22,19 @@ has_count has at there = cc (has.there, has.count)
 
 -- the slot's record was read, and it has the count that the draft began at
 module _ {slots : List (Option SlotRecord)} (o : SpoolDraft) {slot : ℕ} (r : Record)
-    (there : get_or slots slot None ≡ Some (said_of r)) (used : IsUsedBy slots slot (number_of o))
+    (there : get_or slots slot None ≡ Some (slot_record_of r)) (used : IsUsedBy slots slot (upload_number_of o))
     (count : r.accepted ≡ offset_of o) where
   abbrev pub same : HasSameCount slots o slot
   same = record {
-    used = said_of r;
+    used = slot_record_of r;
     there = there;
     number = ap (λ (q : SlotRecord). q.number) (one_value there used.there) ∙ used.is;
     count = count;
   }
 
   -- so many bytes came, and this length
-  module _ {declare : Option ℕ} (declare_is : declare ≡ declare_of o) {came : ℕ} (came_is : came ≡ came_of o) where
-    refusal_is : length_refusal r.declared (declare_of o) (offset_of o + came_of o) ≡ length_refusal r.declared declare
+  module _ {declare : Option ℕ} (declare_is : declare ≡ declare_of o) {came : ℕ} (came_is : came ≡ appended_count o) where
+    refusal_is : length_refusal r.declared (declare_of o) (offset_of o + appended_count o) ≡ length_refusal r.declared declare
         (r.accepted + came)
     refusal_is = search (arith, common_steps)
 

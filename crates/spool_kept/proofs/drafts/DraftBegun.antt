@@ -5,7 +5,7 @@ use Rattle.std.proofs.Common.{subst, arith, Bool, true}
 use Rattle.spool_blocks.specs.Blocks.{Held}
 use Rattle.spool_disk.specs.declared.disk.Disk.{Ghosts}
 use Rattle.spool_journal.specs.Image.{text_page}
-use Rattle.spool_drafts.specs.Drafts.{IsPlaced as IsTailPlaced, list_of, tail_of}
+use Rattle.spool_drafts.specs.Drafts.{IsTailPlaced, list_of, tail_of}
 use Rattle.spool_drafts.specs.declared.draft.SpoolDraft.{SpoolDraft}
 use Rattle.upload_rules.specs.declared.errors.UploadRefusal.{UploadRefusal}
 use Rattle.upload_rules.specs.Answers.{IsLate}
@@ -15,9 +15,9 @@ use Rattle.upload_rules.specs.Store.{Upload, find, upload_of}
 use Rattle.upload_rules.specs.World.{Patch, World, free_number}
 use Rattle.upload_rules.proofs.FreeNumbers.{is_free}
 use Rattle.upload_rules.proofs.Growing.{grown_begun}
-use Rattle.upload_rules.proofs.Patches.{patch_there, begun_stand}
+use Rattle.upload_rules.proofs.Patches.{patch_there, begun_represents}
 use Rattle.spool_catalog.specs.Holding.{Holding}
-use Rattle.spool_kept.specs.Drafting.{DraftsHold, DraftStands, DraftsStand, StandsFor, CarriesFor, OpensFor}
+use Rattle.spool_kept.specs.Drafting.{DraftsHold, DraftRepresents, DraftsRepresent, StandsFor, CarriesFor, OpensFor}
 use Rattle.spool_catalog.specs.Holding.{IsOwnedBy}
 use Rattle.spool_kept.proofs.drafts.Drafted.{IsChanged}
 use Rattle.spool_kept.proofs.slots.Created.{number_below}
@@ -51,8 +51,8 @@ module _ {D : Type 0} {sure : Bool} {disk : Ghosts D} {d : D} {h : Holding} {old
   module _ {new : List (Option SpoolDraft)} {place : ℕ} {o : SpoolDraft} (placed : IsPlaced old o place new)
       (none : list_of o ≡ []) (owned : IsOwnedBy h.slots h.blocks.rows n (tail_of o))
       (carries : sure ≡ true → CarriesFor w.store n count declare (disk.current d) (text_page h.layout) o) where
-    abbrev Stands : Patch → SpoolDraft → Type 0
-    Stands = DraftStands (sure ≡ true) w.store.indexes (disk.current d)
+    abbrev IsDraft : Patch → SpoolDraft → Type 0
+    IsDraft = DraftRepresents (sure ≡ true) w.store.indexes (disk.current d)
         (text_page h.layout) h.slots h.blocks.rows w.store
 
     nothing_there : find place w.patches ≡ None
@@ -61,19 +61,19 @@ module _ {D : Type 0} {sure : Bool} {disk : Ghosts D} {d : D} {h : Holding} {old
     number_free : place ≡ free_number w
     number_free = grind (arith, common_steps, is_free, patch_there, nothing_there)
 
-    stand_begun : (u : Upload) → upload_of w.store n ≡ Some u → Opens (Some u) (Ok o)
-        → DraftsStand (sure ≡ true) w.store.indexes (disk.current d) (text_page h.layout) h.slots h.blocks
+    represents_begun : (u : Upload) → upload_of w.store n ≡ Some u → Opens (Some u) (Ok o)
+        → DraftsRepresent (sure ≡ true) w.store.indexes (disk.current d) (text_page h.layout) h.slots h.blocks
         (record w { patches = (place, first_patch n count declare u) ∷ w.patches }) new
-    stand_begun u there opens = record {
-      each = begun_stand Stands w.patches old new s.stands.each place (first_patch n count declare u) o placed record {
+    represents_begun u there opens = record {
+      each = begun_represents IsDraft w.patches old new s.represents.each place (first_patch n count declare u) o placed record {
         holds = opens.1;
         below = number_below s.stored.view w.store s.stored.shows n u there;
         carries = λ known still. carries known u there;
         tail = λ still. owned;
       };
-      apart = (nothing_there, s.stands.apart);
-      grown = grown_begun w s.stands.grown n count declare u place there;
-      limit = s.stands.limit;
+      apart = (nothing_there, s.represents.apart);
+      grown = grown_begun w s.represents.grown n count declare u place there;
+      limit = s.represents.limit;
       all = search (arith, common_steps);
     }
 
@@ -85,5 +85,5 @@ module _ {D : Type 0} {sure : Bool} {disk : Ghosts D} {d : D} {h : Holding} {old
       subst (λ q. StandsFor sure disk d h new (begun_at w n count declare q)) (sym there)
           (subst (λ k. StandsFor sure disk d h new (record w
           { patches = (k, first_patch n count declare u) ∷ w.patches })) number_free
-          (record { stored = s.stored; stands = stand_begun u there opens })),
+          (record { stored = s.stored; represents = represents_begun u there opens })),
     )

@@ -31,9 +31,9 @@ none_in_nothing a b none i k lt lt' e = omega (arith, lt, ap length none)
 
 -- BLOCKS TAKEN AND GIVEN BACK
 
-pub taken_keeps : {old new : Held} {list list' : List ℕ} (other : List ℕ) → Takes old new list list'
+pub taken_preserves : {old new : Held} {list list' : List ℕ} (other : List ℕ) → Takes old new list list'
     → IsReserved old other → IsReserved new other
-taken_keeps other takes is = search (arith, common_steps)
+taken_preserves other takes is = search (arith, common_steps)
 
 pub taken_apart : {old new : Held} {list list' : List ℕ} (other : List ℕ) → Takes old new list list'
     → IsReserved old other → NoneOf list other → NoneOf list' other
@@ -47,14 +47,14 @@ reserved_before {list = list} b takes is out =
     (omega (arith, lt, ap length takes.grown, length-append list takes.more))
     (cc (get_or-append-add list takes.more i 0)))) ∙ is
 
-pub given_keeps : {old new : Held} {list : List ℕ} (other : List ℕ) → GivesBack old new list → IsReserved old other
+pub given_preserves : {old new : Held} {list : List ℕ} (other : List ℕ) → GivesBack old new list → IsReserved old other
     → NoneOf list other → IsReserved new other
-given_keeps other gives is apart = search (arith, common_steps)
+given_preserves other gives is apart = search (arith, common_steps)
 
 -- a block that is reserved after was not given back, and was reserved
-pub kept_out : {old new : Held} {list : List ℕ} (b : ℕ) → GivesBack old new list → get_or new.reserved b false ≡ true
+pub unchanged_out : {old new : Held} {list : List ℕ} (b : ℕ) → GivesBack old new list → get_or new.reserved b false ≡ true
     → IsOut list b
-kept_out {new = new} b gives is i lt e = both_ways (get_or new.reserved b false) (rw e at (gives.given i lt)) is
+unchanged_out {new = new} b gives is i lt e = both_ways (get_or new.reserved b false) (rw e at (gives.given i lt)) is
 
 -- ANOTHER LIST AT ONE NUMBER
 

@@ -15,14 +15,14 @@ use Rattle.spool_texts.specs.Written.{NoneOf, SameOutside, WritesIn}
 use Rattle.spool_room.specs.Holdings.{IsInSome, OwnsTexts, RuleHolds}
 use Rattle.spool_room.proofs.Numbers.{rising_apart}
 use Rattle.spool_room.proofs.Rule.{rule_holds}
-use Rattle.spool_drafts.specs.Drafts.{Holds, Carries, IsLonger, IsPlaced, KeepsTail, with_piece, list_of}
+use Rattle.spool_drafts.specs.Drafts.{Holds, Carries, IsLonger, IsTailPlaced, PreservesTail, with_piece, list_of}
 use Rattle.spool_drafts.specs.Drafts.{tail_of}
 use Rattle.spool_drafts.specs.Effect.{Regrasps, RunsShort}
 use Rattle.spool_drafts.specs.declared.draft.SpoolDraft.{SpoolDraft}
-use Rattle.spool_drafts.proofs.Stays.{has_kept}
+use Rattle.spool_drafts.proofs.Stays.{has_preserved}
 use Rattle.spool_pages.specs.Rests.{Unowned}
 use Rattle.spool_pages.specs.View.{SlotRecord, View}
-use Rattle.upload_rules.specs.Calls.{appended_at, longer}
+use Rattle.upload_rules.specs.Calls.{appended_at, longer_patch}
 use Rattle.upload_rules.specs.Drafts.{DraftOf, draft_at}
 use Rattle.upload_rules.specs.Grown.{IsGrown}
 use Rattle.upload_rules.specs.Room.{wants, is_short}
@@ -40,14 +40,14 @@ use Rattle.spool_catalog.specs.Holding.{Holding}
 use Rattle.spool_kept.specs.Stored.{Stored}
 use Rattle.spool_kept.specs.Changed.{slot_of}
 use Rattle.spool_catalog.specs.Shows.{Shows}
-use Rattle.spool_kept.specs.Drafting.{list_in, lists_at, DraftsHold, DraftStands, DraftsStand, OnlyReserves}
+use Rattle.spool_kept.specs.Drafting.{list_in, lists_at, DraftsHold, DraftRepresents, DraftsRepresent, OnlyReserves}
 use Rattle.spool_catalog.specs.Holding.{IsOwnedBy}
 use Rattle.spool_kept.specs.Drafting.{StandsFor}
 use Rattle.spool_catalog.proofs.slots.Members.{IsOut}
 use Rattle.spool_kept.proofs.drafts.DraftLists.{IsSwapped, all_reserved, all_apart, cases_in, in_other, in_own}
-use Rattle.spool_kept.proofs.drafts.DraftLists.{kept_out, given_keeps, none_in_nothing, none_sym, out_of_more}
-use Rattle.spool_kept.proofs.drafts.DraftLists.{reserved_before, taken_apart, taken_keeps}
-use Rattle.spool_kept.proofs.drafts.Drafted.{IsChanged, changed_lists, fit_changed, keeps_on, changed_in}
+use Rattle.spool_kept.proofs.drafts.DraftLists.{unchanged_out, given_preserves, none_in_nothing, none_sym, out_of_more}
+use Rattle.spool_kept.proofs.drafts.DraftLists.{reserved_before, taken_apart, taken_preserves}
+use Rattle.spool_kept.proofs.drafts.Drafted.{IsChanged, changed_lists, fit_changed, preserves_on, changed_in}
 use Rattle.spool_kept.proofs.slots.SlotsOf.{upload_slot, slots_apart, owner_upload}
 use Rattle.std.proofs.lemmas.Option.{same_Some}
 use Rattle.spool_catalog.proofs.Valid.{in_use}
@@ -100,12 +100,12 @@ module _ {n : ℕ} {h h' : Held} {old new : List (Option SpoolDraft)} {d : ℕ} 
   swapped : IsSwapped (lists_at old) d (list_of o') (lists_at new)
   swapped = changed_lists old new d (Some o') on.changed
 
-  others_kept : (e : ℕ) → d ≢ e → IsReserved h' (lists_at old e)
-  others_kept e other =
-      let kept = taken_keeps (lists_at old e) on.grasp.takes (fit.reserved e) in
+  others_unchanged : (e : ℕ) → d ≢ e → IsReserved h' (lists_at old e)
+  others_unchanged e other =
+      let reserved_still = taken_preserves (lists_at old e) on.grasp.takes (fit.reserved e) in
       elim on.grasp.holds [
-        | inl holds ↦ subst (λ (k : Held). IsReserved k (lists_at old e)) holds.0 kept
-        | inr given ↦ given_keeps (lists_at old e) given.0 kept (own_apart on.grasp.takes e other)
+        | inl holds ↦ subst (λ (k : Held). IsReserved k (lists_at old e)) holds.0 reserved_still
+        | inr given ↦ given_preserves (lists_at old e) given.0 reserved_still (own_apart on.grasp.takes e other)
       ]
 
   list_apart : (e : ℕ) → d ≢ e → NoneOf (list_of o') (lists_at old e)
@@ -114,10 +114,10 @@ module _ {n : ℕ} {h h' : Held} {old new : List (Option SpoolDraft)} {d : ℕ} 
     | inr given ↦ none_in_nothing (list_of o') (lists_at old e) given.1
   ]
 
-  pub fit_longer : IsReserved h' (list_of o') → IsPlaced n o' → DraftsHold n h' new
+  pub fit_longer : IsReserved h' (list_of o') → IsTailPlaced n o' → DraftsHold n h' new
   fit_longer reserved placed =
-      fit_changed n h h' old new d (Some o') fit on.changed reserved others_kept
-      (λ a e. subst (IsPlaced n) (same_Some o' a e) placed) list_apart
+      fit_changed n h h' old new d (Some o') fit on.changed reserved others_unchanged
+      (λ a e. subst (IsTailPlaced n) (same_Some o' a e) placed) list_apart
 
   pub all_longer : ((b : ℕ) → get_or h.reserved b false ≡ true → IsInSome (lists_at old) b) → (b : ℕ)
       → get_or h'.reserved b false ≡ true → IsInSome (lists_at new) b
@@ -125,7 +125,7 @@ module _ {n : ℕ} {h h' : Held} {old new : List (Option SpoolDraft)} {d : ℕ} 
     | inl holds ↦ taken_in (lists_at new) on.grasp.takes
         (record { here = swapped.here ∙ holds.1; others = swapped.others }) all b (rw (← holds.0) at is)
     | inr given ↦
-        let out = kept_out b given.0 is in
+        let out = unchanged_out b given.0 is in
         let before = reserved_before b on.grasp.takes (sym (given.0.others b out) ∙ is) out in
         in_other (lists_at old) (lists_at new) d (list_of o') swapped b (all b before) (out_here b on.grasp.takes out)
   ]
@@ -133,7 +133,7 @@ module _ {n : ℕ} {h h' : Held} {old new : List (Option SpoolDraft)} {d : ℕ} 
 -- THE RULE OF ROOM
 
 module _ {sure : Type 0} {w : World} {current : ℕ → ℕ} {first : ℕ} {records : List (Option SlotRecord)} {h : Held}
-    {old : List (Option SpoolDraft)} (stand : DraftsStand sure w.store.indexes current first records h w old)
+    {old : List (Option SpoolDraft)} (represent : DraftsRepresent sure w.store.indexes current first records h w old)
     {v : View} (shows : Shows v w.store) where
   abbrev slots : ℕ → ℕ
   slots n = slot_of n v.slots
@@ -155,14 +155,14 @@ module _ {sure : Type 0} {w : World} {current : ℕ → ℕ} {first : ℕ} {reco
   room_rule h' d list new same rows size swapped reserved apart all = rule_holds w slots new d h' size record {
     texts = owns_texts h'.rows (same ∙ rows);
     drafts = search (arith, common_steps);
-    limit = stand.limit ∙ ap (λ (r : List Row). Some (length r)) (sym same);
+    limit = represent.limit ∙ ap (λ (r : List Row). Some (length r)) (sym same);
   }
 
 -- OTHER DRAFTS
 
 -- what owned a draft's tail owns what it is now, if there is one
 pub owned_or_none : {slots : List (Option SlotRecord)} {rows : List Row} {number : ℕ} (o o' : SpoolDraft)
-    → KeepsTail o o' → IsOwnedBy slots rows number (tail_of o) → IsOwnedBy slots rows number (tail_of o')
+    → PreservesTail o o' → IsOwnedBy slots rows number (tail_of o) → IsOwnedBy slots rows number (tail_of o')
 owned_or_none {slots = slots} {rows = rows} {number = number} o o' (inl same) by =
     subst (IsOwnedBy slots rows number) (sym same) by
 owned_or_none o o' (inr none) by = record {
@@ -191,8 +191,8 @@ pub each_other : (R S : Patch → SpoolDraft → Type 0) (ps qs : List (ℕ × P
     → ((e : ℕ) → DraftOf R (find e ps) (draft_at old e))
     → ((e : ℕ) → d ≢ e → (r : Patch) (a : SpoolDraft) → find e ps ≡ Some r → draft_at old e ≡ Some a → R r a → S r a)
     → DraftOf S q o → (e : ℕ) → DraftOf S (find e qs) (draft_at new e)
-each_other R S ps qs {old = old} {d = d} there same changed all weaker stands e = elim (cases_eq d e) [
-  | inl is ↦ rw (← is, there, changed.here) stands
+each_other R S ps qs {old = old} {d = d} there same changed all weaker represents e = elim (cases_eq d e) [
+  | inl is ↦ rw (← is, there, changed.here) represents
   | inr other ↦ search (arith, common_steps)
 ]
 
@@ -210,41 +210,41 @@ went_back {old = old} {mid = mid} {new = new} d {o = o} o' {own = own} there out
 
 module _ {sure : Type 0} {x : IndexSet} {current : ℕ → ℕ} (current' : ℕ → ℕ) {first n : ℕ}
     {records : List (Option SlotRecord)} {h h' : Held} {w : World} {old new : List (Option SpoolDraft)} {d : ℕ}
-    {o o' : SpoolDraft} (stand : DraftsStand sure x current first records h w old) (fit : DraftsHold n h old)
+    {o o' : SpoolDraft} (represent : DraftsRepresent sure x current first records h w old) (fit : DraftsHold n h old)
     (on : WentOn h h' old d o o' new) (rows : h'.rows ≡ h.rows)
     (same : sure → SameOutside first on.own current current') where
   unowned : Unowned h.rows on.own
   unowned i lt = cc (on.grasp.reserved.no_owner i lt)
 
-  pub other_stands : (e : ℕ) → d ≢ e → (r : Patch) (a : SpoolDraft) → draft_at old e ≡ Some a
-      → DraftStands sure x current first records h.rows w.store r a
-      → DraftStands sure x current' first records h'.rows w.store r a
-  other_stands e other r a there is = rw rows (record {
+  pub other_represents : (e : ℕ) → d ≢ e → (r : Patch) (a : SpoolDraft) → draft_at old e ≡ Some a
+      → DraftRepresents sure x current first records h.rows w.store r a
+      → DraftRepresents sure x current' first records h'.rows w.store r a
+  other_represents e other r a there is = rw rows (record {
     holds = is.holds;
     below = is.below;
-    carries = λ known open_still. has_kept current current' first _ on.own a.progress (same known) (rw
+    carries = λ known open_still. has_preserved current current' first _ on.own a.progress (same known) (rw
         (ap list_in there) at (none_sym on.own (lists_at old e) (own_apart fit on on.grasp.takes e other))) (owned_apart
         records h.rows r.number (tail_of a) on.own (is.tail open_still) unowned) (is.carries known open_still);
     tail = is.tail;
   })
 
-  pub stand_longer : (p q : Patch) → find d w.patches ≡ Some p → IsGrown (record w { patches = replaced d q w.patches })
-      → DraftStands sure x current' first records h'.rows w.store q o'
-      → DraftsStand sure x current' first records h' (record w { patches = replaced d q w.patches }) new
-  stand_longer p q there grown is = record {
-    each = each_other (DraftStands sure x current first records h.rows w.store)
-        (DraftStands sure x current' first records h'.rows w.store) w.patches (replaced d q w.patches)
-        (find_replaced_same d p q w.patches there) (λ e. find_replaced_other d e q w.patches) on.changed stand.each
-        (λ e other r a found. other_stands e other r a) is;
-    apart = apart_replaced d q w.patches stand.apart;
+  pub represents_longer : (p q : Patch) → find d w.patches ≡ Some p → IsGrown (record w { patches = replaced d q w.patches })
+      → DraftRepresents sure x current' first records h'.rows w.store q o'
+      → DraftsRepresent sure x current' first records h' (record w { patches = replaced d q w.patches }) new
+  represents_longer p q there grown is = record {
+    each = each_other (DraftRepresents sure x current first records h.rows w.store)
+        (DraftRepresents sure x current' first records h'.rows w.store) w.patches (replaced d q w.patches)
+        (find_replaced_same d p q w.patches there) (λ e. find_replaced_other d e q w.patches) on.changed represent.each
+        (λ e other r a found. other_represents e other r a) is;
+    apart = apart_replaced d q w.patches represent.apart;
     grown = grown;
-    limit = stand.limit ∙ ap (λ (r : List Row). Some (length r)) (sym rows);
-    all = all_longer fit on stand.all;
+    limit = represent.limit ∙ ap (λ (r : List Row). Some (length r)) (sym rows);
+    all = all_longer fit on represent.all;
   }
 
 module _ {sure : Type 0} {w : World} {current : ℕ → ℕ} {first n : ℕ} {records : List (Option SlotRecord)} {h h' : Held}
     {old new : List (Option SpoolDraft)} {d : ℕ} {o o' : SpoolDraft}
-    (stand : DraftsStand sure w.store.indexes current first records h w old) (fit : DraftsHold n h old)
+    (represent : DraftsRepresent sure w.store.indexes current first records h w old) (fit : DraftsHold n h old)
     (on : WentOn h h' old d o o' new) (rows : h'.rows ≡ h.rows) {v : View} (shows : Shows v w.store)
     (known : h.rows ≡ v.rows) (size : length h.reserved ≡ length h.rows) (after : DraftsHold n h' new) where
   size_after : length h'.reserved ≡ length h'.rows
@@ -255,8 +255,8 @@ module _ {sure : Type 0} {w : World} {current : ℕ → ℕ} {first n : ℕ} {re
 
   rule_after : RuleHolds w d (lists_at new d) h'
   rule_after =
-      room_rule stand shows h' d (list_of o') (lists_at new) rows known size_after (swapped fit on) after.reserved
-      after.distinct (all_longer fit on stand.all)
+      room_rule represent shows h' d (list_of o') (lists_at new) rows known size_after (swapped fit on) after.reserved
+      after.distinct (all_longer fit on represent.all)
 
   -- the draft holds all blocks that its patch wants
   pub holds_all : (q : Patch) (done : Bool) → q.short ≡ false → length (list_of o') ≡ wants w.store.indexes q done
@@ -269,27 +269,27 @@ module _ {sure : Type 0} {w : World} {current : ℕ → ℕ} {first n : ℕ} {re
   lacks q done short =
       let lists : ℕ → List ℕ = λ e. if e == d then short.own else lists_at old e in
       let swap : IsSwapped (lists_at old) d short.own lists = search (arith, common_steps) in
-      let rule = room_rule stand shows short.held d short.own lists short.takes.rows known
+      let rule = room_rule represent shows short.held d short.own lists short.takes.rows known
       (omega (arith, short.takes.size, size, ap length short.takes.rows)) swap
       (all_reserved (lists_at old) lists d short.own swap short.held short.reserved
-      (λ e other. taken_keeps (lists_at old e) short.takes (fit.reserved e)))
+      (λ e other. taken_preserves (lists_at old e) short.takes (fit.reserved e)))
       (all_apart (lists_at old) lists d short.own swap (own_apart fit on short.takes) fit.distinct)
-      (taken_in fit on lists short.takes swap stand.all) in
+      (taken_in fit on lists short.takes swap represent.all) in
       rule.lacking q done short.full (omega (arith, short.scarce, ap length swap.here))
 
   module _ (p : Patch) (piece : List ℕ) where
     abbrev more : Patch
     more = with_piece p piece
 
-    kept_short : Holds w.store.indexes more o' → is_short w d more false ≡ p.short
-    kept_short holds = grind (arith, common_steps, cases_Bool, rule_after, holds_all)
+    unchanged_short : Holds w.store.indexes more o' → is_short w d more false ≡ p.short
+    unchanged_short holds = grind (arith, common_steps, cases_Bool, rule_after, holds_all)
 
-    pub longer_holds : IsLonger w.store.indexes more o o' h h' → Holds w.store.indexes (longer w d p piece) o'
-    longer_holds (inl holds) = rw (← (kept_short holds)) at holds
+    pub longer_holds : IsLonger w.store.indexes more o o' h h' → Holds w.store.indexes (longer_patch w d p piece) o'
+    longer_holds (inl holds) = rw (← (unchanged_short holds)) at holds
     longer_holds (inr short) = rw (← (lacks more false short.1)) at short.0
 
     pub longer_carries : (current' : ℕ → ℕ) → Carries w.store.indexes current' first more o'
-        → Carries w.store.indexes current' first (longer w d p piece) o'
+        → Carries w.store.indexes current' first (longer_patch w d p piece) o'
     unfolding patch_text
     longer_carries current' carries = carries
 
@@ -303,8 +303,8 @@ pub moved : {D : Type 0} {sure : Bool} {disk : Ghosts D} {d : D} (d' : D) {old n
 moved d' {old = old} {new = new} s same honest own unowned size writes = record {
   honest = λ known. honest (s.honest known);
   view = s.view;
-  rests = λ known. rests_writes own (sym s.keeps.blocks ∙ sym size) (s.rests known) unowned (writes known);
-  keeps = keeps_on old new s.view same s.keeps;
+  rests = λ known. rests_writes own (sym s.has_view.blocks ∙ sym size) (s.rests known) unowned (writes known);
+  has_view = preserves_on old new s.view same s.has_view;
   shows = s.shows;
 }
 
@@ -319,20 +319,20 @@ answered X Y (Err Stops.NoMemory) done same = (tt, same refl)
 answered X Y (Err Stops.DiskFault) done same = tt
 
 -- a disk fault is told as itself
-pub is_told : {T : Type 0} (r : Result T Stop) → IsErrOf r Stops.DiskFault
+pub is_recorded : {T : Type 0} (r : Result T Stop) → IsErrOf r Stops.DiskFault
     → IsErrOf (unrefused r) (UploadError.Stop Stops.DiskFault)
-is_told (Ok t) is = absurd (cc)
-is_told (Err stop) is = cc
+is_recorded (Ok t) is = absurd (cc)
+is_recorded (Err stop) is = cc
 
-pub was_told : {T : Type 0} (r : Result T Stop) → IsErrOf (unrefused r) (UploadError.Stop Stops.DiskFault)
+pub was_recorded : {T : Type 0} (r : Result T Stop) → IsErrOf (unrefused r) (UploadError.Stop Stops.DiskFault)
     → IsErrOf r Stops.DiskFault
-was_told (Ok t) is = absurd (cc)
-was_told (Err stop) is = cc
+was_recorded (Ok t) is = absurd (cc)
+was_recorded (Err stop) is = cc
 
 pub longer_world : {D : Type 0} {sure : Bool} {disk : Ghosts D} {d : D} {h : Holding} {drafts : List
     (Option SpoolDraft)}
     (w : World) (number : ℕ) (piece : List ℕ) {p : Patch} {a : Option Patch} → a ≡ Some p
-    → Stored sure disk d h w.store → DraftsStand (sure ≡ true) w.store.indexes (disk.current d) (text_page h.layout)
-    h.slots h.blocks (record w { patches = replaced number (longer w number p piece) w.patches }) drafts
+    → Stored sure disk d h w.store → DraftsRepresent (sure ≡ true) w.store.indexes (disk.current d) (text_page h.layout)
+    h.slots h.blocks (record w { patches = replaced number (longer_patch w number p piece) w.patches }) drafts
     → StandsFor sure disk d h drafts (appended_at w number piece a)
-longer_world w number piece e stored stands = rw e (record { stored = stored; stands = stands })
+longer_world w number piece e stored represents = rw e (record { stored = stored; represents = represents })

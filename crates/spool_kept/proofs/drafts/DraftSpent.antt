@@ -8,7 +8,7 @@ use Rattle.std.proofs.lemmas.Option.{same_Some}
 use Rattle.spool_journal.specs.declared.TheConstants.{PAGE}
 use Rattle.enc_model.specs.Indexes.{IndexSet}
 use Rattle.spool_blocks.specs.Blocks.{Row, Held}
-use Rattle.spool_drafts.specs.Drafts.{IsPlaced, list_of}
+use Rattle.spool_drafts.specs.Drafts.{IsTailPlaced, list_of}
 use Rattle.spool_drafts.specs.declared.draft.SpoolDraft.{SpoolDraft}
 use Rattle.spool_pages.specs.View.{SlotRecord}
 use Rattle.spool_room.specs.Holdings.{IsInSome}
@@ -23,14 +23,14 @@ use Rattle.upload_rules.specs.World.{Patch, World}
 use Rattle.upload_rules.proofs.Finds.{find_replaced_other, find_replaced_same, find_without_other, find_without_same}
 use Rattle.upload_rules.proofs.Patches.{apart_without}
 use Rattle.upload_rules.proofs.Same.{same_upload}
-use Rattle.spool_kept.specs.Drafting.{DraftStands, DraftsHold, DraftsStand, IsStillOpen, list_in, lists_at}
+use Rattle.spool_kept.specs.Drafting.{DraftRepresents, DraftsHold, DraftsRepresent, IsStillOpen, list_in, lists_at}
 use Rattle.spool_catalog.specs.Holding.{IsOwnedBy}
-use Rattle.spool_catalog.specs.Longer.{HandsOn, IsLonger, longer_record}
+use Rattle.spool_catalog.specs.Longer.{HandsOn, HasLonger, longer_record}
 use Rattle.spool_catalog.specs.Holding.{Holding, IsUsedBy}
 use Rattle.spool_catalog.specs.declared.longer.Longer.{Longer}
 use Rattle.spool_catalog.proofs.slots.ChangedSlots.{one_value, slot_here}
 use Rattle.spool_catalog.proofs.slots.Members.{IsOut, nothing_reserved}
-use Rattle.spool_kept.proofs.drafts.DraftLists.{in_other, kept_out, none_in_nothing}
+use Rattle.spool_kept.proofs.drafts.DraftLists.{in_other, unchanged_out, none_in_nothing}
 use Rattle.spool_kept.proofs.drafts.DraftLonger.{WentOn, all_longer, each_other, fit_longer}
 use Rattle.spool_kept.proofs.drafts.Drafted.{IsChanged, changed_lists, changed_out, fit_changed, fit_dropped}
 use Rattle.spool_catalog.proofs.slots.HandedOver.{others_same}
@@ -46,16 +46,16 @@ pub record StaysFree (old new : List Row) (list : List ℕ) : Type 0 where
   pub free : (b : ℕ) → IsOut list b → get_or old b None ≡ None → get_or new b None ≡ None
 
 pub rows_handed : (h new : Holding) (used : SlotRecord) (longer : Longer) (more : List ℕ)
-    → IsLonger h used longer more new → StaysFree h.blocks.rows new.blocks.rows more
+    → HasLonger h used longer more new → StaysFree h.blocks.rows new.blocks.rows more
 rows_handed h new used longer more is = search (arith, common_steps)
 
-handed_keeps : (h h' : Held) (list other : List ℕ) → HandsOn h.reserved h'.reserved list → StaysFree h.rows h'.rows list
+handed_preserves : (h h' : Held) (list other : List ℕ) → HandsOn h.reserved h'.reserved list → StaysFree h.rows h'.rows list
     → IsReserved h other → NoneOf list other → IsReserved h' other
-handed_keeps h h' list other hands rows is apart = search (arith, common_steps)
+handed_preserves h h' list other hands rows is apart = search (arith, common_steps)
 
 module _ {n : ℕ} {h h' : Held} {old : List (Option SpoolDraft)} {d : ℕ} {o o' : SpoolDraft} (fit : DraftsHold n h old)
     (on : WentOn h h' old d o o' (set old d (Some o'))) (reserved : IsReserved h' (list_of o'))
-    (placed : IsPlaced n o') where
+    (placed : IsTailPlaced n o') where
   fit_mid : DraftsHold n h' (set old d (Some o'))
   fit_mid = fit_longer fit on reserved placed
 
@@ -75,7 +75,7 @@ module _ {n : ℕ} {h h' : Held} {old : List (Option SpoolDraft)} {d : ℕ} {o o
       → StaysFree h'.rows h''.rows (list_of o') → DraftsHold n h'' (set old d None)
   fit_handed h'' hands rows =
       fit_changed n h' h'' (set old d (Some o')) (set old d None) d None fit_mid mid_out (nothing_reserved h'' [] refl)
-      (λ e other. handed_keeps h' h'' (list_of o') (lists_at (set old d (Some o')) e) hands rows (fit_mid.reserved e)
+      (λ e other. handed_preserves h' h'' (list_of o') (lists_at (set old d (Some o')) e) hands rows (fit_mid.reserved e)
       (subst (λ (xs : List ℕ). NoneOf xs (lists_at (set old d (Some o')) e)) list_mid (fit_mid.distinct d e other)))
       (λ a e. absurd cc) (λ e other. none_in_nothing [] (lists_at (set old d (Some o')) e) refl)
 
@@ -89,7 +89,7 @@ module _ {n : ℕ} {h h' : Held} {old : List (Option SpoolDraft)} {d : ℕ} {o o
 
     pub all_given : (h'' : Held) → GivesBack h' h'' (list_of o') → (b : ℕ) → get_or h''.reserved b false ≡ true
         → IsInSome (lists_at (set old d None)) b
-    all_given h'' gives b is = let out = kept_out b gives is in still_in b out (sym (gives.others b out) ∙ is)
+    all_given h'' gives b is = let out = unchanged_out b gives is in still_in b out (sym (gives.others b out) ∙ is)
 
     pub all_handed : (h'' : Held) → HandsOn h'.reserved h''.reserved (list_of o') → (b : ℕ)
         → get_or h''.reserved b false ≡ true → IsInSome (lists_at (set old d None)) b
@@ -97,18 +97,18 @@ module _ {n : ℕ} {h h' : Held} {old : List (Option SpoolDraft)} {d : ℕ} {o o
 
 -- THE OTHER DRAFTS
 
-pub stand_spent : {sure : Type 0} {x : IndexSet} {current : ℕ → ℕ} (current' : ℕ → ℕ) {first : ℕ}
+pub represents_spent : {sure : Type 0} {x : IndexSet} {current : ℕ → ℕ} (current' : ℕ → ℕ) {first : ℕ}
     {records : List (Option SlotRecord)} (records' : List (Option SlotRecord)) {h : Held} (h' : Held) {w : World}
-    (m : Store) {old : List (Option SpoolDraft)} (d : ℕ) → DraftsStand sure x current first records h w old
+    (m : Store) {old : List (Option SpoolDraft)} (d : ℕ) → DraftsRepresent sure x current first records h w old
     → ((e : ℕ) → d ≢ e → (r : Patch) (a : SpoolDraft) → find e w.patches ≡ Some r → draft_at old e ≡ Some a
-    → DraftStands sure x current first records h.rows w.store r a
-    → DraftStands sure x current' first records' h'.rows m r a)
+    → DraftRepresents sure x current first records h.rows w.store r a
+    → DraftRepresents sure x current' first records' h'.rows m r a)
     → IsGrown (record w { store = m; patches = without d w.patches }) → length h'.rows ≡ length h.rows
     → ((b : ℕ) → get_or h'.reserved b false ≡ true → IsInSome (lists_at (set old d None)) b)
-    → DraftsStand sure x current' first records' h' (record w { store = m; patches = without d w.patches })
+    → DraftsRepresent sure x current' first records' h' (record w { store = m; patches = without d w.patches })
     (set old d None)
-stand_spent {sure = sure} {x = x} {current = current} current' {first = first} {records = records} records' {h = h} h'
-    {w = w} m {old = old} d stand weaker grown size all =
+represents_spent {sure = sure} {x = x} {current = current} current' {first = first} {records = records} records' {h = h} h'
+    {w = w} m {old = old} d represent weaker grown size all =
     grind (arith, common_steps, each_other, find_without_same, find_without_other, changed_out, apart_without)
 
 -- WHERE AN UPLOAD HAS MORE
@@ -163,7 +163,7 @@ module _ (w : World) (grown : IsGrown w) (n : ℕ) (u : Upload) (upload : upload
 
 -- the other slots own what they did
 pub others_longer : {h new : Holding} {used : SlotRecord} {longer : Longer} {more : List ℕ}
-    → IsLonger h used longer more new → ((i : ℕ) → i < length more → get_or h.blocks.rows (get_or more i 0) None ≡ None)
+    → HasLonger h used longer more new → ((i : ℕ) → i < length more → get_or h.blocks.rows (get_or more i 0) None ≡ None)
     → SameOthers longer.slot h.blocks.rows new.blocks.rows
 others_longer {h = h} {new = new} {used = used} {longer = longer} {more = more} is no_owner =
     elim (cases_lt 0 (length more)) [
@@ -174,7 +174,7 @@ others_longer {h = h} {new = new} {used = used} {longer = longer} {more = more} 
 
 -- where only its record is another, an upload's blocks stay its own
 pub owned_declared : (h new : Holding) (used : SlotRecord) (longer : Longer) (k : ℕ) (list : List ℕ)
-    → get_or h.slots longer.slot None ≡ Some used → IsLonger h used longer [] new
+    → get_or h.slots longer.slot None ≡ Some used → HasLonger h used longer [] new
     → IsOwnedBy h.slots h.blocks.rows k list → IsOwnedBy new.slots new.blocks.rows k list
 owned_declared h new used longer k list there is owned = record {
   slot = owned.slot;

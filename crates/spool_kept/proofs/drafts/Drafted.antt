@@ -10,7 +10,7 @@ use Rattle.spool_disk.specs.declared.disk.Disk.{Ghosts}
 use Rattle.spool_journal.specs.Image.{text_page}
 use Rattle.spool_texts.specs.Drafts.{IsReserved, GivesBack}
 use Rattle.spool_texts.specs.Written.{NoneOf}
-use Rattle.spool_drafts.specs.Drafts.{IsPlaced, list_of, tail_of, Carries}
+use Rattle.spool_drafts.specs.Drafts.{IsTailPlaced, list_of, tail_of, Carries}
 use Rattle.spool_drafts.specs.declared.draft.SpoolDraft.{SpoolDraft}
 use Rattle.spool_pages.specs.View.{SlotRecord, View}
 use Rattle.enc_model.specs.Indexes.{IndexSet}
@@ -19,15 +19,15 @@ use Rattle.upload_rules.specs.Drafts.{draft_at}
 use Rattle.upload_rules.specs.Store.{Upload, Store, upload_of}
 use Rattle.upload_rules.specs.declared.errors.UploadRefusal.{UploadRefusal}
 use Rattle.upload_rules.specs.World.{World}
-use Rattle.upload_rules.proofs.Patches.{apart_without, dropped_stand}
+use Rattle.upload_rules.proofs.Patches.{apart_without, dropped_represents}
 use Rattle.upload_rules.proofs.Growing.{grown_dropped}
 use Rattle.spool_catalog.specs.Holding.{Holding}
-use Rattle.spool_catalog.specs.Kept.{KeepsView}
+use Rattle.spool_catalog.specs.Catalog.{HasView}
 use Rattle.spool_kept.specs.Stored.{Stored}
-use Rattle.spool_kept.specs.Drafting.{list_in, lists_at, DraftsHold, OnlyReserves, DraftStands, DraftsStand}
+use Rattle.spool_kept.specs.Drafting.{list_in, lists_at, DraftsHold, OnlyReserves, DraftRepresents, DraftsRepresent}
 use Rattle.spool_catalog.specs.Holding.{IsOwnedBy}
 use Rattle.spool_kept.specs.Drafting.{CarriesFor, StandsFor}
-use Rattle.spool_kept.proofs.drafts.DraftLists.{IsSwapped, all_reserved, all_apart, in_other, kept_out}
+use Rattle.spool_kept.proofs.drafts.DraftLists.{IsSwapped, all_reserved, all_apart, in_other, unchanged_out}
 
 -- ANOTHER DRAFT AT ONE NUMBER
 
@@ -57,7 +57,7 @@ changed_in old new d o lt is = search (arith, common_steps)
 pub fit_changed : (n : ℕ) (h h' : Held) (old new : List (Option SpoolDraft)) (d : ℕ) (o : Option SpoolDraft)
     → DraftsHold n h old → IsChanged old d o new
     → IsReserved h' (list_in o) → ((e : ℕ) → d ≢ e → IsReserved h' (lists_at old e))
-    → ((a : SpoolDraft) → o ≡ Some a → IsPlaced n a)
+    → ((a : SpoolDraft) → o ≡ Some a → IsTailPlaced n a)
     → ((e : ℕ) → d ≢ e → NoneOf (list_in o) (lists_at old e)) → DraftsHold n h' new
 fit_changed n h h' old new d o fit is own others placed apart = record {
   reserved = all_reserved (lists_at old) (lists_at new) d (list_in o) (changed_lists old new d o is) h' own others;
@@ -70,10 +70,10 @@ fit_changed n h h' old new d o fit is own others placed apart = record {
 
 -- WHAT IS KEPT
 
-pub keeps_on : (old new : Holding) (v : View) → OnlyReserves old new → KeepsView old v → KeepsView new v
-keeps_on old new v same keeps =
-    let rows : new.blocks.rows ≡ v.rows = same.rows ∙ keeps.rows in
-    subst (λ (h : Holding). KeepsView h v) (sym same.same) (assumption (rows, keeps))
+pub preserves_on : (old new : Holding) (v : View) → OnlyReserves old new → HasView old v → HasView new v
+preserves_on old new v same has_view =
+    let rows : new.blocks.rows ≡ v.rows = same.rows ∙ has_view.rows in
+    subst (λ (h : Holding). HasView h v) (sym same.same) (assumption (rows, has_view))
 
 pub stored_on : {D : Type 0} {sure : Bool} (disk : Ghosts D) (d : D) (old new : Holding) (m : Store)
     → OnlyReserves old new → Stored sure disk d old m → Stored sure disk d new m
@@ -81,7 +81,7 @@ stored_on disk d old new m same stored = record {
   honest = stored.honest;
   view = stored.view;
   rests = stored.rests;
-  keeps = keeps_on old new stored.view same stored.keeps;
+  has_view = preserves_on old new stored.view same stored.has_view;
   shows = stored.shows;
 }
 
@@ -94,19 +94,19 @@ module _ (n : ℕ) (h h' : Held) (old new : List (Option SpoolDraft)) (d : ℕ) 
   pub fit_dropped : DraftsHold n h old → GivesBack h h' (lists_at old d) → DraftsHold n h' new
   fit_dropped fit gives = search (arith, common_steps)
 
-  pub stand_dropped : {sure : Type 0} (x : IndexSet) (current : ℕ → ℕ) (first : ℕ) (records : List (Option SlotRecord))
-      (w : World) → GivesBack h h' (lists_at old d) → DraftsStand sure x current first records h w old
-      → DraftsStand sure x current first records h' (dropped w d) new
-  stand_dropped {sure = sure} x current first records w gives stand = record {
-    each = dropped_stand (DraftStands sure x current first records h'.rows w.store) w.patches old new
-        (rw (← gives.rows) at stand.each) d stand.apart is;
-    apart = apart_without d w.patches stand.apart;
-    grown = grown_dropped w stand.grown d stand.apart;
-    limit = stand.limit ∙ ap (λ (rows : List Row). Some (length rows)) (sym gives.rows);
+  pub represents_drop : {sure : Type 0} (x : IndexSet) (current : ℕ → ℕ) (first : ℕ) (records : List (Option SlotRecord))
+      (w : World) → GivesBack h h' (lists_at old d) → DraftsRepresent sure x current first records h w old
+      → DraftsRepresent sure x current first records h' (dropped w d) new
+  represents_drop {sure = sure} x current first records w gives represent = record {
+    each = dropped_represents (DraftRepresents sure x current first records h'.rows w.store) w.patches old new
+        (rw (← gives.rows) at represent.each) d represent.apart is;
+    apart = apart_without d w.patches represent.apart;
+    grown = grown_dropped w represent.grown d represent.apart;
+    limit = represent.limit ∙ ap (λ (rows : List Row). Some (length rows)) (sym gives.rows);
     all = λ b reserved.
-        let out = kept_out b gives reserved in
+        let out = unchanged_out b gives reserved in
         in_other (lists_at old) (lists_at new) d [] (changed_lists old new d None gone) b
-        (stand.all b (sym (gives.others b out) ∙ reserved)) out;
+        (represent.all b (sym (gives.others b out) ∙ reserved)) out;
   }
 
 -- nothing is given back
@@ -125,10 +125,10 @@ drops {sure = sure} {disk = disk} {d = d} {old = old} {new = new} {drafts = draf
     {w = w} same
     is gives s = record {
       stored = stored_on disk d old new w.store same s.stored;
-      stands = subst (λ (h : Holding). DraftsStand (sure ≡ true) w.store.indexes (disk.current d)
+      represents = subst (λ (h : Holding). DraftsRepresent (sure ≡ true) w.store.indexes (disk.current d)
           (text_page h.layout) h.slots new.blocks (dropped w number) drafts') (sym same.same)
-          (stand_dropped old.layout old.blocks new.blocks drafts drafts' number is w.store.indexes (disk.current d)
-          (text_page old.layout) old.slots w gives s.stands);
+          (represents_drop old.layout old.blocks new.blocks drafts drafts' number is w.store.indexes (disk.current d)
+          (text_page old.layout) old.slots w gives s.represents);
     }
 
 -- a draft was taken, and its blocks were given back

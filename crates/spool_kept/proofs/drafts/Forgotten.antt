@@ -12,7 +12,7 @@ use Rattle.spool_texts.specs.Drafts.{IsReserved}
 use Rattle.upload_rules.specs.Drafts.{DraftOf, draft_at}
 use Rattle.upload_rules.specs.Store.{find, upload_of}
 use Rattle.upload_rules.specs.World.{Patch, World}
-use Rattle.spool_kept.specs.Drafting.{DraftStands, DraftsFit, DraftsHold, DraftsStand, IsOfUpload, StandsFor, list_in}
+use Rattle.spool_kept.specs.Drafting.{DraftRepresents, DraftsFit, DraftsHold, DraftsRepresent, IsOfUpload, StandsFor, list_in}
 use Rattle.spool_kept.specs.Drafting.{lists_at}
 use Rattle.spool_catalog.specs.Holding.{Holding, IsUsedBy}
 use Rattle.spool_kept.specs.Terminating.{EachForgets, ForgetsOf, ForgetsTail}
@@ -46,28 +46,28 @@ module _ (number : ℕ) (old new : List (Option SpoolDraft)) (forgets : EachForg
 
   module _ (sure : Type 0) (x : IndexSet) (current : ℕ → ℕ) (first : ℕ) (slots : List (Option SlotRecord)) (h : Held)
       (w : World) (gone : upload_of w.store number ≡ None) where
-    stands_of : (p : Patch) (o o' : SpoolDraft) → ForgetsTail number o o'
-        → DraftStands sure x current first slots h.rows w.store p o
-        → DraftStands sure x current first slots h.rows w.store p o'
-    stands_of p o o' forgot s = search (arith, common_steps)
+    represents_of : (p : Patch) (o o' : SpoolDraft) → ForgetsTail number o o'
+        → DraftRepresents sure x current first slots h.rows w.store p o
+        → DraftRepresents sure x current first slots h.rows w.store p o'
+    represents_of p o o' forgot s = search (arith, common_steps)
 
     each_of : (q : Option Patch) (o o' : Option SpoolDraft) → ForgetsOf number o o'
-        → DraftOf (DraftStands sure x current first slots h.rows w.store) q o
-        → DraftOf (DraftStands sure x current first slots h.rows w.store) q o'
+        → DraftOf (DraftRepresents sure x current first slots h.rows w.store) q o
+        → DraftOf (DraftRepresents sure x current first slots h.rows w.store) q o'
     each_of None None None forgot s = tt
-    each_of (Some p) (Some o) (Some o') forgot s = stands_of p o o' forgot s
+    each_of (Some p) (Some o) (Some o') forgot s = represents_of p o o' forgot s
     each_of None None (Some o') forgot s = absurd forgot
     each_of (Some p) (Some o) None forgot s = absurd forgot
     each_of q o o' forgot s = absurd s
 
-    stand_forgotten : DraftsStand sure x current first slots h w old → DraftsStand sure x current first slots h w new
-    stand_forgotten stand = record {
-      each = λ d. each_of (find d w.patches) (draft_at old d) (draft_at new d) (forgets d) (stand.each d);
-      apart = stand.apart;
-      grown = stand.grown;
-      limit = stand.limit;
+    draft_forgotten : DraftsRepresent sure x current first slots h w old → DraftsRepresent sure x current first slots h w new
+    draft_forgotten represent = record {
+      each = λ d. each_of (find d w.patches) (draft_at old d) (draft_at new d) (forgets d) (represent.each d);
+      apart = represent.apart;
+      grown = represent.grown;
+      limit = represent.limit;
       all = λ b is.
-          let was = stand.all b is in
+          let was = represent.all b is in
           record {
             list = was.list;
             at = was.at;
@@ -76,12 +76,12 @@ module _ (number : ℕ) (old new : List (Option SpoolDraft)) (forgets : EachForg
           };
     }
 
-  pub stands_forgotten : {D : Type 0} {sure : Bool} {disk : Ghosts D} {d : D} {h : Holding} {w : World}
+  pub represents_forgotten : {D : Type 0} {sure : Bool} {disk : Ghosts D} {d : D} {h : Holding} {w : World}
       → upload_of w.store number ≡ None → StandsFor sure disk d h old w → StandsFor sure disk d h new w
-  stands_forgotten {sure = sure} {disk = disk} {d = d} {h = h} {w = w} gone stands = record {
-    stored = stands.stored;
-    stands = stand_forgotten (sure ≡ true) w.store.indexes (disk.current d) (text_page h.layout) h.slots h.blocks w gone
-        stands.stands;
+  represents_forgotten {sure = sure} {disk = disk} {d = d} {h = h} {w = w} gone represents = record {
+    stored = represents.stored;
+    represents = draft_forgotten (sure ≡ true) w.store.indexes (disk.current d) (text_page h.layout) h.slots h.blocks w gone
+        represents.represents;
   }
 
 -- WHATEVER THE DISK SAID

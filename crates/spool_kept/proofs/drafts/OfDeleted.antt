@@ -12,7 +12,7 @@ use Rattle.upload_rules.specs.Grown.{GrewFrom, IsGrown}
 use Rattle.upload_rules.specs.Store.{Upload, deleted_store, upload_of}
 use Rattle.upload_rules.specs.World.{Patch, World}
 use Rattle.upload_rules.proofs.Deleted.{find_in_others, none_in_others}
-use Rattle.spool_kept.specs.Drafting.{DraftStands, DraftsHold, DraftsStand, IsStillOpen, StandsFor}
+use Rattle.spool_kept.specs.Drafting.{DraftRepresents, DraftsHold, DraftsRepresent, IsStillOpen, StandsFor}
 use Rattle.spool_catalog.specs.Holding.{Holding, IsUsedBy}
 use Rattle.spool_kept.specs.Stored.{Stored}
 use Rattle.spool_catalog.specs.Rows.{FreesRows}
@@ -54,10 +54,10 @@ still_grown w number grown = record {
 module _ {h h' : Holding} {number slot : ℕ} (used : IsUsedBy h.slots slot number) (out : IsTakenOut h slot h') where
   module _ {sure : Type 0} (w : World) (current current' : ℕ → ℕ) (first : ℕ)
       (same : sure → (p : ℕ) → PAGE * first ≤ p → current' p ≡ current p) where
-    stands_still : (p : Patch) (o : SpoolDraft) → DraftStands sure w.store.indexes current first h.slots h.blocks.rows
-        w.store p o → DraftStands sure w.store.indexes current' first h'.slots h'.blocks.rows
+    represents_still : (p : Patch) (o : SpoolDraft) → DraftRepresents sure w.store.indexes current first h.slots h.blocks.rows
+        w.store p o → DraftRepresents sure w.store.indexes current' first h'.slots h'.blocks.rows
         (deleted_store w.store number) p o
-    stands_still p o s = record {
+    represents_still p o s = record {
       holds = s.holds;
       below = s.below;
       carries = λ known there. has_same current current' first _ o.progress (same known)
@@ -67,17 +67,17 @@ module _ {h h' : Holding} {number slot : ℕ} (used : IsUsedBy h.slots slot numb
           owned_still None out.slots (others_stay slot h.blocks.rows h'.blocks.rows out.rows) used was.0 (s.tail was.1);
     }
 
-    pub drafts_still : (drafts : List (Option SpoolDraft)) → DraftsStand sure w.store.indexes current first h.slots
-        h.blocks w drafts → DraftsStand sure w.store.indexes current' first h'.slots h'.blocks
+    pub drafts_still : (drafts : List (Option SpoolDraft)) → DraftsRepresent sure w.store.indexes current first h.slots
+        h.blocks w drafts → DraftsRepresent sure w.store.indexes current' first h'.slots h'.blocks
         (terminated w number) drafts
-    drafts_still drafts stand = grind (arith, common_steps, held_both, stands_still, still_grown)
+    drafts_still drafts represent = grind (arith, common_steps, held_both, represents_still, still_grown)
 
-  pub stands_after : {D : Type 0} {sure : Bool} {disk : Ghosts D} {d d' : D} {drafts : List (Option SpoolDraft)}
+  pub represents_after : {D : Type 0} {sure : Bool} {disk : Ghosts D} {d d' : D} {drafts : List (Option SpoolDraft)}
       {w : World} → StandsFor sure disk d h drafts w → Stored sure disk d' h' (deleted_store w.store number)
       → (sure ≡ true → (p : ℕ) → PAGE * text_page h.layout ≤ p → disk.current d' p ≡ disk.current d p)
       → StandsFor sure disk d' h' drafts (terminated w number)
-  stands_after {sure = sure} {disk = disk} {d = d} {d' = d'} {drafts = drafts} {w = w} stands stored same = record {
+  represents_after {sure = sure} {disk = disk} {d = d} {d' = d'} {drafts = drafts} {w = w} represents stored same = record {
     stored = stored;
-    stands = rw (← out.layout) at (drafts_still w (disk.current d) (disk.current d') (text_page h.layout) same drafts
-        stands.stands);
+    represents = rw (← out.layout) at (drafts_still w (disk.current d) (disk.current d') (text_page h.layout) same drafts
+        represents.represents);
   }

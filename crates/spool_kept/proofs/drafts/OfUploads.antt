@@ -3,7 +3,7 @@ use Rattle.std.proofs.lemmas.Grind.{common_steps}
 use Rattle.std.proofs.Common.{◌≡◌, inl, inr, ℕ, ◌<◌, ◌≤◌, false, List, [], Option, None, Some, IfOk}
 use Rattle.std.proofs.Common.{Result, Ok, Err, get_or, length, set, refl, sym, ◌∙◌, ap, subst, arith}
 use Rattle.std.proofs.lemmas.Bool.{both_ways}
-use Rattle.spool_drafts.specs.Drafts.{IsAfter, declare_of, number_of, offset_of, list_of}
+use Rattle.spool_drafts.specs.Drafts.{IsAfter, declare_of, upload_number_of, offset_of, list_of}
 use Rattle.spool_drafts.specs.declared.draft.SpoolDraft.{SpoolDraft}
 use Rattle.spool_blocks.specs.Blocks.{Held}
 use Rattle.spool_pages.specs.View.{SlotRecord}
@@ -15,9 +15,9 @@ use Rattle.upload_rules.specs.declared.records.Record.{Record}
 use Rattle.spool_kept.specs.Committing.{HasSameCount, IsAfterSlot}
 use Rattle.spool_catalog.specs.TakenIn.{HasRoomAt, IsTakenIn}
 use Rattle.spool_kept.specs.Drafting.{DraftsFit, DraftsHold, EachDraft, IsOfUpload, lists_at, list_in}
-use Rattle.spool_catalog.specs.Records.{IsKept}
+use Rattle.spool_catalog.specs.Records.{IsInSlot}
 use Rattle.spool_kept.specs.Extending.{Advances, OnlyDeclares}
-use Rattle.spool_catalog.specs.Longer.{IsLonger, longer_record}
+use Rattle.spool_catalog.specs.Longer.{HasLonger, longer_record}
 use Rattle.spool_catalog.specs.Holding.{Holding}
 use Rattle.spool_catalog.specs.declared.longer.Longer.{Longer}
 use Rattle.spool_kept.proofs.drafts.Drafted.{IsChanged, changed_out, fit_dropped}
@@ -26,28 +26,28 @@ use Rattle.spool_catalog.proofs.Valid.{in_use}
 -- A DRAFT'S UPLOAD
 
 -- one that begins
-of_begun : (slots : List (Option SlotRecord)) (r : Record) (o : SpoolDraft) → IsKept slots r
-    → number_of o ≡ r.number → offset_of o ≡ r.accepted → IsAfter r.text_len r.state o → IsOfUpload slots o
-of_begun slots r o kept number offset after = record {
-  grown = λ s q there is. omega (arith, offset, ap (λ (p : SlotRecord). p.accepted) (kept.only s q there (cc)));
+of_begun : (slots : List (Option SlotRecord)) (r : Record) (o : SpoolDraft) → IsInSlot slots r
+    → upload_number_of o ≡ r.number → offset_of o ≡ r.accepted → IsAfter r.text_len r.state o → IsOfUpload slots o
+of_begun slots r o in_slot number offset after = record {
+  grown = λ s q there is. omega (arith, offset, ap (λ (p : SlotRecord). p.accepted) (in_slot.only s q there (cc)));
   after = search (arith, common_steps);
 }
 
-pub begins_kept : (slots : List (Option SlotRecord)) (r : Record) (declare : Option ℕ)
-    (result : Result SpoolDraft UploadRefusal) → IsKept slots r
-    → IfOk result (λ o. (number_of o ≡ r.number) × (offset_of o ≡ r.accepted) × (declare_of o ≡ declare))
+pub begins_in_slot : (slots : List (Option SlotRecord)) (r : Record) (declare : Option ℕ)
+    (result : Result SpoolDraft UploadRefusal) → IsInSlot slots r
+    → IfOk result (λ o. (upload_number_of o ≡ r.number) × (offset_of o ≡ r.accepted) × (declare_of o ≡ declare))
     → IfOk result (IsAfter r.text_len r.state) → IfOk result (IsOfUpload slots)
-begins_kept slots r declare (Ok o) kept named after = of_begun slots r o kept named.0 named.1 after
-begins_kept slots r declare (Err e) kept named after = tt
+begins_in_slot slots r declare (Ok o) in_slot named after = of_begun slots r o in_slot named.0 named.1 after
+begins_in_slot slots r declare (Err e) in_slot named after = tt
 
 pub begins_below : (next number offset : ℕ) (declare : Option ℕ) (result : Result SpoolDraft UploadRefusal)
-    → number < next → IfOk result (λ o. (number_of o ≡ number) × (offset_of o ≡ offset) × (declare_of o ≡ declare))
-    → IfOk result (λ o. number_of o < next)
+    → number < next → IfOk result (λ o. (upload_number_of o ≡ number) × (offset_of o ≡ offset) × (declare_of o ≡ declare))
+    → IfOk result (λ o. upload_number_of o < next)
 begins_below next number offset declare (Ok o) lt named = omega (arith, lt, named.0)
 begins_below next number offset declare (Err e) lt named = tt
 
 -- the draft went on
-pub of_longer : (slots : List (Option SlotRecord)) (o o' : SpoolDraft) → number_of o' ≡ number_of o
+pub of_longer : (slots : List (Option SlotRecord)) (o o' : SpoolDraft) → upload_number_of o' ≡ upload_number_of o
     → offset_of o' ≡ offset_of o → ((len : ℕ) (state : List ℕ) → IsAfter len state o → IsAfter len state o')
     → IsOfUpload slots o → IsOfUpload slots o'
 of_longer slots o o' number offset on is = record {
@@ -68,7 +68,7 @@ module _ (slots : List (Option SlotRecord)) (longer : Longer) (used : SlotRecord
 
   -- with no fewer bytes, and after which the draft is where it may still be put there
   of_changed : used.accepted ≤ longer.accepted
-      → (used.number ≡ number_of o → longer.accepted ≡ offset_of o → is_length longer.declared longer.accepted ≡ false
+      → (used.number ≡ upload_number_of o → longer.accepted ≡ offset_of o → is_length longer.declared longer.accepted ≡ false
       → IsAfter longer.text_len longer.state o)
       → IsOfUpload (set slots longer.slot (Some (longer_record used longer))) o
   of_changed grows after = search (arith, common_steps)
@@ -132,7 +132,7 @@ fits_put h h' drafts d longer used there more next slots blocks fit = record {
 
 -- an upload got its length
 pub fits_declared : (h h' : Holding) (drafts : List (Option SpoolDraft)) (longer : Longer) (used : SlotRecord)
-    → get_or h.slots longer.slot None ≡ Some used → OnlyDeclares used longer → IsLonger h used longer [] h'
+    → get_or h.slots longer.slot None ≡ Some used → OnlyDeclares used longer → HasLonger h used longer [] h'
     → DraftsFit h drafts → DraftsFit h' drafts
 fits_declared h h' drafts longer used there only is fit = grind (arith, common_steps, of_declared)
 
@@ -140,8 +140,8 @@ fits_declared h h' drafts longer used there only is fit = grind (arith, common_s
 module _ (h h' : Holding) (slot : ℕ) (new : SlotRecord) (room : HasRoomAt h slot) (taken : IsTakenIn h slot new h')
     (number : new.number ≡ h.next) where
   -- the new record has no draft's number
-  was_there : (o : SpoolDraft) → number_of o < h.next → (s : ℕ) (r : SlotRecord) → get_or h'.slots s None ≡ Some r
-      → r.number ≡ number_of o → get_or h.slots s None ≡ Some r
+  was_there : (o : SpoolDraft) → upload_number_of o < h.next → (s : ℕ) (r : SlotRecord) → get_or h'.slots s None ≡ Some r
+      → r.number ≡ upload_number_of o → get_or h.slots s None ≡ Some r
   was_there o below s r e at = search (arith, common_steps)
 
   pub fits_created : (drafts : List (Option SpoolDraft)) → DraftsFit h drafts → DraftsFit h' drafts

@@ -7,14 +7,14 @@ use Rattle.spool_journal.specs.declared.TheConstants.{PAGE}
 use Rattle.upload_rules.specs.Room.{blocks_of}
 use Rattle.spool_blocks.specs.Blocks.{Row}
 use Rattle.spool_blocks.specs.Chains.{Owns, OwnsOneEach}
-use Rattle.spool_texts.specs.Texts.{block_at, block_bytes, joined, text_shown}
+use Rattle.spool_texts.specs.Texts.{block_at, block_bytes, joined_blocks, text_shown}
 use Rattle.spool_texts.specs.TextOn.{blocks_on, text_on, IsListed}
 use Rattle.spool_texts.proofs.Shown.{found, shown, text_joined}
 
 joined_same : (current : ℕ → ℕ) (first : ℕ) (old new : List Row) (slot ordinal n : ℕ)
     → ((i : ℕ) → i < ordinal + n → block_at slot i new 0 ≡ block_at slot i old 0)
-    → joined current first new slot ordinal n ≡ joined current first old slot ordinal n
-unfolding joined
+    → joined_blocks current first new slot ordinal n ≡ joined_blocks current first old slot ordinal n
+unfolding joined_blocks
 joined_same current first old new slot ordinal zero same = refl
 joined_same current first old new slot ordinal (suc n) same =
     both (ap (block_bytes current first) (same ordinal (omega arith)))

@@ -66,7 +66,7 @@ module _ (v : View) (m : Store) (new : New) (s : ℕ) (r : SlotRecord) (shows : 
       valid = valid_more (omega (arith, shows.next)) valid;
       upload = new_upload new;
       there = find_push_same m.next (new_upload new) m.uploads (next_unused v m shows);
-      tells = search (arith, common_steps);
+      represents = search (arith, common_steps);
     };
     gone = λ u e. (r, refl);
   }

@@ -17,14 +17,14 @@ use Rattle.spool_disk.specs.Views.{Lasts}
 use Rattle.spool_journal.specs.Image.{text_page}
 use Rattle.spool_texts.specs.Texts.{text_shown}
 use Rattle.spool_pages.specs.Changes.{SameRowsBut, ChangesButRows, Changes, with_record}
-use Rattle.spool_pages.proofs.Resting.{rests_says}
+use Rattle.spool_pages.proofs.Resting.{rests_encodes}
 use Rattle.spool_pages.specs.Rests.{Rests, Unowned, HasTexts}
 use Rattle.spool_pages.specs.View.{SlotRecord, View, slot_at, IsViewOf}
 use Rattle.spool_texts.specs.Drafts.{IsReserved}
 use Rattle.spool_texts.specs.TextOn.{text_on}
 use Rattle.spool_catalog.specs.Rows.{HandsOver}
 use Rattle.spool_kept.specs.Changed.{appended_view, texts_with}
-use Rattle.spool_catalog.specs.Longer.{MayExtend, IsLonger, longer_record}
+use Rattle.spool_catalog.specs.Longer.{MayExtend, HasLonger, longer_record}
 use Rattle.spool_kept.specs.Extending.{IsAppend, full_bytes}
 use Rattle.spool_catalog.specs.declared.longer.Longer.{Longer}
 use Rattle.spool_catalog.specs.Holding.{Holding, FitsTogether}
@@ -35,12 +35,12 @@ use Rattle.spool_catalog.proofs.slots.ChangedSlots.{one_value}
 use Rattle.spool_kept.proofs.slots.SlotChange.{text_else, text_here}
 use Rattle.spool_catalog.proofs.numbers.Entries.{numbers_replaced}
 use Rattle.spool_catalog.proofs.slots.HandedOver.{listed_now, others_same, owns_one_each, room_for, rows_but_last}
-use Rattle.spool_catalog.proofs.slots.Keeps.{keeps_said}
+use Rattle.spool_catalog.proofs.slots.HasViews.{has_view_of}
 use Rattle.spool_kept.proofs.slots.SlotChange.{HasRows, IsChange, changed_shows, changed_texts, lasts_either}
 use Rattle.spool_catalog.proofs.slots.SlotFits.{same_others}
-use Rattle.spool_kept.proofs.slots.SlotChange.{told_upload}
+use Rattle.spool_kept.proofs.slots.SlotChange.{recorded_upload}
 use Rattle.spool_catalog.proofs.NewRecords.{small_is, state_length}
-use Rattle.spool_catalog.proofs.Told.{patched_after, told_state}
+use Rattle.spool_catalog.proofs.Recorded.{patched_after, recorded_state}
 use Rattle.spool_catalog.proofs.Valid.{in_use}
 use Rattle.spool_blocks.specs.Chains.{OwnsOneEach}
 
@@ -51,7 +51,7 @@ known_small None declare old small = small_is declare small
 known_small (Some n) declare old small = old
 
 module _ {D : Type 0} {sure : Bool} {disk : Ghosts D} {d : D} {h new : Holding} {longer : Longer} {more : List ℕ}
-    (may : MayExtend h longer more) (reserved : IsReserved h.blocks more) (is : IsLonger h may.used longer more new)
+    (may : MayExtend h longer more) (reserved : IsReserved h.blocks more) (is : HasLonger h may.used longer more new)
     {m : Store} {n : ℕ} {declare : Option ℕ} {bytes : List ℕ}
     (append : IsAppend sure disk d h m n declare bytes longer more) where
   abbrev s : Stored sure disk d h m
@@ -81,30 +81,30 @@ module _ {D : Type 0} {sure : Bool} {disk : Ghosts D} {d : D} {h new : Holding} 
       (append.stored.view.texts longer.slot ++ append.added)
 
   there : slot_at before longer.slot ≡ Some used
-  there = ap (λ (xs : List (Option SlotRecord)). get_or xs longer.slot None) (sym s.keeps.slots) ∙ may.there
+  there = ap (λ (xs : List (Option SlotRecord)). get_or xs longer.slot None) (sym s.has_view.slots) ∙ may.there
 
   number : used.number ≡ n
   number = ap (λ (r : SlotRecord). r.number) (one_value may.there append.used.there) ∙ append.used.is
 
-  told : IsRecordOf m.indexes used (before.texts longer.slot) append.upload
-  told = told_upload before m s.shows longer.slot used there append.upload (cc)
+  recorded : IsRecordOf m.indexes used (before.texts longer.slot) append.upload
+  recorded = recorded_upload before m s.shows longer.slot used there append.upload (cc)
 
   -- THE ROWS
 
   no_owner : Unowned before.rows more
-  no_owner = subst (λ (old : List Row). Unowned old more) s.keeps.rows reserved.no_owner
+  no_owner = subst (λ (old : List Row). Unowned old more) s.has_view.rows reserved.no_owner
 
   hands : 0 < length more → HandsOver before.rows longer.slot (used.text_len / PAGE) more rows
-  hands some = rw s.keeps.rows at (is.rows some)
+  hands some = rw s.has_view.rows at (is.rows some)
 
   same_rows : length more ≡ 0 → rows ≡ before.rows
-  same_rows none = ap (λ (b : Held). b.rows) (is.same none) ∙ s.keeps.rows
+  same_rows none = ap (λ (b : Held). b.rows) (is.same none) ∙ s.has_view.rows
 
   room : used.text_len / PAGE + length more ≤ MOST_BLOCKS
   room =
-      let below = rw s.keeps.rows at reserved.below in
+      let below = rw s.has_view.rows at reserved.below in
       let all = room_for before.rows longer.slot (used.text_len / PAGE) (get_or h.lists longer.slot []) more
-      (s.keeps.listed longer.slot used there).owned (omega (arith, s.keeps.sizes longer.slot used there))
+      (s.has_view.listed longer.slot used there).owned (omega (arith, s.has_view.sizes longer.slot used there))
       no_owner below reserved.distinct in
       omega (arith, all, s.shows.valid.row_count, s.shows.valid.most)
 
@@ -134,10 +134,10 @@ module _ {D : Type 0} {sure : Bool} {disk : Ghosts D} {d : D} {h new : Holding} 
 
   -- THE RECORD
 
-  tells : IsRecordOf m.indexes now text upload
-  tells =
-      let phase = patched_after m.indexes append.upload declare bytes append.extension.few told.phase in
-      grind (arith, common_steps, told, phase, length-append append.upload.accepted bytes)
+  represents : IsRecordOf m.indexes now text upload
+  represents =
+      let phase = patched_after m.indexes append.upload declare bytes append.extension.few recorded.phase in
+      grind (arith, common_steps, recorded, phase, length-append append.upload.accepted bytes)
 
   record_valid : IsValidRecord before.next now
   record_valid =
@@ -148,13 +148,13 @@ module _ {D : Type 0} {sure : Bool} {disk : Ghosts D} {d : D} {h new : Holding} 
         below = old.below;
         accepted = omega (arith, ext.accepted, ext.few, ap longest ext.declared);
         declared = rw ext.declared (known_small append.upload.declared declare
-            (subst (λ (k : Option ℕ). longest k ≤ MOST_LENGTH) told.declared old.declared) ext.small);
+            (subst (λ (k : Option ℕ). longest k ≤ MOST_LENGTH) recorded.declared old.declared) ext.small);
         text_fits = elim (cases_lt 0 (length more)) [
           | inl some ↦ omega (arith, may.blocks some, room)
           | inr none ↦ omega (arith, may.same (omega (arith, none)), old.text_fits)
         ];
         state_size = ap length may.state.is ∙ state_length may.state.after;
-        state = told_state m.indexes now text upload tells;
+        state = recorded_state m.indexes now text upload represents;
         metadata_size = old.metadata_size;
         printable = old.printable;
       }
@@ -166,18 +166,18 @@ module _ {D : Type 0} {sure : Bool} {disk : Ghosts D} {d : D} {h new : Holding} 
   text_now known texts = elim (cases_lt 0 (length more)) [
     | inl some ↦
         let was = texts longer.slot used there in
-        let size = s.keeps.sizes longer.slot used there in
+        let size = s.has_view.sizes longer.slot used there in
         let list = get_or h.lists longer.slot [] in
         let long = ap (λ (xs : List ℕ). length xs) append.extension.text
         ∙ length-append (text_of m.indexes append.upload) append.added in
-        let grown : used.text_len ≤ longer.text_len = omega (arith, told.text_len, append.extension.text_len, long) in
+        let grown : used.text_len ≤ longer.text_len = omega (arith, recorded.text_len, append.extension.text_len, long) in
         let content : text_on (disk.current d) (text_page before.blocks) more
         (longer.text_len - full_bytes used.text_len) ≡ drop (full_bytes used.text_len) (before.texts longer.slot)
-        ++ append.added = rw (told.text_len, told.text, ← s.keeps.blocks) (append.extension.content known some) in
+        ++ append.added = rw (recorded.text_len, recorded.text, ← s.has_view.blocks) (append.extension.content known some) in
         ap (λ (xs : List ℕ). xs ++ append.added) was ∙ sym (text_longer (disk.current d) (text_page before.blocks)
-        before.rows rows longer.slot used.text_len list (s.keeps.listed longer.slot used there) size (longer.text_len -
+        before.rows rows longer.slot used.text_len list (s.has_view.listed longer.slot used there) size (longer.text_len -
         full_bytes used.text_len) longer.text_len more append.added (listed_now before.rows longer.slot (used.text_len /
-        PAGE) more rows (hands some) no_owner list (omega (arith, size)) (s.keeps.listed longer.slot used there)) (omega
+        PAGE) more rows (hands some) no_owner list (omega (arith, size)) (s.has_view.listed longer.slot used there)) (omega
         (arith, grown, may.blocks some)) (cc) (omega (arith, grown)))
     | inr over ↦ search (arith, common_steps)
   ]
@@ -202,7 +202,7 @@ module _ {D : Type 0} {sure : Bool} {disk : Ghosts D} {d : D} {h new : Holding} 
       valid = record_valid;
       upload = upload;
       there = find_replaced_same n append.upload upload m.uploads append.there;
-      tells = rw (← (text_here before longer.slot text longer.slot refl)) at tells;
+      represents = rw (← (text_here before longer.slot text longer.slot refl)) at represents;
     };
     gone = λ u e. (now, refl);
   }
@@ -213,7 +213,7 @@ module _ {D : Type 0} {sure : Bool} {disk : Ghosts D} {d : D} {h new : Holding} 
 
   pub after_texts : sure ≡ true → HasTexts (disk.current d) after
   after_texts known =
-      let texts = (rests_says (s.rests known)).texts in
+      let texts = (rests_encodes (s.rests known)).texts in
       changed_texts s.shows extends (disk.current d) texts (λ q e. text_here before longer.slot text longer.slot refl
       ∙ text_now known texts ∙ ap (λ (r : SlotRecord). text_shown (disk.current d) (text_page before.blocks) rows
       longer.slot r.text_len) (same_Some now q e))
@@ -225,7 +225,7 @@ module _ {D : Type 0} {sure : Bool} {disk : Ghosts D} {d : D} {h new : Holding} 
     honest = λ known. honest (s.honest known);
     view = after;
     rests = rests;
-    keeps = keeps_said new after fits after_shows.valid (cc) (cc) (cc) (cc) (cc) refl;
+    has_view = has_view_of new after fits after_shows.valid (cc) (cc) (cc) (cc) (cc) refl;
     shows = after_shows;
   }
 
@@ -241,9 +241,9 @@ module _ {D : Type 0} {sure : Bool} {disk : Ghosts D} {d : D} {h new : Holding} 
       → ((v v' : View) → v.blocks ≡ new.layout → ChangesButRows blank v v' → v'.rows ≡ new.blocks.rows
       → Changes filled v v') → Changes filled before after
   after_changes blank filled but fill =
-      let pages = but before (sym s.keeps.blocks) (sym s.keeps.version) (sym s.keeps.slots) used may.there rows
+      let pages = but before (sym s.has_view.blocks) (sym s.has_view.version) (sym s.has_view.slots) used may.there rows
       (λ none b not. ap (λ (xs : List Row). get_or xs b None) (same_rows none))
       (λ some. rows_but_last before.rows longer.slot (used.text_len / PAGE) more rows (hands some) no_owner
       (blocks_of used.text_len) (get_or h.lists longer.slot []) (s.shows.valid.lists longer.slot used there)
-      (s.keeps.listed longer.slot used there) (s.keeps.sizes longer.slot used there)) in
-      fill before after (sym s.keeps.blocks ∙ sym is.layout) (assumption pages) refl
+      (s.has_view.listed longer.slot used there) (s.has_view.sizes longer.slot used there)) in
+      fill before after (sym s.has_view.blocks ∙ sym is.layout) (assumption pages) refl

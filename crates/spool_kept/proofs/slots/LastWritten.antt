@@ -27,13 +27,13 @@ module _ {D : Type 0} {sure : Bool} {disk : Ghosts D} {d : D} (mid : D) {h : Hol
   s = pending.stored
 
   unowned : Unowned s.view.rows more
-  unowned = subst (λ (rows : List Row). Unowned rows more) s.keeps.rows reserved.no_owner
+  unowned = subst (λ (rows : List Row). Unowned rows more) s.has_view.rows reserved.no_owner
 
   pub shown : sure ≡ true → Lasts disk d mid (λ image. ImageShows h.layout image m)
   shown known = lasts_more (only known).lasts (λ image is. record {
     view = s.view;
-    blocks = sym s.keeps.blocks;
-    is = rests_aside more image (sym s.keeps.blocks) (s.rests known) unowned is;
+    blocks = sym s.has_view.blocks;
+    is = rests_aside more image (sym s.has_view.blocks) (s.rests known) unowned is;
     shows = s.shows;
   })
 

@@ -13,14 +13,14 @@ use Rattle.upload_rules.specs.World.{at_rest}
 use Rattle.spool_pages.specs.Changes.{Changes, with_record}
 use Rattle.spool_pages.specs.Rests.{Rests, HasTexts}
 use Rattle.spool_pages.specs.View.{SlotRecord, View, IsViewOf, slot_at}
-use Rattle.spool_pages.proofs.Resting.{rests_says}
+use Rattle.spool_pages.proofs.Resting.{rests_encodes}
 use Rattle.spool_kept.specs.Changed.{created_view}
 use Rattle.spool_catalog.specs.TakenIn.{HasRoomAt, IsTakenIn, IsNewRecord}
 use Rattle.spool_catalog.specs.Holding.{Holding}
 use Rattle.spool_catalog.specs.Shows.{IsValidRecord, Shows}
 use Rattle.spool_kept.specs.Stored.{Stored, ShowsEither}
 use Rattle.spool_kept.proofs.slots.Created.{created_shows, created_texts}
-use Rattle.spool_catalog.proofs.slots.Keeps.{keeps_said}
+use Rattle.spool_catalog.proofs.slots.HasViews.{has_view_of}
 use Rattle.spool_kept.proofs.slots.SlotChange.{lasts_either}
 
 module _ {D : Type 0} {sure : Bool} {disk : Ghosts D} {d : D} {h : Holding} {m : Store} (new : New) {slot : ℕ}
@@ -30,31 +30,31 @@ module _ {D : Type 0} {sure : Bool} {disk : Ghosts D} {d : D} {h : Holding} {m :
   v = stored.view
 
   pub next_is : h.next ≡ m.next
-  next_is = stored.keeps.next ∙ stored.shows.next
+  next_is = stored.has_view.next ∙ stored.shows.next
 
   -- the rules allow it
   pub allowed : create_refusal (at_rest m None) new ≡ None
   allowed = search (arith, common_steps)
 
   free : slot_at v slot ≡ None
-  free = ap (λ (xs : List (Option SlotRecord)). get_or xs slot None) (sym stored.keeps.slots) ∙ room.free
+  free = ap (λ (xs : List (Option SlotRecord)). get_or xs slot None) (sym stored.has_view.slots) ∙ room.free
 
   valid : IsValidRecord (m.next + 1) r
-  valid = rw next_is at (is.valid (omega (arith, stored.keeps.next, stored.shows.valid.next_least)) small)
+  valid = rw next_is at (is.valid (omega (arith, stored.has_view.next, stored.shows.valid.next_least)) small)
 
   shows : Shows (created_view v slot r) (created_store m new)
-  shows = created_shows v m new slot r stored.shows room.within free (is.number_is ∙ next_is) (is.tells m.indexes) valid
+  shows = created_shows v m new slot r stored.shows room.within free (is.number_is ∙ next_is) (is.represents m.indexes) valid
       (omega (arith, room.next, next_is))
 
   texts : sure ≡ true → HasTexts (disk.current d) (created_view v slot r)
   texts known =
-      created_texts v m new slot r stored.shows room.within free (is.number_is ∙ next_is) (is.tells m.indexes) valid
-      (omega (arith, room.next, next_is)) (disk.current d) ((rests_says (stored.rests known)).texts)
+      created_texts v m new slot r stored.shows room.within free (is.number_is ∙ next_is) (is.represents m.indexes) valid
+      (omega (arith, room.next, next_is)) (disk.current d) ((rests_encodes (stored.rests known)).texts)
 
   module _ {pages : List (ℕ × List ℕ)}
       (made : Changes pages v (record (with_record v slot r) { next = h.next + 1 })) where
     changes : Changes pages v (created_view v slot r)
-    changes = go (v.next + 1) (ap (λ (n : ℕ). n + 1) stored.keeps.next)
+    changes = go (v.next + 1) (ap (λ (n : ℕ). n + 1) stored.has_view.next)
       where
         go : (next : ℕ) → h.next + 1 ≡ next → Changes pages v (record (created_view v slot r) { next = next })
         go next e = search (arith, common_steps)
@@ -78,6 +78,6 @@ module _ {D : Type 0} {sure : Bool} {disk : Ghosts D} {d : D} {h : Holding} {m :
       honest = λ known. honest (stored.honest known);
       view = created_view v slot r;
       rests = λ known. done known (created_view v slot r) changes (texts known);
-      keeps = keeps_said h' (created_view v slot r) taken.fits shows.valid (sym (cc)) (cc) (cc) (cc) (cc) (cc);
+      has_view = has_view_of h' (created_view v slot r) taken.fits shows.valid (sym (cc)) (cc) (cc) (cc) (cc) (cc);
       shows = shows;
     }

@@ -37,11 +37,11 @@ pub text_else : (v : View) (slot : ℕ) (text : List ℕ) (s : ℕ) → s ≢ sl
 text_else v slot text s other = rw (ne_eqb s slot other) refl
 
 -- a record tells of the upload that has its number
-pub told_upload : (v : View) (m : Store) → Shows v m → (s : ℕ) (r : SlotRecord) → slot_at v s ≡ Some r → (u : Upload)
+pub recorded_upload : (v : View) (m : Store) → Shows v m → (s : ℕ) (r : SlotRecord) → slot_at v s ≡ Some r → (u : Upload)
     → find r.number m.uploads ≡ Some u → IsRecordOf m.indexes r (v.texts s) u
-told_upload v m shows s r there u found =
-    let told = shows.told s r there in
-    subst (IsRecordOf m.indexes r (v.texts s)) (one_value told.there found) told.tells
+recorded_upload v m shows s r there u found =
+    let recorded = shows.recorded s r there in
+    subst (IsRecordOf m.indexes r (v.texts s)) (one_value recorded.there found) recorded.represents
 
 -- other rows of the other slots' blocks give those the same blocks
 pub others_listed : (old new : List Row) (slot t n : ℕ) → SameOthers slot old new → t ≢ slot → OwnsOneEach old t n
@@ -77,7 +77,7 @@ pub record IsNow (x : IndexSet) (n next : ℕ) (text : List ℕ) (uploads : List
   pub valid : IsValidRecord next r
   pub upload : Upload
   pub there : find n uploads ≡ Some upload
-  pub tells : IsRecordOf x r text upload
+  pub represents : IsRecordOf x r text upload
 
 abbrev pub IsSlotNow : IndexSet → ℕ → ℕ → List ℕ → List (ℕ × Upload) → Option SlotRecord → Type 0
 IsSlotNow x n next text uploads None = Unit {0}
@@ -162,14 +162,14 @@ module _ {v : View} {m : Store} {s n : ℕ} {o : Option SlotRecord} {rows : List
     next = c.next_is;
     indexes = shows.indexes;
     rising = c.rising;
-    told = λ t q e. elim (is_or_was t q e) [
+    recorded = λ t q e. elim (is_or_was t q e) [
       | inl here ↦ search (arith, common_steps)
       | inr was ↦
-          let told = shows.told t q was.1 in
+          let recorded = shows.recorded t q was.1 in
           record {
-            upload = told.upload;
-            there = c.uploads_else q.number (c.apart t q was.0 was.1) ∙ told.there;
-            tells = rw (← (c.texts_else t was.0)) at told.tells;
+            upload = recorded.upload;
+            there = c.uploads_else q.number (c.apart t q was.0 was.1) ∙ recorded.there;
+            represents = rw (← (c.texts_else t was.0)) at recorded.represents;
           }
     ];
     all = λ k u e. elim (cases_eq n k) [

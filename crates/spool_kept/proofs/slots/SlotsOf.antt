@@ -9,7 +9,7 @@ use Rattle.spool_pages.specs.View.{SlotRecord, View, slot_at}
 use Rattle.spool_catalog.specs.Shows.{IsRecordOf, Shows}
 use Rattle.spool_kept.specs.Changed.{slot_of, HasUpload}
 use Rattle.spool_catalog.proofs.slots.ChangedSlots.{clash, one_value}
-use Rattle.spool_kept.proofs.slots.SlotChange.{told_upload}
+use Rattle.spool_kept.proofs.slots.SlotChange.{recorded_upload}
 
 -- the first record of a number is in its slot
 pub slot_of_is : (n : ℕ) (slots : List (Option SlotRecord)) (s : ℕ) (r : SlotRecord) → get_or slots s None ≡ Some r
@@ -35,13 +35,13 @@ module _ (v : View) (m : Store) (shows : Shows v m) where
   upload_slot n u found =
       let has = shows.all n u found in
       let at : slot_of n v.slots ≡ has.slot = cc (own_slot has.slot has.used has.there) in
-      let tells = told_upload v m shows has.slot has.used has.there u (cc) in
-      let blocks = rw tells.text_len at (shows.valid.lists has.slot has.used has.there) in
+      let represents = recorded_upload v m shows has.slot has.used has.there u (cc) in
+      let blocks = rw represents.text_len at (shows.valid.lists has.slot has.used has.there) in
       record {
         used = has.used;
         there = ap (slot_at v) at ∙ has.there;
         number = has.number;
-        tells = subst (λ (k : ℕ). IsRecordOf m.indexes has.used (v.texts k) u) (sym at) tells;
+        represents = subst (λ (k : ℕ). IsRecordOf m.indexes has.used (v.texts k) u) (sym at) represents;
         blocks = subst (λ (k : ℕ). OwnsOneEach v.rows k (blocks_of (length (text_of m.indexes u)))) (sym at) blocks;
       }
 
@@ -59,5 +59,5 @@ module _ (v : View) (m : Store) (shows : Shows v m) where
       → (n : ℕ) × (u : Upload) × (find n m.uploads ≡ Some u) × (slot ≡ slot_of n v.slots)
   owner_upload b slot ordinal owns =
       let owned = shows.valid.owners b slot ordinal owns in
-      let told = shows.told slot owned.used owned.there in
-      (owned.used.number, told.upload, told.there, sym (own_slot slot owned.used owned.there))
+      let recorded = shows.recorded slot owned.used owned.there in
+      (owned.used.number, recorded.upload, recorded.there, sym (own_slot slot owned.used owned.there))

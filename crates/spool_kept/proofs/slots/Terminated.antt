@@ -12,7 +12,7 @@ use Rattle.upload_rules.specs.declared.errors.UploadRefusal.TheVariants.{NoSuch}
 use Rattle.spool_pages.specs.Changes.{Changes, ChangesButRows, SameRowsBut, with_slot}
 use Rattle.spool_pages.specs.Rests.{Rests, HasTexts}
 use Rattle.spool_pages.specs.View.{SlotRecord, View, IsViewOf, slot_at}
-use Rattle.spool_pages.proofs.Resting.{rests_says}
+use Rattle.spool_pages.proofs.Resting.{rests_encodes}
 use Rattle.spool_catalog.specs.Holding.{Holding, FitsTogether, IsUsedBy}
 use Rattle.spool_catalog.specs.Shows.{Shows}
 use Rattle.spool_kept.specs.Stored.{Stored, ShowsEither}
@@ -22,22 +22,22 @@ use Rattle.spool_kept.specs.Terminating.{deleted_view}
 use Rattle.spool_catalog.proofs.Answered.{no_upload}
 use Rattle.spool_kept.proofs.slots.Deleted.{deleted_shows, deleted_texts}
 use Rattle.spool_catalog.proofs.slots.Freed.{rows_but_own}
-use Rattle.spool_catalog.proofs.slots.Keeps.{keeps_said}
+use Rattle.spool_catalog.proofs.slots.HasViews.{has_view_of}
 use Rattle.spool_kept.proofs.slots.SlotChange.{lasts_either}
 
 module _ {D : Type 0} {sure : Bool} {disk : Ghosts D} {d : D} {h : Holding} {m : Store} (number : ℕ)
     (stored : Stored sure disk d h m) where
   -- no slot has the number
   pub refused : ((s : ℕ) → IsUsedBy h.slots s number → ⊥) → no_such (upload_of m number) ≡ Some NoSuch
-  refused none = ap no_such (no_upload stored.keeps stored.shows number none)
+  refused none = ap no_such (no_upload stored.has_view stored.shows number none)
 
   module _ {slot : ℕ} (used : IsUsedBy h.slots slot number) where
     there : slot_at stored.view slot ≡ Some used.used
-    there = ap (λ (xs : List (Option SlotRecord)). get_or xs slot None) (sym stored.keeps.slots) ∙ used.there
+    there = ap (λ (xs : List (Option SlotRecord)). get_or xs slot None) (sym stored.has_view.slots) ∙ used.there
 
     -- a slot has it, so the rules allow it
     pub allowed : no_such (upload_of m number) ≡ None
-    allowed = ap no_such (ap (upload_of m) (sym used.is) ∙ (stored.shows.told slot used.used there).there)
+    allowed = ap no_such (ap (upload_of m) (sym used.is) ∙ (stored.shows.recorded slot used.used there).there)
 
     module _ {h' : Holding} (out : IsTakenOut h slot h') {blank filled : List (ℕ × List ℕ)}
         (but : (v : View) → v.blocks ≡ h.layout → v.version ≡ h.version → v.slots ≡ h.slots → (rows : List Row)
@@ -52,24 +52,24 @@ module _ {D : Type 0} {sure : Bool} {disk : Ghosts D} {d : D} {h : Holding} {m :
       new = deleted_view stored.view slot h'.blocks.rows
 
       frees : FreesRows slot old.rows h'.blocks.rows
-      frees = subst (λ (rows : List Row). FreesRows slot rows h'.blocks.rows) stored.keeps.rows out.rows
+      frees = subst (λ (rows : List Row). FreesRows slot rows h'.blocks.rows) stored.has_view.rows out.rows
 
       shows : Shows new (deleted_store m number)
       shows = rw used.is at (deleted_shows old m stored.shows slot used.used there h'.blocks.rows frees)
 
       texts : sure ≡ true → HasTexts (disk.current d) new
       texts known = deleted_texts old m stored.shows slot used.used there h'.blocks.rows frees (disk.current d)
-          (rests_says (stored.rests known)).texts
+          (rests_encodes (stored.rests known)).texts
 
       blocks : old.blocks ≡ h'.layout
-      blocks = sym (out.layout ∙ stored.keeps.blocks)
+      blocks = sym (out.layout ∙ stored.has_view.blocks)
 
       changes : Changes filled old new
       changes =
-          fill old new blocks (but old (sym stored.keeps.blocks) (sym stored.keeps.version) (sym stored.keeps.slots)
+          fill old new blocks (but old (sym stored.has_view.blocks) (sym stored.has_view.version) (sym stored.has_view.slots)
           h'.blocks.rows (rows_but_own slot old.rows h'.blocks.rows frees (blocks_of used.used.text_len)
           (get_or h.lists slot []) (stored.shows.valid.lists slot used.used there)
-          (stored.keeps.listed slot used.used there) (stored.keeps.sizes slot used.used there))) refl
+          (stored.has_view.listed slot used.used there) (stored.has_view.sizes slot used.used there))) refl
 
       -- what the commit of the pages makes of a view
       abbrev Makes : (View → View → Type 0) → Type 0
@@ -93,6 +93,6 @@ module _ {D : Type 0} {sure : Bool} {disk : Ghosts D} {d : D} {h : Holding} {m :
         honest = λ known. honest (stored.honest known);
         view = new;
         rests = λ known. done known old new blocks (stored.rests known) changes (texts known);
-        keeps = keeps_said h' new fits shows.valid blocks (cc) (cc) (cc) (cc) refl;
+        has_view = has_view_of h' new fits shows.valid blocks (cc) (cc) (cc) (cc) refl;
         shows = shows;
       }

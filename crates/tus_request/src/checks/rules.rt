@@ -1,7 +1,7 @@
 //! The checks of the fields, in their order.
 ghost use Rattle.std.specs.Prelude.{◌≡◌, IfOk};
 ghost use Rattle.enc_model.specs.Indexes.{offers};
-ghost use Rattle.tus_request.specs.Checks.{decided, on_all, on_upload, patch_checked, passed, passed_patch, refused};
+ghost use Rattle.tus_request.specs.Checks.{decided, on_all, on_upload, patch_checked, accepted_request, passed_patch, refused};
 ghost use Rattle.tus_request.specs.Checks.{lacks_version};
 ghost use Rattle.tus_request.specs.CheckParts.{asking_shown, verdict_shown};
 ghost use Rattle.tus_request.specs.Shown.{action_shown};
@@ -31,7 +31,7 @@ pub(super) fn refused(asking: &Asking<'_>, fault: Fault) -> Verdict
 
 /// Accepts a request other than PATCH.
 pub(super) fn passed(asking: &Asking<'_>, action: Action) -> Verdict
-    ensures { verdict_shown result ≡ passed (asking_shown asking.now) (action_shown action) }
+    ensures { verdict_shown result ≡ accepted_request (asking_shown asking.now) (action_shown action) }
 {
     Verdict::Asks(Request {
         action,

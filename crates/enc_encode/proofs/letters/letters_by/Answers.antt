@@ -1,5 +1,5 @@
 use Rattle.std.proofs.Common.{◌≡◌, ◌+◌, ◌-◌, Some, arith, subst}
-use Rattle.enc_index.specs.Entries.{found}
+use Rattle.enc_index.specs.Entries.{found_pointer}
 use Rattle.enc_encode.proofs.letters.letters_by.Goals as goal
 
 pub returns : goal.returns
@@ -13,7 +13,7 @@ returns c =
           let k = d - 1040 in
           let at : 1040 + k ≡ d = omega (arith, low) in (
             first + k,
-            subst (λ z. found c.args.pointers.now z ≡ Some (first + k)) at
+            subst (λ z. found_pointer c.args.pointers.now z ≡ Some (first + k)) at
                 (c.count_letters.ensures.each k (omega (arith, low, high))),
             omega (arith, low),
           );

@@ -12,13 +12,13 @@ returns-clause-put c =
     let place = c.reference_at-place.result.1 in
     let inside = c.reference_at-place.ensures.place in
     let long = c.reference_at-place.ensures.long in
-    let behind = take (32 - place) (drop place bytes) in
-    let lanes = take 16 behind in
+    let rest = take (32 - place) (drop place bytes) in
+    let lanes = take 16 rest in
     let left = length-drop place bytes in
     let whole = length-take-le (32 - place) (drop place bytes) (omega (arith, left, long)) in
-    let lanes_long = length-take-le 16 behind (omega (arith, whole, inside)) in
+    let lanes_long = length-take-le 16 rest (omega (arith, whole, inside)) in
     let n = 16 - place in
-    let same = take-take n 16 behind (omega arith)
+    let same = take-take n 16 rest (omega arith)
     ∙ take-take n (32 - place) (drop place bytes) (omega (arith, inside)) in
     stored held _ lanes from n 16 c.told-held lanes_long (omega arith) c.requires
     ∙ ap (λ z. take from held ++ z) (same

@@ -1,5 +1,5 @@
 use Rattle.std.proofs.Common.{◌≡◌, refl, sym, subst, arith, inr, Some}
-use Rattle.enc_index.specs.Entries.{found}
+use Rattle.enc_index.specs.Entries.{found_pointer}
 use Rattle.enc_encode.proofs.Twos.{two_begin}
 use Rattle.enc_encode.proofs.single_runs.first_single.Goals as goal
 
@@ -19,7 +19,7 @@ returns c more u =
       given = inr (
         b.2,
         c.in_ok-pointer.pointer,
-        subst (λ z. found c.args.pointers.now z ≡ Some c.in_ok-pointer.pointer) same (sym c.in_ok-pointer.ensures),
+        subst (λ z. found_pointer c.args.pointers.now z ≡ Some c.in_ok-pointer.pointer) same (sym c.in_ok-pointer.ensures),
         refl,
       );
     }

@@ -1,14 +1,14 @@
 use Rattle.std.proofs.Common.{◌+◌, ◌*◌, ◌∙◌, ap, refl, sym, subst, arith, take, drop}
 use Rattle.std.proofs.lemmas.Str.{IsCharBoundary-from_drop}
 use Rattle.enc_encode.specs.Runs.{RunPrefix}
-use Rattle.enc_encode.specs.Singles.{IsSingle}
+use Rattle.enc_encode.specs.Singles.{IsSingleByte}
 use Rattle.enc_encode.proofs.LetterRuns.{letters_run}
 use Rattle.enc_encode.proofs.RunPrefixes.{run_none}
 use Rattle.enc_encode.proofs.single_runs.put_letters.Goals as goal
 
 pub returns-then-letters-eq0-clause-run : goal.returns-then-letters-eq0-clause-run
 returns-then-letters-eq0-clause-run c =
-    run_none (IsSingle c.args.pointers.now) c.args.text.now (take c.args.from c.args.held.now)
+    run_none (IsSingleByte c.args.pointers.now) c.args.text.now (take c.args.from c.args.held.now)
     (take c.args.from c.args.held.now) refl
 
 pub range_from-requires : goal.range_from-requires
@@ -28,7 +28,7 @@ returns-clause-run c =
     let n = c.lettered-count.result.1 in
     let few = c.lettered-count.ensures.few in
     let short = c.if-text-lt-LANES.false in
-    let gives = IsSingle c.args.pointers.now in
+    let gives = IsSingleByte c.args.pointers.now in
     let text = c.args.text.now in
     let held = take c.args.from c.args.held.now in
     let run = letters_run c.args.pointers.now text c.lanes_at.result c.lettered-count.result.0 held

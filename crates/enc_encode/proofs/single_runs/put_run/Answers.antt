@@ -1,6 +1,6 @@
 use Rattle.std.proofs.Common.{◌+◌, take, sym, subst}
 use Rattle.enc_encode.specs.Runs.{RunPrefix}
-use Rattle.enc_encode.specs.Singles.{IsSingle}
+use Rattle.enc_encode.specs.Singles.{IsSingleByte}
 use Rattle.enc_encode.proofs.RunPrefixes.{ascii_cut, run_ascii, run_both}
 use Rattle.enc_encode.proofs.Singles.{ascii_single}
 use Rattle.enc_encode.proofs.single_runs.put_run.Goals as goal
@@ -12,7 +12,7 @@ range_from-requires c = λ some. ascii_cut c.args.text.now c.put_lanes-count.res
 
 pub returns-clause-run : goal.returns-clause-run
 returns-clause-run c =
-    let gives = IsSingle c.args.pointers.now in
+    let gives = IsSingleByte c.args.pointers.now in
     let text = c.args.text.now in
     let n = c.put_lanes-count.result in
     let held = take c.args.from c.args.held.now in

@@ -4,7 +4,7 @@ use Rattle.std.specs.Str.{IsUtf8}
 use Rattle.std.proofs.lemmas.List.{length-set, take_more_set}
 use Rattle.std.proofs.lemmas.Str.{IsUtf8-past_char, IsCharBoundary-from_drop}
 use Rattle.enc_encode.specs.Runs.{FirstGiven}
-use Rattle.enc_encode.specs.Singles.{IsSingle}
+use Rattle.enc_encode.specs.Singles.{IsSingleByte}
 use Rattle.enc_encode.proofs.Puts.{two_at}
 use Rattle.enc_encode.proofs.RunPrefixes.{run_none, run_more}
 use Rattle.enc_encode.proofs.single_runs.put_singles.Goals as goal
@@ -37,8 +37,8 @@ loop-count-preserved c =
     let places : 2 * n + 2 ≡ 2 * (n + 1) = omega arith in
     let parts = two_at text (2 * n) inside ∙ ap (λ k. get_or text (2 * n) 0 ∷ get_or text (2 * n + 1) 0 ∷ drop k text)
     places in
-    let first : FirstGiven (IsSingle c.args.pointers.now) rest (byte ∷ []) left =
-    subst (λ z. FirstGiven (IsSingle c.args.pointers.now) z (byte ∷ []) left) (sym parts)
+    let first : FirstGiven (IsSingleByte c.args.pointers.now) rest (byte ∷ []) left =
+    subst (λ z. FirstGiven (IsSingleByte c.args.pointers.now) z (byte ∷ []) left) (sym parts)
     ((rw value at c.in-Some.ensures) left (subst IsUtf8 parts v.3)) in
     let long = v.2 in
     let next : c.args.from + (n + 1) ≡ c.args.from + n + 1 = omega arith in

@@ -1,5 +1,5 @@
 use Rattle.std.proofs.lemmas.Result.{err_from_is_err_and}
-use Rattle.enc_encode.specs.Code.{bytes_of}
+use Rattle.enc_encode.specs.Code.{code_bytes}
 use Rattle.enc_encode.specs.State.{shift_of}
 use Rattle.enc_encode.proofs.Growth.{after_part}
 use Rattle.enc_encode.proofs.Final.{unmappable_prefix}
@@ -9,7 +9,7 @@ pub returns-in_err-append-in-Unmappable : goal.returns-in_err-append-in-Unmappab
 returns-in_err-append-in-Unmappable c =
     let p = err_from_is_err_and c.from_residual.result c.from_residual.ensures.1 in
     rw (c.in-Unmappable.is, p.1, p.2)
-    (unmappable_prefix c.args.mode (bytes_of c.in-Unmappable.bytes) (shift_of c.in-Unmappable.next) c.in-Unmappable.c
+    (unmappable_prefix c.args.mode (code_bytes c.in-Unmappable.bytes) (shift_of c.in-Unmappable.next) c.in-Unmappable.c
     (rw c.as_slice.ensures at c.in_err-append-in-Unmappable.ensures.grew))
 
 pub returns-in_err-append_reference-in-Html : goal.returns-in_err-append_reference-in-Html

@@ -1,7 +1,7 @@
 use Rattle.std.proofs.Common.{ℕ, ◌-◌, List, ◌++◌, refl, sym, ◌∙◌, ap, take, drop, length}
 use Rattle.std.proofs.lemmas.List.{take_rest}
 use Rattle.enc_model.specs.Indexes.{tables}
-use Rattle.enc_model.specs.Transcode.{Fed, During, Before}
+use Rattle.enc_model.specs.Transcode.{FedText, During, Before}
 use Rattle.enc_feed.proofs.Feeding.{given_err}
 use Rattle.enc_stream.specs.Sniff.{held_bytes}
 use Rattle.enc_stream.proofs.Fed.{fed_held, fed_sniffed}
@@ -15,7 +15,7 @@ returns-in-Still-clause-given g c =
 pub returns-in-Still-clause-phase : goal.returns-in-Still-clause-phase
 returns-in-Still-clause-phase g c = (
   ap Before c.in-Still.ensures.1
-      ∙ sym (ap (λ (z : Fed). z.phase)
+      ∙ sym (ap (λ (z : FedText). z.phase)
       (fed_held (tables c.args.set.now) c.args.from (held_bytes c.args.held) c.args.piece.now
       c.in-Still.ensures.0)),
   refl,
@@ -53,7 +53,7 @@ returns-in_ok-decoder-in-Bom-clause-phase g c =
     let piece = c.args.piece.now in
     let skip = c.in-Bom.skip in (
       ap During c.in_ok-decoder-in-Bom.ensures.state
-          ∙ sym (ap (λ (z : Fed). z.phase)
+          ∙ sym (ap (λ (z : FedText). z.phase)
           (fed_sniffed (tables c.args.set.now) c.args.from c.in-Bom.encoding (held_bytes c.args.held) piece
           (take (length piece - skip) (drop skip piece)) c.in-Bom.ensures.0
           (c.in-Bom.ensures.2 c.args.from ∙ ap (λ (z : List ℕ). (c.in-Bom.encoding, z)) (sym (take_rest piece skip))))),
@@ -69,7 +69,7 @@ returns-in_ok-decoder-in-Plain-clause-given g c =
 pub returns-in_ok-decoder-in-Plain-clause-phase : goal.returns-in_ok-decoder-in-Plain-clause-phase
 returns-in_ok-decoder-in-Plain-clause-phase g c = (
   ap During c.in_ok-decoder-in-Plain.ensures.state
-      ∙ sym (ap (λ (z : Fed). z.phase)
+      ∙ sym (ap (λ (z : FedText). z.phase)
       (fed_sniffed (tables c.args.set.now) c.args.from c.args.from (held_bytes c.args.held) c.args.piece.now
       (held_bytes c.args.held ++ c.args.piece.now) c.in-Plain.ensures.0 (c.in-Plain.ensures.1 c.args.from))),
   refl,

@@ -3,7 +3,7 @@ use Rattle.std.proofs.Common.{length-drop, ◌∙◌}
 use Rattle.std.proofs.lemmas.List.{take_rest}
 use Rattle.enc_feed.specs.Batches.{BatchTook, BatchRefused}
 use Rattle.enc_feed.specs.BatchLaws.{batch_sink}
-use Rattle.enc_model.specs.Stream.{Run}
+use Rattle.enc_model.specs.Stream.{DecoderRun}
 use Rattle.enc_model.specs.Utf16.{Utf16, utf16}
 use Rattle.enc_feed.specs.declared.batch.Full.{Full}
 use Rattle.enc_model.proofs.Calm.{utf16_calm}
@@ -17,7 +17,7 @@ pub loop-byte-init : goal.loop-byte-init
 loop-byte-init c = (
   feed_begins {E = Full} BatchTook BatchRefused batch_sink (utf16 (is_big c.args.order))
       (utf16_calm (is_big c.args.order)) c.args.pairing.now c.args.batch.now,
-  ap (λ (run : Run Utf16). run.state) (sym (steps_none (utf16 (is_big c.args.order)) c.args.pairing.now)),
+  ap (λ (run : DecoderRun Utf16). run.state) (sym (steps_none (utf16 (is_big c.args.order)) c.args.pairing.now)),
 )
 
 pub push_step-requires : goal.push_step-requires

@@ -1,6 +1,6 @@
 use Rattle.std.proofs.Common.{ℕ, ◌≡◌, ◌<◌, List, length, subst, sym, ap, ap₂, ◌∙◌, arith}
 use Rattle.enc_feed.specs.Batches.{BatchTook}
-use Rattle.enc_model.specs.Stream.{Run}
+use Rattle.enc_model.specs.Stream.{DecoderRun}
 use Rattle.enc_model.specs.Utf16.{Utf16}
 use Rattle.lane_kernels.specs.Orders.{is_big}
 use Rattle.lane_kernels.specs.Steps.{scalars_of}
@@ -18,12 +18,12 @@ returns-then-is_paired-clause-text c =
     (e.paired.0 c.if-is_paired.true) (some_units _ _ c.block-is_paired.array_long e.units) in
     on_true c.block-is_paired.result _
     (subst (λ z. BatchTook c.args.batch.now z c.push_units.new.batch)
-    (ap₂ scalars_of c.lead-carried.ensures.value e.units ∙ sym (ap (λ (z : Run Utf16). z.text) run))
+    (ap₂ scalars_of c.lead-carried.ensures.value e.units ∙ sym (ap (λ (z : DecoderRun Utf16). z.text) run))
     c.push_units.ensures)
 
 pub returns-then-is_paired-clause-state : goal.returns-then-is_paired-clause-state
 returns-then-is_paired-clause-state c =
     let e = c.block-is_paired.ensures in
-    on_true c.block-is_paired.result _ (c.if-is_paired.ensures.carried ∙ sym (ap (λ (z : Run Utf16). z.state)
+    on_true c.block-is_paired.result _ (c.if-is_paired.ensures.carried ∙ sym (ap (λ (z : DecoderRun Utf16). z.state)
     (c.paired_units_decode.ensures (is_big c.args.order) c.args.pairing.now c.args.bytes.now
     (e.paired.0 c.if-is_paired.true) (some_units _ _ c.block-is_paired.array_long e.units))))

@@ -6,10 +6,10 @@ use Rattle.gateway_files.proofs.Pieces.{all_written, more_written, quiet_both}
 use Rattle.gateway_files.proofs.copies.copy_bytes.Goals as goal
 
 pub returns-clause-copied : goal.returns-clause-copied
-returns-clause-copied g c sure w stands len =
+returns-clause-copied g c sure w represents len =
     all_written sure (text_at w.store (upload_of w.store c.args.number)) c.loop-at.at
     (g.W.Write.contents c.args.writer.now) (g.W.Write.contents c.loop-at.writer)
-    (subst (λ n. n ≤ c.loop-at.at) len c.loop-at-test.false) ((c.loop-at.invariant.3 sure w stands).1 len)
+    (subst (λ n. n ≤ c.loop-at.at) len c.loop-at-test.false) ((c.loop-at.invariant.3 sure w represents).1 len)
 
 pub loop-at-preserved : goal.loop-at-preserved
 loop-at-preserved g c =
@@ -18,9 +18,9 @@ loop-at-preserved g c =
       let le = is.0 in omega (arith, le, next),
       unfailed _ _ _ (λ f. absurd (cc)) c.in_ok-at.ensures.counts ∙ is.1,
       quiet_both _ _ _ _ _ _ is.2 c.in_ok-at.ensures.crash,
-      λ sure w stands.
-          let was = is.3 sure w stands in (
-            c.in_ok-at.ensures.stands sure w was.0,
+      λ sure w represents.
+          let was = is.3 sure w represents in (
+            c.in_ok-at.ensures.represents sure w was.0,
             λ len. more_written sure (text_at w.store (upload_of w.store c.args.number)) c.loop-at.at c.in_ok-at.at
                 (g.W.Write.contents c.args.writer.now) (g.W.Write.contents c.loop-at.writer)
                 (g.W.Write.contents c.copy_piece.new.writer) (omega (arith, next)) (was.1 len)

@@ -12,7 +12,7 @@ invariant-loop-at g l =
     × (g.U.Uploads.failures l.uploads ≡ g.U.Uploads.failures l.fn.uploads)
     × Quiet (g.U.Uploads.moment l.fn.uploads) (g.U.Uploads.moment l.uploads) (g.U.Uploads.left_only l.fn.uploads)
     (g.U.Uploads.left_only l.uploads)
-    × ((sure : Bool) (w : World) → g.U.Uploads.stands l.fn.uploads sure w → g.U.Uploads.stands l.uploads sure w
+    × ((sure : Bool) (w : World) → g.U.Uploads.represents l.fn.uploads sure w → g.U.Uploads.represents l.uploads sure w
     × (l.len ≡ length (text_at w.store (upload_of w.store l.number))
     → AppendsOf sure (g.W.Write.contents l.fn.writer) (g.W.Write.contents l.writer)
     (take l.at (text_at w.store (upload_of w.store l.number)))))

@@ -6,6 +6,6 @@ use Rattle.gateway_files.proofs.deleting.delete_uploads.Given as goal
 abbrev pub invariant-loop-number : goal.invariant-loop-number
 invariant-loop-number g l =
     (g.U.Uploads.failures l.uploads ≡ g.U.Uploads.failures l.fn.uploads)
-    × ((sure : Bool) (w : World) → g.U.Uploads.stands l.fn.uploads sure w
+    × ((sure : Bool) (w : World) → g.U.Uploads.represents l.fn.uploads sure w
     → Halfway g.U.Uploads sure w l.fn.uploads l.uploads l.numbers (drop l.number-index l.numbers)
     (g.W.Write.contents l.fn.writer) (g.W.Write.contents l.writer) l.all)

@@ -11,8 +11,8 @@ invariant-loop-job g l =
     (g.U.Uploads.failures l.uploads ≡ g.U.Uploads.failures l.fn.uploads)
     × Quiet (g.U.Uploads.moment l.fn.uploads) (g.U.Uploads.moment l.uploads) (g.U.Uploads.left_only l.fn.uploads)
     (g.U.Uploads.left_only l.uploads)
-    × ((sure : Bool) (w : World) → g.U.Uploads.stands l.fn.uploads sure w → g.U.Uploads.stands l.uploads sure w)
-    × ((sure : Bool) (w : World) → g.U.Uploads.stands l.fn.uploads sure w → (files : Files)
+    × ((sure : Bool) (w : World) → g.U.Uploads.represents l.fn.uploads sure w → g.U.Uploads.represents l.uploads sure w)
+    × ((sure : Bool) (w : World) → g.U.Uploads.represents l.fn.uploads sure w → (files : Files)
     → g.F.Folder.holds l.fn.folder files
     → ExportsAs sure (g.F.Folder.holds l.folder) w.store (map job_shown (take l.job-index l.jobs)) files
     × (some_differ w.store files (map job_shown (take l.job-index l.jobs)) ≡ l.done.differs))

@@ -1,7 +1,7 @@
 use Rattle.std.proofs.Common.{[], ◌∷◌, Some, false, inl, inr, refl, true}
 use Rattle.spool_disk.proofs.Gave.{grew_none}
 use Rattle.spool_load.proofs.ReadBys.{by_after}
-use Rattle.spool_image.specs.Spool.{disk_of, size_of}
+use Rattle.spool_image.specs.Spool.{disk_of, block_count_of}
 use Rattle.spool_image.specs.contracts.spool.SpoolUploads.TheImpl.Laws.{durable-law}
 use Rattle.upload_rules.specs.World.{at_rest}
 use Rattle.gateway_files.specs.Planning.{jobs_of}
@@ -17,7 +17,7 @@ pub returns-in-Ok-clause-files : goal.returns-in-Ok-clause-files
 returns-in-Ok-clause-files g c n m is files held =
     surely_all c.export_uploads-exported.result (g.F.Folder.holds c.export_uploads-exported.new.folder) m
     (jobs_of c.args.all m) files
-    (c.export_uploads-exported.ensures.files true (at_rest m (Some n)) (c.in-Ok.ensures.stands n m is)
+    (c.export_uploads-exported.ensures.files true (at_rest m (Some n)) (c.in-Ok.ensures.represents n m is)
     (in_order g.D.Disk c.args.disk n m is) files held)
 
 pub returns-in-Ok-clause-texts : goal.returns-in-Ok-clause-texts
@@ -28,12 +28,12 @@ returns-in-Ok-clause-texts g c n m is files held =
 pub returns-in-Ok-clause-whole : goal.returns-in-Ok-clause-whole
 returns-in-Ok-clause-whole g c n m is files held =
     surely_some (g.F.Folder.holds c.export_uploads-exported.new.folder) m (jobs_of c.args.all m) files
-    (c.export_uploads-exported.ensures.whole true (at_rest m (Some n)) (c.in-Ok.ensures.stands n m is)
+    (c.export_uploads-exported.ensures.whole true (at_rest m (Some n)) (c.in-Ok.ensures.represents n m is)
     (in_order g.D.Disk c.args.disk n m is) files held)
 
 pub returns-in-Ok-clause-differs : goal.returns-in-Ok-clause-differs
 returns-in-Ok-clause-differs g c n m is =
-    c.export_uploads-exported.ensures.differs true (at_rest m (Some n)) (c.in-Ok.ensures.stands n m is)
+    c.export_uploads-exported.ensures.differs true (at_rest m (Some n)) (c.in-Ok.ensures.represents n m is)
     (in_order g.D.Disk c.args.disk n m is)
 
 pub returns-in-Ok-clause-version : goal.returns-in-Ok-clause-version
@@ -42,25 +42,25 @@ returns-in-Ok-clause-version g c honest other = absurd (c.in-Ok.ensures.version 
 pub returns-in-Ok-clause-shows : goal.returns-in-Ok-clause-shows
 returns-in-Ok-clause-shows g c n m is ok =
     let s = c.export_uploads-exported.new.uploads in
-    let stands = when_ok c.export_uploads-exported.result _ ok
-    (c.export_uploads-exported.ensures.stands true (at_rest m (Some n)) (c.in-Ok.ensures.stands n m is)) in
+    let represents = when_ok c.export_uploads-exported.result _ ok
+    (c.export_uploads-exported.ensures.represents true (at_rest m (Some n)) (c.in-Ok.ensures.represents n m is)) in
     rw c.into_disk.ensures.same
-    (all_show g.D.Disk (disk_of s) (size_of s) n m (g.met.D.Disk.counts_now (disk_of s))
+    (all_show g.D.Disk (disk_of s) (block_count_of s) n m (g.met.D.Disk.counts_now (disk_of s))
     (durable-law g.row.D g.D.Disk g.D.Disk-dict
     (record { counts_now = g.met.D.Disk.counts_now; only_now = g.met.D.Disk.only_now }) s
-    (at_rest m (Some n)) (m ∷ []) stands (inl refl)))
+    (at_rest m (Some n)) (m ∷ []) represents (inl refl)))
 
 pub returns-in-Ok-clause-lasts : goal.returns-in-Ok-clause-lasts
 returns-in-Ok-clause-lasts g c n m is =
     let opened = c.in-Ok.spool in
     let s = c.export_uploads-exported.new.uploads in
-    let stands = c.in-Ok.ensures.stands n m is in
+    let represents = c.in-Ok.ensures.represents n m is in
     inr (rw c.into_disk.ensures.same
-    (lasts_over g.D.Disk c.args.disk (disk_of opened) (disk_of s) (size_of opened) (size_of s) n m (m ∷ [])
+    (lasts_over g.D.Disk c.args.disk (disk_of opened) (disk_of s) (block_count_of opened) (block_count_of s) n m (m ∷ [])
     (g.met.D.Disk.counts_now c.args.disk) (c.in-Ok.ensures.lasts n m is) (c.in-Ok.ensures.shows n m is) (inl refl)
     (durable-law g.row.D g.D.Disk g.D.Disk-dict
     (record { counts_now = g.met.D.Disk.counts_now; only_now = g.met.D.Disk.only_now }) opened
-    (at_rest m (Some n)) (m ∷ []) stands (inl refl))
+    (at_rest m (Some n)) (m ∷ []) represents (inl refl))
     (quiet_limits _ _ _ _ (m ∷ []) c.export_uploads-exported.ensures.crash)))
 
 pub returns-in-Err-clause-lasts : goal.returns-in-Err-clause-lasts
@@ -79,9 +79,9 @@ returns-in-Ok-clause-given g c =
       reads = by_after c.in-Ok.ensures.given (grew_none refl) (λ before after is late. record {
         refused = change_refused _ before after done.result done.ensures.refused;
         done =
-            done_by _ before after _ _ done.result (λ v m shows keeps. ok_each _ done.result (λ files.
+            done_by _ before after _ _ done.result (λ v m shows has_view. ok_each _ done.result (λ files.
             ok_each _ done.result (λ held.
-            done.ensures.files false (at_rest m (Some v.blocks)) (c.in-Ok.ensures.kept v m shows keeps)
+            done.ensures.files false (at_rest m (Some v.blocks)) (c.in-Ok.ensures.represents_view v m shows has_view)
             (shown_in_order v m shows) files held))) is.memory;
       });
     }

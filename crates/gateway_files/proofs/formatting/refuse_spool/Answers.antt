@@ -13,7 +13,7 @@ returns-in-Ok-true-clause-spool g c disks d held is honest magic =
       search rules,
       leaves_read (g.F.SpoolFiles.holds c.close.new.self) disks c.args.path.now g.F.File.Disk c.in-Ok.disk d
           c.is_spool-looked.new.disk opened.0 is (c.close.ensures.closed _ opened.1)
-          (record { size = looked.size; honest = looked.honest.0; keeps = looked.keeps; lasts = looked.lasts }),
+          (record { size = looked.size; honest = looked.honest.0; preserves = looked.preserves; lasts = looked.lasts }),
     )
 
 pub returns-in-Err-looked-clause-spool : goal.returns-in-Err-looked-clause-spool
@@ -23,7 +23,7 @@ returns-in-Err-looked-clause-spool g c disks d held is honest magic =
       search rules,
       leaves_read (g.F.SpoolFiles.holds c.close.new.self) disks c.args.path.now g.F.File.Disk c.in-Ok.disk d
           c.is_spool-looked.new.disk opened.0 is (c.close.ensures.closed _ opened.1)
-          (record { size = looked.size; honest = looked.honest.0; keeps = looked.keeps; lasts = looked.lasts }),
+          (record { size = looked.size; honest = looked.honest.0; preserves = looked.preserves; lasts = looked.lasts }),
     )
 
 pub returns-in-Ok-true-clause-others : goal.returns-in-Ok-true-clause-others

@@ -7,5 +7,5 @@ use Rattle.gateway_files.proofs.incomplete.incomplete_numbers.Given as goal
 
 abbrev pub invariant-loop : goal.invariant-loop
 invariant-loop g l =
-    (sure : Bool) (w : World) → g.U.Uploads.stands l.fn.uploads sure w → IsInOrder w.store
+    (sure : Bool) (w : World) → g.U.Uploads.represents l.fn.uploads sure w → IsInOrder w.store
     → l.numbers.items ++ flat_map incomplete_one (after l.number w.store.uploads) ≡ incomplete_of w.store

@@ -18,7 +18,7 @@ returns-in-Ok-clause-lasts g c n m is =
 
 pub returns-in-Ok-clause-numbers : goal.returns-in-Ok-clause-numbers
 returns-in-Ok-clause-numbers g c n m is =
-    c.incomplete_numbers-numbers.ensures.numbers true (at_rest m (Some n)) (c.in-Ok.ensures.stands n m is)
+    c.incomplete_numbers-numbers.ensures.numbers true (at_rest m (Some n)) (c.in-Ok.ensures.represents n m is)
     (in_order g.D.Disk c.args.disk n m is)
 
 pub returns-in-Err-clause-version : goal.returns-in-Err-clause-version
@@ -34,9 +34,9 @@ returns-in-Ok-clause-given g c =
     (λ before after is late. record {
       refused = memory_refused _ before after found.result found.ensures.refused;
       done =
-          done_by _ before after _ _ found.result (λ v m shows keeps. ok_if _ found.result
+          done_by _ before after _ _ found.result (λ v m shows has_view. ok_if _ found.result
           (found.ensures.numbers false
-          (at_rest m (Some v.blocks)) (c.in-Ok.ensures.kept v m shows keeps) (shown_in_order v m shows))) is.memory;
+          (at_rest m (Some v.blocks)) (c.in-Ok.ensures.represents_view v m shows has_view) (shown_in_order v m shows))) is.memory;
     })
 
 pub returns-in-Err-clause-given : goal.returns-in-Err-clause-given

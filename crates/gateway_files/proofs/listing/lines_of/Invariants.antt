@@ -1,12 +1,12 @@
 use Rattle.std.proofs.Common.{◌≡◌, ◌++◌, flat_map, Bool}
 use Rattle.std.specs.Prelude.{string_bytes}
 use Rattle.upload_rules.specs.World.{World}
-use Rattle.gateway_files.specs.Lines.{IsInOrder, lines_of, upload_line}
+use Rattle.gateway_files.specs.Lines.{IsInOrder, list_lines, upload_line}
 use Rattle.gateway_files.proofs.Above.{after}
 use Rattle.gateway_files.proofs.listing.lines_of.Given as goal
 
 abbrev pub invariant-loop : goal.invariant-loop
 invariant-loop g l =
-    (sure : Bool) (w : World) → g.U.Uploads.stands l.fn.uploads sure w → IsInOrder w.store
+    (sure : Bool) (w : World) → g.U.Uploads.represents l.fn.uploads sure w → IsInOrder w.store
     → string_bytes l.lines ++ flat_map (upload_line l.long w.store.indexes) (after l.number w.store.uploads)
-    ≡ lines_of l.long w.store
+    ≡ list_lines l.long w.store

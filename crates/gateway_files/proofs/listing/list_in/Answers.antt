@@ -2,7 +2,7 @@ use Rattle.std.proofs.Common.{◌∙◌, ◌⊎◌, ap, Result, Ok, Err, None, i
 use Rattle.gateway_files.specs.Failures.{fault_in}
 use Rattle.gateway_files.specs.Listed.{ListsAs, RefusedList}
 use Rattle.gateway_files.specs.SpoolFiles.{NotOpened}
-use Rattle.gateway_files.specs.Streams.{stream_of}
+use Rattle.gateway_files.specs.Streams.{noted_stream}
 use Rattle.gateway_files.specs.declared.faults.Fault.{Fault}
 use Rattle.gateway_files.specs.declared.surveying.Survey.{Survey}
 use Rattle.gateway_files.proofs.Held.{leaves_again, leaves_as, leaves_same, one_disk}
@@ -18,8 +18,8 @@ returns-in-Ok-listed-clause-listed g c disks d held is =
     let opened = c.in-Ok.ensures.opened disks held in
     let disk = g.F.File.Disk in
     let now = c.list_on-disk.result.0 in
-    let before = g.W.Write.contents (stream_of c.args.writer.now) in
-    let after = g.W.Write.contents (stream_of c.list_on-disk.new.writer) in
+    let before = g.W.Write.contents (noted_stream c.args.writer.now) in
+    let after = g.W.Write.contents (noted_stream c.list_on-disk.new.writer) in
     let lists : ListsAs disk c.in-Ok.disk now c.args.long before after c.list_on-disk.result.1 =
     assumption c.list_on-disk.ensures in (
       opened.1,
@@ -35,8 +35,8 @@ returns-in-Err-listed-clause-refused g c disks d held is =
     let disk = g.F.File.Disk in
     let now = c.list_on-disk.result.0 in
     let failure = c.refused_by.result in
-    let before = g.W.Write.contents (stream_of c.args.writer.now) in
-    let after = g.W.Write.contents (stream_of c.list_on-disk.new.writer) in
+    let before = g.W.Write.contents (noted_stream c.args.writer.now) in
+    let after = g.W.Write.contents (noted_stream c.list_on-disk.new.writer) in
     let lists : ListsAs disk c.in-Ok.disk now c.args.long before after c.list_on-disk.result.1 =
     assumption c.list_on-disk.ensures in
     let holds = g.F.SpoolFiles.holds c.refused_by.new.files in

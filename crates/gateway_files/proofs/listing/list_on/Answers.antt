@@ -3,7 +3,7 @@ use Rattle.spool_disk.specs.Views.{Lasts}
 use Rattle.spool_disk.proofs.Gave.{grew_none}
 use Rattle.spool_load.proofs.ReadBys.{by_after}
 use Rattle.spool_image.specs.LeftOnly.{AllShow, LeftOrShows}
-use Rattle.spool_image.specs.Spool.{SpoolStands}
+use Rattle.spool_image.specs.Spool.{SpoolRepresents}
 use Rattle.spool_image.proofs.Opening.{view_more}
 use Rattle.upload_rules.specs.World.{at_rest}
 use Rattle.gateway_files.specs.declared.surveying.Survey.{Survey}
@@ -13,7 +13,7 @@ use Rattle.gateway_files.proofs.listing.list_on.Goals as goal
 
 pub returns-in-Ok-written-clause-lines : goal.returns-in-Ok-written-clause-lines
 returns-in-Ok-written-clause-lines g c n m is =
-    c.in-Ok-written.ensures.lines true (at_rest m (Some n)) (c.in-Ok.ensures.stands n m is)
+    c.in-Ok-written.ensures.lines true (at_rest m (Some n)) (c.in-Ok.ensures.represents n m is)
     (in_order g.D.Disk c.args.disk n m is)
 
 pub returns-in-Ok-written-clause-shows : goal.returns-in-Ok-written-clause-shows
@@ -30,8 +30,8 @@ returns-in-Err-written-clause-lasts g c n m is =
 
 pub returns-in-Err-clause-listed : goal.returns-in-Err-clause-listed
 returns-in-Err-clause-listed g c n m is =
-    lists_as Survey (λ opened. SpoolStands opened.0 true (at_rest m (Some n))) c.in-Err.fault c.from.result
-    c.from.ensures (c.in-Err.ensures.stands n m is)
+    lists_as Survey (λ opened. SpoolRepresents opened.0 true (at_rest m (Some n))) c.in-Err.fault c.from.result
+    c.from.ensures (c.in-Err.ensures.represents n m is)
 
 pub returns-in-Err-clause-version : goal.returns-in-Err-clause-version
 returns-in-Err-clause-version g c honest is = other_version _ _ c.from.ensures (c.in-Err.ensures.version honest is)
@@ -45,8 +45,8 @@ returns-in-Ok-written-clause-given g c =
     (λ before after is late. record {
       refused = tt;
       done =
-          view_more (λ v keeps m shows. c.in-Ok-written.ensures.lines false (at_rest m (Some v.blocks))
-          (c.in-Ok.ensures.kept v m shows keeps) (shown_in_order v m shows)) is.memory;
+          view_more (λ v has_view m shows. c.in-Ok-written.ensures.lines false (at_rest m (Some v.blocks))
+          (c.in-Ok.ensures.represents_view v m shows has_view) (shown_in_order v m shows)) is.memory;
     })
 
 pub returns-in-Err-written-clause-given : goal.returns-in-Err-written-clause-given

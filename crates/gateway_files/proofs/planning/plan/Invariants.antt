@@ -7,5 +7,5 @@ use Rattle.gateway_files.proofs.planning.plan.Given as goal
 
 abbrev pub invariant-loop : goal.invariant-loop
 invariant-loop g l =
-    (sure : Bool) (w : World) → g.U.Uploads.stands l.fn.uploads sure w → IsInOrder w.store
+    (sure : Bool) (w : World) → g.U.Uploads.represents l.fn.uploads sure w → IsInOrder w.store
     → jobs_from l.all (map job_shown l.jobs.items) (after l.number w.store.uploads) ≡ jobs_of l.all w.store

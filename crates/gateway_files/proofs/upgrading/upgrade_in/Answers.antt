@@ -21,7 +21,7 @@ returns-in-Ok-upgrade g c disks d held is =
       now = now;
       answer = Ok (tt {0});
       upgrades = assumption c.in-Ok-upgrade.ensures;
-      told = tt {0};
+      fails_as = tt {0};
       reads = unread disk now;
     })))
 
@@ -37,6 +37,6 @@ returns-in-Err-upgrade g c disks d held is =
       now = c.upgrade.new.disk;
       answer = Err c.in-Err-upgrade.error;
       upgrades = assumption c.in-Err-upgrade.ensures;
-      told = c.refused_in.ensures.fault ∙ c.from.ensures;
+      fails_as = c.refused_in.ensures.fault ∙ c.from.ensures;
       reads = reads;
     })))

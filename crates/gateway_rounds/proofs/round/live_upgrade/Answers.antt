@@ -5,7 +5,7 @@ use Rattle.spool_image.specs.declared.error.UpgradeError.TheVariants.{Open}
 use Rattle.spool_journal.specs.Image.{all_pages}
 use Rattle.spool_journal.specs.declared.TheConstants.{PAGE}
 use Rattle.spool_catalog.specs.declared.error.OpenFault.TheVariants.{Stop}
-use Rattle.gateway_rounds.proofs.Passing.{all_one, counts_done, counts_told, done_leaves, err_same, is_spool, left_told}
+use Rattle.gateway_rounds.proofs.Passing.{all_one, counts_done, counts_reported, done_leaves, err_same, is_spool, left_reported}
 use Rattle.gateway_rounds.proofs.Passing.{read_opens, refused_leaves, still_shown, upgrade_ends}
 use Rattle.gateway_rounds.proofs.round.live_upgrade.Goals as goal
 
@@ -44,7 +44,7 @@ returns-in-Err g c n before all =
     (c.upgrade.ensures.crash n m.0 is) honest
     (subst (λ (k : ℕ). PAGE * all_pages n ≤ k) (sym c.upgrade.ensures.size) all.room) in
     let left =
-    left_told g.D.Disk back n m.0 before e
+    left_reported g.D.Disk back n m.0 before e
     (λ valid. c.in-Err.ensures.shows n m.0 is (λ device. valid (err_same e (Open (Stop DiskFault)) device))) still in (
       left.0,
       left.1,
@@ -55,6 +55,6 @@ returns-in-Err g c n before all =
         same = left.2;
         leaves = λ image here.
             refused_leaves e v image valid ends (c.in-Err.ensures.stays is.honest v valid is.shows.is room) here;
-        counts = counts_told e (Open (Stop DiskFault)) _ _ c.in-Err.ensures.counts;
+        counts = counts_reported e (Open (Stop DiskFault)) _ _ c.in-Err.ensures.counts;
       },
     )

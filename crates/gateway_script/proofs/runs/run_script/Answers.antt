@@ -4,7 +4,7 @@ use Rattle.std.proofs.lemmas.List.{take_rest}
 use Rattle.std.proofs.lemmas.Result.{err_from_is_err_and}
 use Rattle.tus_session.proofs.Counting.{uncounted}
 use Rattle.gateway_script.specs.Faults.{script_fault}
-use Rattle.common.specs.Splits.{after}
+use Rattle.common.specs.Splits.{rest_after}
 use Rattle.gateway_script.specs.Script.{run_lines, script_lines}
 use Rattle.gateway_script.proofs.Outputs.{some_list, no_list}
 use Rattle.gateway_script.proofs.Ending.{ends_after, line_fails, lines_on, line_some, lines_end}
@@ -19,7 +19,7 @@ returns-in_err-run_line-clause-does g c = λ sure before st r prefix at.
     (run_lines c.loop-rest.number c.loop-rest.start (script_lines rest)) r i.0 i.1
     (line_fails _ _ c.loop-rest.number c.loop-rest.start rest i.0
     (some_list _ rest c.is_empty.ensures c.loop-rest-test.true) (rw c.first_line-line.ensures.line at
-    (c.in_err-run_line.ensures.does sure before st i.0 prefix (script_lines (after 10 rest)) i.2))))
+    (c.in_err-run_line.ensures.does sure before st i.0 prefix (script_lines (rest_after 10 rest)) i.2))))
 
 -- a line of the rest has a byte, and is within it
 shorter : (rest line : List ℕ) → (rest ≡ [] → ⊥) → line ≡ take_through 10 rest → length line ≤ length rest
@@ -47,7 +47,7 @@ loop-rest-preserved g c =
           let i = c.loop-rest.invariant.4 sure before st r prefix at in rw take_rest
           (lines_on _ c.loop-rest.number c.loop-rest.start rest c.first_line-line.result.now
           (run_lines 1 0 (script_lines c.args.script.now)) r i.0 some c.first_line-line.ensures.line i.1
-          (c.in_ok-run_line.ensures.does sure before st i.0 prefix (script_lines (after 10 rest)) i.2)),
+          (c.in_ok-run_line.ensures.does sure before st i.0 prefix (script_lines (rest_after 10 rest)) i.2)),
     )
 
 pub returns-clause-does : goal.returns-clause-does

@@ -2,7 +2,7 @@ use Rattle.std.proofs.Common.{◌+◌, ◌<◌, ◌≤◌, get_or, length, Ok, E
 use Rattle.tus_session.proofs.Counting.{uncounted}
 use Rattle.gateway_serve.specs.Reasons.{none}
 use Rattle.gateway_serve.proofs.All.{among_all, all_served, free_before}
-use Rattle.gateway_serve.proofs.Carries.{among_keep}
+use Rattle.gateway_serve.proofs.Carries.{among_preserve}
 use Rattle.gateway_serve.proofs.Lost.{ended_once, more_ended}
 use Rattle.gateway_serve.specs.declared.reasons.Reason.TheVariants.{Over}
 use Rattle.gateway_serve.proofs.rounds.end_each.Goals as goal
@@ -16,7 +16,7 @@ returns-in-Err-clause-serves g c =
 
 pub returns-in-Err-clause-streams : goal.returns-in-Err-clause-streams
 returns-in-Err-clause-streams g c =
-    among_keep g.S.Read.remaining g.S.Write.contents _ c.loop-conn.places c.loop-conn.conn
+    among_preserve g.S.Read.remaining g.S.Write.contents _ c.loop-conn.places c.loop-conn.conn
     c.index-places-conn.result c.end.new.self _ c.loop-conn.ended.items c.end.new.ended.items
     c.loop-conn.invariant.2 (omega (arith, c.loop-conn-test.true, c.loop-conn.auto.places)) c.end.ensures.streams
 
@@ -39,7 +39,7 @@ loop-conn-preserved g c =
           c.loop-conn.conn c.index-places-conn.result c.end.new.self _ c.loop-conn.ended.items
           c.end.new.ended.items c.loop-conn.invariant.1 c.in-Ok.ensures.serves c.end.ensures.others
           inside,
-      among_keep g.S.Read.remaining g.S.Write.contents _ c.loop-conn.places c.loop-conn.conn
+      among_preserve g.S.Read.remaining g.S.Write.contents _ c.loop-conn.places c.loop-conn.conn
           c.index-places-conn.result c.end.new.self _ c.loop-conn.ended.items c.end.new.ended.items
           c.loop-conn.invariant.2 inside c.end.ensures.streams,
       free_before c.loop-conn.conn c.loop-conn.places c.end.new.self inside c.end.ensures.free c.loop-conn.invariant.3,

@@ -1,7 +1,7 @@
 use Rattle.std.proofs.Common.{◌<◌, ◌≤◌, get_or, length, arith}
 use Rattle.gateway_serve.proofs.All.{none_left, all_left, one_more_left}
 use Rattle.gateway_serve.specs.Reasons.{none}
-use Rattle.gateway_serve.proofs.Carries.{among_keep}
+use Rattle.gateway_serve.proofs.Carries.{among_preserve}
 use Rattle.gateway_serve.proofs.Lost.{ended_once}
 use Rattle.gateway_serve.proofs.rounds.free_each.Goals as goal
 
@@ -20,7 +20,7 @@ loop-conn-preserved g c =
           c.free.new.self
           c.loop-conn.ended.items c.free.new.ended.items st past inside
           c.free.ensures.ended c.free.ensures.waiting (c.loop-conn.invariant.0 sure st past all),
-      among_keep g.S.Read.remaining g.S.Write.contents _ c.loop-conn.places c.loop-conn.conn
+      among_preserve g.S.Read.remaining g.S.Write.contents _ c.loop-conn.places c.loop-conn.conn
           c.index-places-conn.result c.free.new.self _ c.loop-conn.ended.items c.free.new.ended.items
           c.loop-conn.invariant.1 inside c.free.ensures.streams,
       ended_once c.args.ended.now.items c.loop-conn.conn

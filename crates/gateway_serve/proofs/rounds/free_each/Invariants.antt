@@ -1,7 +1,7 @@
 use Rattle.std.proofs.Common.{Bool, List}
 use Rattle.tus_session.specs.History.{State, Marked}
 use Rattle.gateway_serve.specs.Joined.{AllFell}
-use Rattle.gateway_serve.specs.Streams.{AllKeep}
+use Rattle.gateway_serve.specs.Streams.{AllPreserve}
 use Rattle.gateway_serve.specs.Reasons.{EndedOnce}
 use Rattle.gateway_serve.proofs.All.{HalfLeft}
 use Rattle.gateway_serve.proofs.rounds.free_each.Given as goal
@@ -10,5 +10,5 @@ abbrev pub invariant-loop-conn : goal.invariant-loop-conn
 invariant-loop-conn g l =
     ((sure : Bool) (st : State) (past : List Marked) → AllFell sure l.fn.places l.fn.ended.items st past
     → HalfLeft sure l.conn l.places l.ended.items st past)
-    × AllKeep g.S.Read.remaining g.S.Write.contents l.fn.places l.places l.fn.ended.items l.ended.items
+    × AllPreserve g.S.Read.remaining g.S.Write.contents l.fn.places l.places l.fn.ended.items l.ended.items
     × EndedOnce l.fn.ended.items l.conn l.ended.items

@@ -3,7 +3,7 @@ use Rattle.std.proofs.lemmas.List.{set-get_or}
 use Rattle.tus_session.proofs.Counting.{uncounted}
 use Rattle.gateway_serve.specs.declared.places.Turned.{Turned}
 use Rattle.gateway_serve.proofs.All.{among_all}
-use Rattle.gateway_serve.proofs.Carries.{among_keep}
+use Rattle.gateway_serve.proofs.Carries.{among_preserve}
 use Rattle.gateway_serve.proofs.Lost.{closed_ended}
 use Rattle.gateway_serve.proofs.rounds.turn_each.Goals as goal
 
@@ -31,7 +31,7 @@ returns-in-Err-clause-serves g c =
 
 pub returns-in-Err-clause-streams : goal.returns-in-Err-clause-streams
 returns-in-Err-clause-streams g c =
-    among_keep g.S.Read.remaining g.S.Write.contents _ c.loop-conn.places c.loop-conn.conn
+    among_preserve g.S.Read.remaining g.S.Write.contents _ c.loop-conn.places c.loop-conn.conn
     c.index-places-conn.result c.turn.new.self _ c.loop-conn.ended.items c.turn.new.ended.items
     c.loop-conn.invariant.2 (omega (arith, c.loop-conn-test.true, c.loop-conn.auto.places)) c.turn.ensures.streams
 
@@ -45,7 +45,7 @@ loop-conn-preserved g c = (
       c.loop-conn.places c.loop-conn.conn c.index-places-conn.result c.turn.new.self _ c.loop-conn.ended.items
       c.turn.new.ended.items c.loop-conn.invariant.1 c.in-Ok.ensures.serves c.turn.ensures.others
       (omega (arith, c.loop-conn-test.true, c.loop-conn.auto.places)),
-  among_keep g.S.Read.remaining g.S.Write.contents _ c.loop-conn.places c.loop-conn.conn
+  among_preserve g.S.Read.remaining g.S.Write.contents _ c.loop-conn.places c.loop-conn.conn
       c.index-places-conn.result c.turn.new.self _ c.loop-conn.ended.items c.turn.new.ended.items
       c.loop-conn.invariant.2 (omega (arith, c.loop-conn-test.true, c.loop-conn.auto.places)) c.turn.ensures.streams,
   λ all. c.turn.ensures.reasons (c.loop-conn.invariant.3 all),

@@ -1,7 +1,7 @@
 use Rattle.std.proofs.Common.{◌≡◌, ◌≤◌, length, Result, Ok}
 use Rattle.common.specs.declared.stop.DiskFault.{DiskFault}
-use Rattle.gateway_serve.specs.Joined.{GoesOn}
-use Rattle.gateway_serve.specs.Streams.{AllKeep}
+use Rattle.gateway_serve.specs.Joined.{StaysJoined}
+use Rattle.gateway_serve.specs.Streams.{AllPreserve}
 use Rattle.gateway_serve.specs.Reasons.{StayReasoned}
 use Rattle.gateway_serve.proofs.rounds.turn_each.Given as goal
 
@@ -9,7 +9,7 @@ abbrev pub invariant-loop-conn : goal.invariant-loop-conn
 invariant-loop-conn g l =
     let on : Result (Unit {0}) DiskFault = Ok tt in
     (g.C.Connections.failures l.gateway ≡ g.C.Connections.failures l.fn.gateway)
-    × GoesOn g.C.Connections l.fn.gateway l.gateway on l.fn.places l.places l.fn.ended.items l.ended.items
-    × AllKeep g.S.Read.remaining g.S.Write.contents l.fn.places l.places l.fn.ended.items l.ended.items
+    × StaysJoined g.C.Connections l.fn.gateway l.gateway on l.fn.places l.places l.fn.ended.items l.ended.items
+    × AllPreserve g.S.Read.remaining g.S.Write.contents l.fn.places l.places l.fn.ended.items l.ended.items
     × StayReasoned l.fn.ended.items l.ended.items
     × (l.fn.round.closed ≤ length l.fn.ended.items → l.round.closed ≤ length l.ended.items)

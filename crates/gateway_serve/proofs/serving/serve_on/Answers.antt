@@ -4,10 +4,10 @@ use Rattle.gateway_serve.proofs.All.{new_joins}
 use Rattle.gateway_serve.proofs.serving.serve_on.Goals as goal
 
 pub returns-clause-serves : goal.returns-clause-serves
-returns-clause-serves g c = λ sure st stands.
+returns-clause-serves g c = λ sure st represents.
     c.serve-served.ensures.serves sure c.args.gateway st []
     (record {
-      stands = stands;
+      represents = represents;
       images = λ known. record
           { later = omega arith; limits = λ n t ms le left among. left };
     })

@@ -5,7 +5,7 @@ use Rattle.lane_kernels.proofs.narrowing.narrow.Given as goal
 
 abbrev pub invariant-by_lanes : goal.invariant-by_lanes
 invariant-by_lanes l = record {
-  front : l.at ≤ prefix_len is_ascii l.units;
+  prefix : l.at ≤ prefix_len is_ascii l.units;
   room : l.at ≤ length l.initial.out;
   written : l.out ≡ take l.at l.units ++ drop l.at l.initial.out;
 }

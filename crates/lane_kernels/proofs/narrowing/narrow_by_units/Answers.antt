@@ -13,7 +13,7 @@ loop-end-preserved c =
     let passes : is_ascii (slice_index_or units at 0) ≡ true = grind (arith, nat_tests, c.if-units-end-lt128.true) in
     let written = c.loop-end.invariant.written in
     record {
-      front = prefix_more is_ascii units at c.loop-end.invariant.front c.loop-end-test.true passes;
+      prefix = prefix_more is_ascii units at c.loop-end.invariant.prefix c.loop-end-test.true passes;
       room = omega (arith, c.if-end-out.true, c.loop-end.auto.out);
       written = ap (λ out. set out at (get_or units at 0)) written ∙ written_more units c.args.out.now at
           c.loop-end-test.true (omega (arith, c.if-end-out.true, c.loop-end.auto.out));
@@ -24,7 +24,7 @@ returns-else-units-end-lt128-clause-length c =
     let units = c.args.units.now in
     let at = c.loop-end.end in
     let fails : is_ascii (slice_index_or units at 0) ≡ false = grind (arith, nat_tests, c.if-units-end-lt128.false) in
-    let ends = prefix_ends is_ascii units at c.loop-end.invariant.front fails in
+    let ends = prefix_ends is_ascii units at c.loop-end.invariant.prefix fails in
     omega (arith, ends, c.loop-end.invariant.room)
 
 pub returns-after-loop-end-clause-length : goal.returns-after-loop-end-clause-length
@@ -33,6 +33,6 @@ returns-after-loop-end-clause-length c =
       arith,
       prefix_len-le-length is_ascii c.args.units.now,
       c.loop-end-test.false,
-      c.loop-end.invariant.front,
+      c.loop-end.invariant.prefix,
       c.loop-end.invariant.room,
     )

@@ -5,7 +5,7 @@ use Rattle.lane_kernels.proofs.narrowing.narrow_by_units.Given as goal
 
 abbrev pub invariant-loop-end : goal.invariant-loop-end
 invariant-loop-end l = record {
-  front : l.end ≤ prefix_len is_ascii l.units;
+  prefix : l.end ≤ prefix_len is_ascii l.units;
   room : l.end ≤ length l.initial.out;
   written : l.out ≡ take l.end l.units ++ drop l.end l.initial.out;
 }

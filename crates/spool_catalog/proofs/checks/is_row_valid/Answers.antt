@@ -32,10 +32,10 @@ module _ (slots : List (Option SlotRecord)) (slot ordinal : ℕ) (row : Option (
 
 pub returns-in-Some-record_at-clause-valid : goal.returns-in-Some-record_at-clause-valid
 returns-in-Some-record_at-clause-valid c =
-    let r = c.in-Some-record_at.kept.now in
+    let r = c.in-Some-record_at.slot_used.now in
     let there : get_or c.args.slots.now c.in-Some.slot None ≡ Some r = sym c.in-Some-record_at.ensures in
     let limit : c.blocks_of.result ≡ blocks_of r.text_len =
-    c.blocks_of.ensures ∙ ap (λ (q : SlotRecord). blocks_of q.text_len) c.record.ensures.said in (
+    c.blocks_of.ensures ∙ ap (λ (q : SlotRecord). blocks_of q.text_len) c.record.ensures.slot_record in (
       λ yes. row_valid c.args.slots.now c.in-Some.slot c.in-Some.ordinal c.args.row c.in-Some.is (record {
         used = r;
         there = there;

@@ -1,7 +1,7 @@
 use Rattle.std.proofs.Common.{rules, ◌≡◌, ◌-◌, ◌≤◌, ℕ, List, subst, arith}
 use Rattle.std.specs.List.{remove}
 use Rattle.spool_catalog.specs.declared.order.NumberedSlot.{NumberedSlot}
-use Rattle.spool_catalog.specs.Holding.{IsPlaceFor, Lists, Rises}
+use Rattle.spool_catalog.specs.Holding.{IsPlaceFor, IsListedAt, Rises}
 use Rattle.spool_catalog.specs.TakenOut.{IsWithout}
 use Rattle.spool_catalog.proofs.numbers.Ordered.{listed_before, no_place}
 use Rattle.spool_catalog.proofs.numbers.Unlisted.{without_number}
@@ -10,13 +10,13 @@ use Rattle.spool_catalog.proofs.taking_out.take_number.Goals.{After-places_to-pl
 
 -- the numbers up to it end after a place
 some_place : (order : List NumberedSlot) (n place : ℕ) → Rises order → IsPlaceFor order n place
-    → (s : ℕ) × Lists order n s → 1 ≤ place
+    → (s : ℕ) × IsListedAt order n s → 1 ≤ place
 some_place order n place rises is listed =
     let not = no_place order n place rises is listed.0 listed.1 in
     omega (arith, not)
 
 taken : (order : List NumberedSlot) (n place : ℕ) → Rises order → IsPlaceFor order n place
-    → (s : ℕ) × Lists order n s → IsWithout order n (remove order (place - 1))
+    → (s : ℕ) × IsListedAt order n s → IsWithout order n (remove order (place - 1))
 taken order n place rises is listed =
     let some = some_place order n place rises is listed in
     without_number order (place - 1) n rises (omega (arith, some, is.within))

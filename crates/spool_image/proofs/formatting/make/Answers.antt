@@ -30,9 +30,9 @@ returns-in_err-write_pages-clause-crash g c honest =
 pub returns-clause-crash : goal.returns-clause-crash
 returns-clause-crash g c honest =
     let mid = c.write_pages.ensures.honest.0 honest in
-    let keeps = c.write_pages.ensures.prefix honest in
+    let preserves = c.write_pages.ensures.prefix honest in
     lasts_on (lasts_more (c.write_pages.ensures.crash honest) (λ image stays. inl stays))
     (lasts_more
     (c.write_first.ensures.crash mid c.args.indexes.now c.in_ok-write_pages.ensures.valid
     (c.in_ok-write_pages.ensures.fresh honest))
-    (λ image one. ⊎_elim (λ stays. inl (prefix_stays keeps image stays)) (λ made. inr made) one))
+    (λ image one. ⊎_elim (λ stays. inl (prefix_stays preserves image stays)) (λ made. inr made) one))

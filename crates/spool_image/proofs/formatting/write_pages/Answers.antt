@@ -5,9 +5,9 @@ use Rattle.std.proofs.lemmas.Bool.{cases_lt}
 use Rattle.spool_journal.specs.declared.TheConstants.{PAGE}
 use Rattle.spool_pages.specs.View.{state_place}
 use Rattle.spool_image.specs.Format.{PrefixStays}
-use Rattle.spool_image.proofs.Formats.{prefix_image, prefix_kept, prefix_on, prefix_written, lasts_none}
+use Rattle.spool_image.proofs.Formats.{prefix_image, prefix_unchanged, prefix_on, prefix_written, lasts_none}
 use Rattle.spool_image.proofs.Fresh.{fresh_more}
-use Rattle.spool_pages.proofs.Says.{all_is}
+use Rattle.spool_pages.proofs.Encodes.{all_is}
 use Rattle.spool_image.proofs.formatting.write_pages.Goals as goal
 
 pub loop-page-init : goal.loop-page-init
@@ -16,7 +16,7 @@ loop-page-init g c =
     record {
       calls = no_calls;
       fresh = λ honest. record { each = λ p from below. omega (arith, from, below) };
-      prefix = λ honest. prefix_kept (g.D.Disk.current disk) (g.D.Disk.unsynced disk);
+      prefix = λ honest. prefix_unchanged (g.D.Disk.current disk) (g.D.Disk.unsynced disk);
       crash = λ honest. lasts_none g.D.Disk disk (PrefixStays (g.D.Disk.current disk) (g.D.Disk.unsynced disk));
       valid = λ past. absurd (omega (arith, past));
     }
@@ -35,9 +35,9 @@ loop-page-preserved g c =
           (c.write_at.ensures.writes (inv.calls.honest honest)));
       crash = λ honest.
           let writes = c.write_at.ensures.writes (inv.calls.honest honest) in
-          let keeps = prefix_on (inv.prefix honest) (prefix_written (omega arith) writes) in
+          let preserves = prefix_on (inv.prefix honest) (prefix_written (omega arith) writes) in
           lasts_on (inv.crash honest) (lasts_call (c.write_at.ensures.time (inv.calls.honest honest))
-          (prefix_image keeps));
+          (prefix_image preserves));
       valid = λ past. elim (cases_lt (PAGE * c.loop-page.page) (state_place c.args.layout.now)) [
         | inl before ↦ c.fresh_page.ensures.valid (omega (arith, past)) before
         | inr after ↦ inv.valid after

@@ -4,27 +4,27 @@ use Rattle.spool_disk.proofs.Firm.{counts_on}
 use Rattle.spool_disk.proofs.Gave.{grew_none}
 use Rattle.spool_journal.specs.Image.{journal_pages, overlaid}
 use Rattle.spool_journal.specs.Phases.{Settled}
-use Rattle.spool_catalog.specs.Kept.{KeepsAlone}
-use Rattle.spool_catalog.specs.declared.kept.Kept.{Kept}
+use Rattle.spool_catalog.specs.Catalog.{HasViewAlone}
+use Rattle.spool_catalog.specs.declared.catalog.Catalog.{Catalog}
 use Rattle.spool_pages.specs.View.{IsViewOf}
 use Rattle.spool_pages.specs.declared.version.Version.TheVariants.{One, Two}
 use Rattle.spool_load.specs.Faults.{load_fault}
 use Rattle.spool_load.specs.Loaded.{IsFoundOf}
-use Rattle.spool_load.proofs.Faults.{counts_told, tells_nothing}
+use Rattle.spool_load.proofs.Faults.{counts_reported, is_stop_error}
 use Rattle.spool_load.proofs.Looks.{ok_no_fault}
 use Rattle.spool_load.proofs.ReadBys.{by_after, loads_by, unread_by}
-use Rattle.spool_load.proofs.Opens.{read_lasts, read_same, read_settled, read_unwritten, recovered_says, settled_still}
+use Rattle.spool_load.proofs.Opens.{read_lasts, read_same, read_settled, read_unwritten, recovered_encodes, settled_still}
 use Rattle.spool_load.proofs.Refused.{found_back, opened_on, read_reason}
 use Rattle.spool_image.proofs.Upgraded.{found_new, found_old, loads_upgrades, old_reason, settled_rests, upgrades_by}
 use Rattle.spool_image.proofs.Upgraded.{unfound_disk_fault, unfound_upgrade}
 use Rattle.spool_image.specs.declared.error.UpgradeError.TheVariants.{Open}
 use Rattle.spool_image.proofs.upgrading.load_old.Goals as goal
 
-pub returns-in_err-found-clause-said : goal.returns-in_err-found-clause-said
-returns-in_err-found-clause-said g c honest v valid is room =
+pub returns-in_err-found-clause-decoded : goal.returns-in_err-found-clause-decoded
+returns-in_err-found-clause-decoded g c honest v valid is room =
     let up =
-    loads_upgrades Kept v.version c.in_err-found.field-0.0 (IsFoundOf v)
-    (c.in_err-found.ensures.said honest v valid is room) in
+    loads_upgrades Catalog v.version c.in_err-found.field-0.0 (IsFoundOf v)
+    (c.in_err-found.ensures.decoded honest v valid is room) in
     search rules
 
 pub returns-in_err-found-clause-refused : goal.returns-in_err-found-clause-refused
@@ -35,75 +35,75 @@ returns-in_err-found-clause-refused g c honest =
 pub returns-in_err-found-clause-stays : goal.returns-in_err-found-clause-stays
 returns-in_err-found-clause-stays g c honest v valid is room =
     let device =
-    unfound_disk_fault _ _ c.in_err-found.field-0.0 (IsFoundOf v) (c.in_err-found.ensures.said honest v valid is room)
+    unfound_disk_fault _ _ c.in_err-found.field-0.0 (IsFoundOf v) (c.in_err-found.ensures.decoded honest v valid is room)
     (c.in_err-found.ensures.refused honest) in
     search rules
 
-pub returns-in_err-kept-clause-said : goal.returns-in_err-kept-clause-said
-returns-in_err-kept-clause-said g c honest v valid is room =
+pub returns-in_err-catalog-clause-decoded : goal.returns-in_err-catalog-clause-decoded
+returns-in_err-catalog-clause-decoded g c honest v valid is room =
     let settled = c.in_ok-found.ensures.settled honest in
-    let found = c.in_ok-found.ensures.said honest v valid is room in
+    let found = c.in_ok-found.ensures.decoded honest v valid is room in
     let loads =
-    tells_nothing c.in_err-kept.field-0.0 (λ (kept : Kept). KeepsAlone kept v)
-    (c.in_err-kept.ensures.said _
+    is_stop_error c.in_err-catalog.field-0.0 (λ (catalog : Catalog). HasViewAlone catalog v)
+    (c.in_err-catalog.ensures.decoded _
     (c.read.ensures.reads.gave (c.find.ensures.honest.0 honest) _ (settled_still settled)) v valid found
-    (recovered_says c.in_ok-found.found.layout v found.blocks settled is)) in
+    (recovered_encodes c.in_ok-found.found.layout v found.blocks settled is)) in
     let up =
-    loads_upgrades Kept v.version (load_fault c.in_err-kept.field-0.0) (λ (kept : Kept). KeepsAlone kept v) loads in
+    loads_upgrades Catalog v.version (load_fault c.in_err-catalog.field-0.0) (λ (catalog : Catalog). HasViewAlone catalog v) loads in
     search rules
 
-pub returns-in_err-kept-clause-refused : goal.returns-in_err-kept-clause-refused
-returns-in_err-kept-clause-refused g c honest =
+pub returns-in_err-catalog-clause-refused : goal.returns-in_err-catalog-clause-refused
+returns-in_err-catalog-clause-refused g c honest =
     let settled = c.in_ok-found.ensures.settled honest in
     let on = c.in_ok-found.ensures.found honest in
     let mid = c.find.ensures.honest.0 honest in
     let reason =
     read_reason (g.D.Disk.size c.args.disk.now) (g.D.Disk.current c.args.disk.now) _ c.in_ok-found.found
-    c.in_err-kept.field-0.0 on
-    (λ v valid encodes. let is : IsViewOf (g.D.Disk.current c.args.disk.now) v = record {
-      form = encodes.journal;
-      says = encodes.says;
+    c.in_err-catalog.field-0.0 on
+    (λ v valid encodes_by. let is : IsViewOf (g.D.Disk.current c.args.disk.now) v = record {
+      form = encodes_by.journal;
+      encodes = encodes_by.encodes;
     } in
-    let found = c.in_ok-found.ensures.said honest v valid is encodes.begins.room in
-    c.in_err-kept.ensures.said _ (c.read.ensures.reads.gave mid _ (settled_still settled)) v valid found
-    (recovered_says c.in_ok-found.found.layout v found.blocks settled is)) in
+    let found = c.in_ok-found.ensures.decoded honest v valid is encodes_by.begins.room in
+    c.in_err-catalog.ensures.decoded _ (c.read.ensures.reads.gave mid _ (settled_still settled)) v valid found
+    (recovered_encodes c.in_ok-found.found.layout v found.blocks settled is)) in
     let old =
-    old_reason (g.D.Disk.size c.args.disk.now) (g.D.Disk.current c.args.disk.now) _ (load_fault c.in_err-kept.field-0.0)
+    old_reason (g.D.Disk.size c.args.disk.now) (g.D.Disk.current c.args.disk.now) _ (load_fault c.in_err-catalog.field-0.0)
     (λ e. found_old (g.D.Disk.size c.args.disk.now) (g.D.Disk.current c.args.disk.now) _ c.in_ok-found.found on
     (search rules)) reason in
     search rules
 
-pub returns-in_err-kept-clause-counts : goal.returns-in_err-kept-clause-counts
-returns-in_err-kept-clause-counts g c =
-    let e = err_from_is_err_and c.from_residual-in_err-kept.result c.from_residual-in_err-kept.ensures.1 in
+pub returns-in_err-catalog-clause-counts : goal.returns-in_err-catalog-clause-counts
+returns-in_err-catalog-clause-counts g c =
+    let e = err_from_is_err_and c.from_residual-in_err-catalog.result c.from_residual-in_err-catalog.ensures.1 in
     counts_on c.find.ensures.counts (ok_no_fault _ _ c.in_ok-found.was)
-    (counts_told c.in_err-kept.field-0.0 (λ failed. let is = e.1 in let fault = e.2 in cc)
-    (λ device. e.1 ∙ ap Err (e.2 ∙ ap Open device)) c.in_err-kept.ensures.counts)
+    (counts_reported c.in_err-catalog.field-0.0 (λ failed. let is = e.1 in let fault = e.2 in cc)
+    (λ device. e.1 ∙ ap Err (e.2 ∙ ap Open device)) c.in_err-catalog.ensures.counts)
 
-pub returns-in_err-kept-clause-stays : goal.returns-in_err-kept-clause-stays
-returns-in_err-kept-clause-stays g c honest v valid is room =
-    let found = c.in_ok-found.ensures.said honest v valid is room in
+pub returns-in_err-catalog-clause-stays : goal.returns-in_err-catalog-clause-stays
+returns-in_err-catalog-clause-stays g c honest v valid is room =
+    let found = c.in_ok-found.ensures.decoded honest v valid is room in
     let there =
     read_settled g.D.Disk c.args.disk.now c.find.new.disk c.read.new.disk c.in_ok-found.found.layout
     (c.find.ensures.honest.0 honest) (c.in_ok-found.ensures.settled honest) c.read.ensures.reads in
     let rests = settled_rests v c.in_ok-found.found.layout found.blocks there is in
     search rules
 
-pub returns-in_err-kept-clause-lasts : goal.returns-in_err-kept-clause-lasts
-returns-in_err-kept-clause-lasts g c honest v valid is room =
-    let found = c.in_ok-found.ensures.said honest v valid is room in
+pub returns-in_err-catalog-clause-lasts : goal.returns-in_err-catalog-clause-lasts
+returns-in_err-catalog-clause-lasts g c honest v valid is room =
+    let found = c.in_ok-found.ensures.decoded honest v valid is room in
     read_lasts g.D.Disk c.args.disk.now c.find.new.disk c.read.new.disk c.in_ok-found.found.layout
     (c.find.ensures.honest.0 honest) (c.in_ok-found.ensures.settled honest) c.read.ensures.reads v.blocks found.blocks
     (c.find.ensures.lasts honest v valid is room)
 
-pub returns-in_err-kept-clause-unwritten : goal.returns-in_err-kept-clause-unwritten
-returns-in_err-kept-clause-unwritten g c honest none =
+pub returns-in_err-catalog-clause-unwritten : goal.returns-in_err-catalog-clause-unwritten
+returns-in_err-catalog-clause-unwritten g c honest none =
     read_unwritten g.D.Disk c.args.disk.now c.find.new.disk c.read.new.disk c.in_ok-found.found.layout
     (c.find.ensures.honest.0 honest) (c.in_ok-found.ensures.settled honest) c.read.ensures.reads
     (c.find.ensures.same honest none (ok_no_fault _ _ c.in_ok-found.was)) (c.find.ensures.unwritten honest none)
 
-pub returns-in_err-kept-clause-same : goal.returns-in_err-kept-clause-same
-returns-in_err-kept-clause-same g c honest none fine =
+pub returns-in_err-catalog-clause-same : goal.returns-in_err-catalog-clause-same
+returns-in_err-catalog-clause-same g c honest none fine =
     read_same g.D.Disk c.args.disk.now c.find.new.disk c.read.new.disk c.in_ok-found.found.layout
     (c.find.ensures.honest.0 honest) (c.in_ok-found.ensures.settled honest) c.read.ensures.reads
     (c.find.ensures.same honest none (ok_no_fault _ _ c.in_ok-found.was))
@@ -114,7 +114,7 @@ returns-then-eq-clause-same g c honest none fine =
 
 pub returns-clause-lasts : goal.returns-clause-lasts
 returns-clause-lasts g c honest v valid is room =
-    let found = c.in_ok-found.ensures.said honest v valid is room in
+    let found = c.in_ok-found.ensures.decoded honest v valid is room in
     read_lasts g.D.Disk c.args.disk.now c.find.new.disk c.read.new.disk c.in_ok-found.found.layout
     (c.find.ensures.honest.0 honest) (c.in_ok-found.ensures.settled honest) c.read.ensures.reads v.blocks found.blocks
     (c.find.ensures.lasts honest v valid is room)
@@ -131,13 +131,13 @@ returns-clause-same g c honest none fine =
     (c.find.ensures.honest.0 honest) (c.in_ok-found.ensures.settled honest) c.read.ensures.reads
     (c.find.ensures.same honest none (ok_no_fault _ _ c.in_ok-found.was))
 
-pub returns-clause-kept : goal.returns-clause-kept
-returns-clause-kept g c honest v valid is room =
+pub returns-clause-catalog : goal.returns-clause-catalog
+returns-clause-catalog g c honest v valid is room =
     let settled = c.in_ok-found.ensures.settled honest in
-    let found = c.in_ok-found.ensures.said honest v valid is room in
-    c.in_ok-kept.ensures.said _ (c.read.ensures.reads.gave (c.find.ensures.honest.0 honest) _ (settled_still settled)) v
+    let found = c.in_ok-found.ensures.decoded honest v valid is room in
+    c.in_ok-catalog.ensures.decoded _ (c.read.ensures.reads.gave (c.find.ensures.honest.0 honest) _ (settled_still settled)) v
     valid found
-    (recovered_says c.in_ok-found.found.layout v found.blocks settled is)
+    (recovered_encodes c.in_ok-found.found.layout v found.blocks settled is)
 
 pub returns-clause-valid : goal.returns-clause-valid
 returns-clause-valid g c honest =
@@ -148,8 +148,8 @@ returns-clause-valid g c honest =
     let now = g.D.Disk.current c.find.new.disk in
     let unsynced = g.D.Disk.unsynced c.find.new.disk in
     let size = g.D.Disk.size c.args.disk.now in
-    opened_on n was now unsynced settled found.journal size c.in_ok-kept.kept found.says
-    (c.in_ok-kept.ensures.valid now
+    opened_on n was now unsynced settled found.journal size c.in_ok-catalog.catalog found.encodes
+    (c.in_ok-catalog.ensures.valid now
     (c.read.ensures.reads.gave (c.find.ensures.honest.0 honest) now (settled_still settled))
     (found_back size c.in_ok-found.found was now unsynced settled found))
 
@@ -161,7 +161,7 @@ returns-clause-settled g c honest =
     let J : ℕ → Type 0 =
     λ n. Settled (journal_pages n) (overlaid (g.D.Disk.current c.args.disk.now)) (g.D.Disk.current c.read.new.disk)
     (g.D.Disk.unsynced c.read.new.disk) in
-    subst J (sym c.in_ok-kept.ensures.layout) there
+    subst J (sym c.in_ok-catalog.ensures.layout) there
 
 pub returns-then-eq-clause-refused : goal.returns-then-eq-clause-refused
 returns-then-eq-clause-refused g c honest =
@@ -171,7 +171,7 @@ returns-then-eq-clause-refused g c honest =
 
 pub returns-then-eq-clause-stays : goal.returns-then-eq-clause-stays
 returns-then-eq-clause-stays g c honest v valid is room device =
-    let found = c.in_ok-found.ensures.said honest v valid is room in
+    let found = c.in_ok-found.ensures.decoded honest v valid is room in
     settled_rests v c.in_ok-found.found.layout found.blocks (c.in_ok-found.ensures.settled honest) is
 
 -- On any disk.
@@ -188,25 +188,25 @@ returns-then-eq-clause-given g c =
     by_after c.in_ok-found.ensures.given (grew_none refl)
     (λ before after is late. found_new _ before after c.in_ok-found.found is.answer new)
 
-pub returns-in_err-kept-clause-given : goal.returns-in_err-kept-clause-given
-returns-in_err-kept-clause-given g c =
-    let e = err_from_is_err_and c.from_residual-in_err-kept.result c.from_residual-in_err-kept.ensures.1 in
+pub returns-in_err-catalog-clause-given : goal.returns-in_err-catalog-clause-given
+returns-in_err-catalog-clause-given g c =
+    let e = err_from_is_err_and c.from_residual-in_err-catalog.result c.from_residual-in_err-catalog.ensures.1 in
     let old : c.in_ok-found.found.version ≡ One = search rules in
     rw (e.1, e.2) (by_after c.in_ok-found.ensures.given c.read.ensures.reads.grew
-    (λ before after is late. old_reason _ before after (load_fault c.in_err-kept.field-0.0)
+    (λ before after is late. old_reason _ before after (load_fault c.in_err-catalog.field-0.0)
     (λ damaged. found_old _ before after c.in_ok-found.found is.answer old)
-    (unread_by _ before after c.in_ok-found.found is c.in_err-kept.field-0.0
-    (λ v valid found says. c.in_err-kept.ensures.said after late v valid found says)).answer))
+    (unread_by _ before after c.in_ok-found.found is c.in_err-catalog.field-0.0
+    (λ v valid found encodes. c.in_err-catalog.ensures.decoded after late v valid found encodes)).answer))
 
 pub returns-clause-given : goal.returns-clause-given
 returns-clause-given g c =
     let old : c.in_ok-found.found.version ≡ One = search rules in
     by_after c.in_ok-found.ensures.given c.read.ensures.reads.grew
-    (λ before after is late. upgrades_by _ before after c.in_ok-found.found c.in_ok-kept.kept old
-    c.in_ok-kept.ensures.version
-    (loads_by _ before after c.in_ok-found.found is c.in_ok-kept.kept
-    (c.in_ok-kept.ensures.valid after late is.answer.state)
-    (λ v valid found says. c.in_ok-kept.ensures.said after late v valid found says)) c.in_ok-kept.kept)
+    (λ before after is late. upgrades_by _ before after c.in_ok-found.found c.in_ok-catalog.catalog old
+    c.in_ok-catalog.ensures.version
+    (loads_by _ before after c.in_ok-found.found is c.in_ok-catalog.catalog
+    (c.in_ok-catalog.ensures.valid after late is.answer.state)
+    (λ v valid found encodes. c.in_ok-catalog.ensures.decoded after late v valid found encodes)) c.in_ok-catalog.catalog)
 
 pub returns-in_err-found-clause-same : goal.returns-in_err-found-clause-same
 returns-in_err-found-clause-same g c honest none fine =

@@ -2,7 +2,7 @@ use Rattle.std.proofs.Common.{◌≡◌, ◌∙◌, inl, inr, ℕ, ◌*◌, ◌�
 use Rattle.std.proofs.lemmas.Result.{err_from_is_err_and}
 use Rattle.common.specs.declared.stop.Stop.TheVariants.{DiskFault}
 use Rattle.spool_journal.specs.declared.TheConstants.{PAGE}
-use Rattle.spool_disk.specs.Disk.{IsImage, Keeps}
+use Rattle.spool_disk.specs.Disk.{IsImage, Preserves}
 use Rattle.spool_disk.specs.Views.{Lasts}
 use Rattle.spool_disk.proofs.Firm.{lasts_on, lasts_more}
 use Rattle.spool_disk.proofs.Gave.{grew_none}
@@ -21,50 +21,50 @@ use Rattle.spool_image.proofs.Upgraded.{rests_show, settled_rests, untouched_on,
 use Rattle.spool_image.proofs.Upgraded.{upgrades_late, view_shows}
 use Rattle.spool_image.proofs.upgrading.upgrade.Goals as goal
 
-pub returns-in_err-kept-clause-lasts : goal.returns-in_err-kept-clause-lasts
-returns-in_err-kept-clause-lasts g c honest v valid is room =
+pub returns-in_err-catalog-clause-lasts : goal.returns-in_err-catalog-clause-lasts
+returns-in_err-catalog-clause-lasts g c honest v valid is room =
     lasts_more (c.load_old.ensures.lasts honest v valid is room)
     (λ image one. ⊎_elim (λ here. inl here)
     (λ reads. inr (inl (reads_shows image (g.D.Disk.current c.args.disk.now) v is reads))) one)
 
-pub returns-in_err-kept-clause-crash : goal.returns-in_err-kept-clause-crash
-returns-in_err-kept-clause-crash g c n m is =
+pub returns-in_err-catalog-clause-crash : goal.returns-in_err-catalog-clause-crash
+returns-in_err-catalog-clause-crash g c n m is =
     crash_shown g.D.Disk c.args.disk.now c.load_old.new.disk n m is
-    (returns-in_err-kept-clause-lasts g c is.honest)
+    (returns-in_err-catalog-clause-lasts g c is.honest)
 
-pub returns-in_err-kept-clause-not_a_spool : goal.returns-in_err-kept-clause-not_a_spool
-returns-in_err-kept-clause-not_a_spool g c honest is =
-    let told =
-    upgrade_no_spool (g.D.Disk.size c.args.disk.now) (g.D.Disk.current c.args.disk.now) c.in_err-kept.field-0.0
-    (c.in_err-kept.ensures.refused honest) is in
+pub returns-in_err-catalog-clause-not_a_spool : goal.returns-in_err-catalog-clause-not_a_spool
+returns-in_err-catalog-clause-not_a_spool g c honest is =
+    let recorded =
+    upgrade_no_spool (g.D.Disk.size c.args.disk.now) (g.D.Disk.current c.args.disk.now) c.in_err-catalog.field-0.0
+    (c.in_err-catalog.ensures.refused honest) is in
     search rules
 
-pub returns-in_err-kept-clause-version : goal.returns-in_err-kept-clause-version
-returns-in_err-kept-clause-version g c honest is =
-    let told =
-    upgrade_version (g.D.Disk.size c.args.disk.now) (g.D.Disk.current c.args.disk.now) c.in_err-kept.field-0.0
-    (c.in_err-kept.ensures.refused honest) is in
+pub returns-in_err-catalog-clause-version : goal.returns-in_err-catalog-clause-version
+returns-in_err-catalog-clause-version g c honest is =
+    let recorded =
+    upgrade_version (g.D.Disk.size c.args.disk.now) (g.D.Disk.current c.args.disk.now) c.in_err-catalog.field-0.0
+    (c.in_err-catalog.ensures.refused honest) is in
     search rules
 
-pub returns-in_err-kept-clause-already_new : goal.returns-in_err-kept-clause-already_new
-returns-in_err-kept-clause-already_new g c honest is =
-    let told =
-    upgrade_new (g.D.Disk.size c.args.disk.now) (g.D.Disk.current c.args.disk.now) c.in_err-kept.field-0.0
-    (c.in_err-kept.ensures.refused honest) is in
+pub returns-in_err-catalog-clause-already_new : goal.returns-in_err-catalog-clause-already_new
+returns-in_err-catalog-clause-already_new g c honest is =
+    let recorded =
+    upgrade_new (g.D.Disk.size c.args.disk.now) (g.D.Disk.current c.args.disk.now) c.in_err-catalog.field-0.0
+    (c.in_err-catalog.ensures.refused honest) is in
     search rules
 
-pub returns-in_err-kept-clause-damaged : goal.returns-in_err-kept-clause-damaged
-returns-in_err-kept-clause-damaged g c honest is =
-    let told =
-    upgrade_damaged (g.D.Disk.size c.args.disk.now) (g.D.Disk.current c.args.disk.now) c.in_err-kept.field-0.0
-    (c.in_err-kept.ensures.refused honest) is in
+pub returns-in_err-catalog-clause-damaged : goal.returns-in_err-catalog-clause-damaged
+returns-in_err-catalog-clause-damaged g c honest is =
+    let recorded =
+    upgrade_damaged (g.D.Disk.size c.args.disk.now) (g.D.Disk.current c.args.disk.now) c.in_err-catalog.field-0.0
+    (c.in_err-catalog.ensures.refused honest) is in
     search rules
 
-pub returns-in_err-kept-clause-shows : goal.returns-in_err-kept-clause-shows
-returns-in_err-kept-clause-shows g c n m is fine =
+pub returns-in_err-catalog-clause-shows : goal.returns-in_err-catalog-clause-shows
+returns-in_err-catalog-clause-shows g c n m is fine =
     let v = is.shows.view in
     let stays =
-    c.in_err-kept.ensures.stays is.honest v is.shows.shows.valid is.shows.is
+    c.in_err-catalog.ensures.stays is.honest v is.shows.shows.valid is.shows.is
     (view_room g.D.Disk c.args.disk.now n m is) in
     let rests = stays (search rules) in
     rests_show g.D.Disk c.load_old.new.disk n m v is.shows.blocks (c.load_old.ensures.honest.0 is.honest)
@@ -73,7 +73,7 @@ returns-in_err-kept-clause-shows g c n m is fine =
 
 pub returns-clause-upgraded : goal.returns-clause-upgraded
 returns-clause-upgraded g c honest v valid is room =
-    upgrades_late v.version c.rewrite.result (c.in_ok-kept.ensures.said honest v valid is room) c.rewrite.ensures.late
+    upgrades_late v.version c.rewrite.result (c.in_ok-catalog.ensures.decoded honest v valid is room) c.rewrite.ensures.late
 
 pub returns-clause-refused : goal.returns-clause-refused
 returns-clause-refused g c honest =
@@ -82,61 +82,61 @@ returns-clause-refused g c honest =
 
 pub returns-clause-valid : goal.returns-clause-valid
 returns-clause-valid g c honest =
-    let opened = c.in_ok-kept.ensures.valid honest in
+    let opened = c.in_ok-catalog.ensures.valid honest in
     let v = opened.view in
     let mid = c.load_old.ensures.honest.0 honest in
-    let keeps = opened.keeps.0 in
-    let rests = settled_rests v c.in_ok-kept.kept.layout keeps.blocks (c.in_ok-kept.ensures.settled honest) opened.is in
+    let has_view = opened.has_view.0 in
+    let rests = settled_rests v c.in_ok-catalog.catalog.layout has_view.blocks (c.in_ok-catalog.ensures.settled honest) opened.is in
     on_ok_more c.rewrite.result (λ done. record {
       view = v;
       valid = opened.valid;
-      old = sym keeps.version ∙ c.in_ok-kept.ensures.version;
+      old = sym has_view.version ∙ c.in_ok-catalog.ensures.version;
       was = opened.is;
       room = opened.room;
       rests = done.0;
       commit = commit_over v (g.D.Disk.current c.load_old.new.disk) (overlaid (g.D.Disk.current c.args.disk.now))
           (subst (λ n. (p : ℕ) → Outside (journal_pages n) p
-          → g.D.Disk.current c.load_old.new.disk p ≡ overlaid (g.D.Disk.current c.args.disk.now) p) keeps.blocks
-          (c.in_ok-kept.ensures.settled honest).same) done.1;
-    }) (on_ok_both _ _ c.rewrite.result (c.rewrite.ensures.done mid v keeps rests)
-    (c.rewrite.ensures.commit mid v keeps rests))
+          → g.D.Disk.current c.load_old.new.disk p ≡ overlaid (g.D.Disk.current c.args.disk.now) p) has_view.blocks
+          (c.in_ok-catalog.ensures.settled honest).same) done.1;
+    }) (on_ok_both _ _ c.rewrite.result (c.rewrite.ensures.done mid v has_view rests)
+    (c.rewrite.ensures.commit mid v has_view rests))
 
 pub returns-clause-not_a_spool : goal.returns-clause-not_a_spool
 returns-clause-not_a_spool g c honest is =
-    absurd (opened_is_spool (g.D.Disk.size c.args.disk.now) (g.D.Disk.current c.args.disk.now) c.in_ok-kept.kept
-    (c.in_ok-kept.ensures.valid honest) is)
+    absurd (opened_is_spool (g.D.Disk.size c.args.disk.now) (g.D.Disk.current c.args.disk.now) c.in_ok-catalog.catalog
+    (c.in_ok-catalog.ensures.valid honest) is)
 
 pub returns-clause-version : goal.returns-clause-version
 returns-clause-version g c honest is =
-    absurd (opened_is_known (g.D.Disk.size c.args.disk.now) (g.D.Disk.current c.args.disk.now) c.in_ok-kept.kept
-    (c.in_ok-kept.ensures.valid honest) is)
+    absurd (opened_is_known (g.D.Disk.size c.args.disk.now) (g.D.Disk.current c.args.disk.now) c.in_ok-catalog.catalog
+    (c.in_ok-catalog.ensures.valid honest) is)
 
 pub returns-clause-already_new : goal.returns-clause-already_new
 returns-clause-already_new g c honest is =
-    let opened = c.in_ok-kept.ensures.valid honest in
-    absurd (opened_is_old (g.D.Disk.size c.args.disk.now) (g.D.Disk.current c.args.disk.now) c.in_ok-kept.kept opened
-    (sym opened.keeps.0.version ∙ c.in_ok-kept.ensures.version) is)
+    let opened = c.in_ok-catalog.ensures.valid honest in
+    absurd (opened_is_old (g.D.Disk.size c.args.disk.now) (g.D.Disk.current c.args.disk.now) c.in_ok-catalog.catalog opened
+    (sym opened.has_view.0.version ∙ c.in_ok-catalog.ensures.version) is)
 
 pub returns-clause-damaged : goal.returns-clause-damaged
 returns-clause-damaged g c honest is =
-    absurd (opened_is_whole (g.D.Disk.size c.args.disk.now) (g.D.Disk.current c.args.disk.now) c.in_ok-kept.kept
-    (c.in_ok-kept.ensures.valid honest) is.0)
+    absurd (opened_is_whole (g.D.Disk.size c.args.disk.now) (g.D.Disk.current c.args.disk.now) c.in_ok-catalog.catalog
+    (c.in_ok-catalog.ensures.valid honest) is.0)
 
 pub returns-clause-stays : goal.returns-clause-stays
 returns-clause-stays g c honest v valid is room =
-    let keeps = (c.in_ok-kept.ensures.kept honest v valid is room).0 in
-    let rests = settled_rests v c.in_ok-kept.kept.layout keeps.blocks (c.in_ok-kept.ensures.settled honest) is in
+    let has_view = (c.in_ok-catalog.ensures.has honest v valid is room).0 in
+    let rests = settled_rests v c.in_ok-catalog.catalog.layout has_view.blocks (c.in_ok-catalog.ensures.settled honest) is in
     untouched_on (λ d. Rests v (g.D.Disk.current d) (g.D.Disk.unsynced d)) (Open (Stop DiskFault)) c.load_old.new.disk
     c.rewrite.new.disk c.rewrite.result rests c.rewrite.ensures.untouched
 
 pub returns-clause-lasts : goal.returns-clause-lasts
 returns-clause-lasts g c honest v valid is room =
-    let keeps = (c.in_ok-kept.ensures.kept honest v valid is room).0 in
-    let rests = settled_rests v c.in_ok-kept.kept.layout keeps.blocks (c.in_ok-kept.ensures.settled honest) is in
+    let has_view = (c.in_ok-catalog.ensures.has honest v valid is room).0 in
+    let rests = settled_rests v c.in_ok-catalog.catalog.layout has_view.blocks (c.in_ok-catalog.ensures.settled honest) is in
     lasts_on (lasts_more (c.load_old.ensures.lasts honest v valid is room)
     (λ image one. ⊎_elim (λ here. inl here)
     (λ reads. inr (inl (reads_shows image (g.D.Disk.current c.args.disk.now) v is reads))) one))
-    (lasts_more (c.rewrite.ensures.lasts (c.load_old.ensures.honest.0 honest) v keeps rests) (λ image one. inr one))
+    (lasts_more (c.rewrite.ensures.lasts (c.load_old.ensures.honest.0 honest) v has_view rests) (λ image one. inr one))
 
 pub returns-clause-crash : goal.returns-clause-crash
 returns-clause-crash g c n m is =
@@ -148,29 +148,29 @@ returns-clause-shows g c n m is fine =
     let valid = is.shows.shows.valid in
     let room = view_room g.D.Disk c.args.disk.now n m is in
     let mid = c.load_old.ensures.honest.0 is.honest in
-    let keeps = (c.in_ok-kept.ensures.kept is.honest v valid is.shows.is room).0 in
-    let settled = c.in_ok-kept.ensures.settled is.honest in
-    let rests = settled_rests v c.in_ok-kept.kept.layout keeps.blocks settled is.shows.is in
+    let has_view = (c.in_ok-catalog.ensures.has is.honest v valid is.shows.is room).0 in
+    let settled = c.in_ok-catalog.ensures.settled is.honest in
+    let rests = settled_rests v c.in_ok-catalog.catalog.layout has_view.blocks settled is.shows.is in
     let size : g.D.Disk.size c.rewrite.new.disk ≡ g.D.Disk.size c.args.disk.now =
     c.rewrite.ensures.size ∙ c.load_old.ensures.size in
     let wide = subst (λ (size : ℕ). PAGE * all_pages n ≤ size) (sym size) is.room in
     let was = g.D.Disk.current c.args.disk.now in
     let back = c.rewrite.new.disk in
     after_shows g.D.Disk back n m v c.rewrite.result is.shows.blocks (c.rewrite.ensures.honest.0 mid) wide fine
-    (c.rewrite.ensures.done mid v keeps rests)
+    (c.rewrite.ensures.done mid v has_view rests)
     (untouched_on (λ d. Rests v (g.D.Disk.current d) (g.D.Disk.unsynced d)) (Open (Stop DiskFault)) c.load_old.new.disk
     back c.rewrite.result rests c.rewrite.ensures.untouched)
     (λ image here. view_shows n m was image is.shows here)
     (λ image here. upgraded_view_shows n m was image is.shows here)
 
-pub returns-in_err-kept-clause-same : goal.returns-in_err-kept-clause-same
-returns-in_err-kept-clause-same g c honest none =
-    let same : (c.in_err-kept.field-0.0 ≡ Open (Stop DiskFault) → ⊥)
-    → Keeps (g.D.Disk.current c.args.disk.now) (g.D.Disk.current c.load_old.new.disk)
+pub returns-in_err-catalog-clause-same : goal.returns-in_err-catalog-clause-same
+returns-in_err-catalog-clause-same g c honest none =
+    let same : (c.in_err-catalog.field-0.0 ≡ Open (Stop DiskFault) → ⊥)
+    → Preserves (g.D.Disk.current c.args.disk.now) (g.D.Disk.current c.load_old.new.disk)
     (g.D.Disk.unsynced c.args.disk.now)
     (g.D.Disk.unsynced c.load_old.new.disk) =
-    λ fine. c.load_old.ensures.same honest none (other_err _ _ (Open (Stop DiskFault)) c.in_err-kept.was fine) in
-    if_err c.from_residual.result (λ e. e ≡ c.in_err-kept.field-0.0) _ c.from_residual.ensures.1
+    λ fine. c.load_old.ensures.same honest none (other_err _ _ (Open (Stop DiskFault)) c.in_err-catalog.was fine) in
+    if_err c.from_residual.result (λ e. e ≡ c.in_err-catalog.field-0.0) _ c.from_residual.ensures.1
     (λ e is fine. same (λ bad. fine (is ∙ bad)))
 
 pub returns-clause-unwritten : goal.returns-clause-unwritten
@@ -184,23 +184,23 @@ returns-clause-unwritten g c honest none =
 pub returns-clause-same : goal.returns-clause-same
 returns-clause-same g c honest none =
     untouched_on
-    (λ d. Keeps (g.D.Disk.current c.args.disk.now) (g.D.Disk.current d) (g.D.Disk.unsynced c.args.disk.now)
+    (λ d. Preserves (g.D.Disk.current c.args.disk.now) (g.D.Disk.current d) (g.D.Disk.unsynced c.args.disk.now)
     (g.D.Disk.unsynced d))
     (Open (Stop DiskFault)) c.load_old.new.disk c.rewrite.new.disk c.rewrite.result
-    (c.load_old.ensures.same honest none (ok_no_fault _ _ c.in_ok-kept.was)) c.rewrite.ensures.untouched
+    (c.load_old.ensures.same honest none (ok_no_fault _ _ c.in_ok-catalog.was)) c.rewrite.ensures.untouched
 
 -- On any disk.
 
-pub returns-in_err-kept-clause-given : goal.returns-in_err-kept-clause-given
-returns-in_err-kept-clause-given g c =
+pub returns-in_err-catalog-clause-given : goal.returns-in_err-catalog-clause-given
+returns-in_err-catalog-clause-given g c =
     let e = err_from_is_err_and c.from_residual.result c.from_residual.ensures.1 in record {
       opened = c.load_old.new.disk;
-      reads = rw (e.1, e.2) (by_after c.in_err-kept.ensures.given (grew_none refl) (λ before after is late. is));
+      reads = rw (e.1, e.2) (by_after c.in_err-catalog.ensures.given (grew_none refl) (λ before after is late. is));
     }
 
 pub returns-clause-given : goal.returns-clause-given
 returns-clause-given g c = record {
   opened = c.load_old.new.disk;
-  reads = by_after c.in_ok-kept.ensures.given (grew_none refl)
+  reads = by_after c.in_ok-catalog.ensures.given (grew_none refl)
       (λ before after is late. late_by _ before after c.rewrite.result c.rewrite.ensures.late is);
 }

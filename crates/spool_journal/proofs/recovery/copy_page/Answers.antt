@@ -3,26 +3,26 @@ use Rattle.spool_journal.specs.declared.TheConstants.{PAGE}
 use Rattle.spool_disk.proofs.Firm.{lasts_call, lasts_on}
 use Rattle.spool_disk.proofs.Gave.{grew_none, grew_one, grew_on}
 use Rattle.spool_journal.proofs.Gate.{placing_image}
-use Rattle.spool_journal.proofs.Recovers.{placing_keeps, page_read_at, placing_content}
+use Rattle.spool_journal.proofs.Recovers.{placing_preserves, page_read_at, placing_content}
 use Rattle.spool_journal.proofs.recovery.copy_page.Goals as goal
 
 pub returns-clause-placing : goal.returns-clause-placing
 returns-clause-placing g c honest j i opened placing lt e =
     c.place.ensures.placing (c.read.ensures.honest.0 honest) j i opened
-    (placing_keeps placing (c.read.ensures.keeps honest)) lt e
+    (placing_preserves placing (c.read.ensures.preserves honest)) lt e
 
 pub returns-clause-upto : goal.returns-clause-upto
 returns-clause-upto g c honest j i opened placing upto lt e from =
-    c.place.ensures.upto (c.read.ensures.honest.0 honest) i opened (λ p. (c.read.ensures.keeps honest).same p ∙ upto p)
+    c.place.ensures.upto (c.read.ensures.honest.0 honest) i opened (λ p. (c.read.ensures.preserves honest).same p ∙ upto p)
     e
     (λ x below. sym (page_read_at _ opened (PAGE * (3 + i)) _ _ _ (search rules) (ap (λ (n : ℕ). PAGE * n) from)
     (c.in_ok-read.ensures.bytes honest refl) x below (placing_content placing i x lt below)))
 
 pub returns-clause-lasts : goal.returns-clause-lasts
 returns-clause-lasts g c honest j i few opened placing lt e =
-    let kept = placing_keeps placing (c.read.ensures.keeps honest) in
-    lasts_on (lasts_call (c.read.ensures.time honest) (λ image is. placing_image few kept is))
-    (c.place.ensures.lasts (c.read.ensures.honest.0 honest) j i few opened kept lt e)
+    let unchanged = placing_preserves placing (c.read.ensures.preserves honest) in
+    lasts_on (lasts_call (c.read.ensures.time honest) (λ image is. placing_image few unchanged is))
+    (c.place.ensures.lasts (c.read.ensures.honest.0 honest) j i few opened unchanged lt e)
 
 pub returns-clause-reads : goal.returns-clause-reads
 returns-clause-reads g c = grew_on (grew_one c.in_ok-read.ensures.given) (grew_none c.place.ensures.reads)

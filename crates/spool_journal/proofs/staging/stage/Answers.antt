@@ -6,10 +6,10 @@ pub returns-clause-ready : goal.returns-clause-ready
 returns-clause-ready g c honest j fits inside ascends =
     let mid = c.stage_pages.ensures.honest.0 honest in
     ready_ok c.write_head.result (c.write_head.ensures.staging mid) (c.write_head.ensures.is_synced mid)
-    (c.write_head.ensures.head mid) (c.write_head.ensures.kept mid)
-    (λ staging is_synced head kept. ready _ _ c.requires.some c.requires.few fits inside ascends
+    (c.write_head.ensures.head mid) (c.write_head.ensures.unchanged mid)
+    (λ staging is_synced head unchanged. ready _ _ c.requires.some c.requires.few fits inside ascends
     (c.stage_pages.ensures.staging honest j fits) (c.in_ok-stage_pages.ensures.copied honest)
-    c.head_of-head.ensures.count c.head_of-head.ensures.numbers (staging j) head kept is_synced)
+    c.head_of-head.ensures.count c.head_of-head.ensures.numbers (staging j) head unchanged is_synced)
 
 pub returns-clause-lasts : goal.returns-clause-lasts
 returns-clause-lasts g c honest j fits idle =

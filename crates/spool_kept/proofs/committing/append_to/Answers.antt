@@ -5,7 +5,7 @@ use Rattle.spool_drafts.proofs.Effects.{only_then}
 use Rattle.spool_drafts.specs.Drafts.{list_of}
 use Rattle.spool_drafts.specs.Effect.{Effect, OnlyWrites}
 use Rattle.spool_journal.specs.Image.{journal_pages}
-use Rattle.spool_kept.specs.Committing.{OnlyRead}
+use Rattle.spool_kept.specs.Committing.{PreservesDisk}
 use Rattle.spool_disk.specs.declared.disk.Disk.{Ghosts}
 use Rattle.upload_rules.specs.Calls.{commit_refusal, dropped}
 use Rattle.upload_rules.specs.Store.{Store}
@@ -25,20 +25,20 @@ use Rattle.spool_disk.proofs.Firm.{lasts_more}
 pub returns-in-Err-clause-fits : goal.returns-in-Err-clause-fits
 returns-in-Err-clause-fits g c drafts number fit here =
     fits_given c.ended.ensures.same fit (put_on number c.ended.new.draft here c.ended.ensures.effect.grasp)
-    c.ended.ensures.reserved c.ended.ensures.placed _ c.give_back.new.blocks c.kept.view_is c.give_back.ensures
+    c.ended.ensures.reserved c.ended.ensures.placed _ c.give_back.new.blocks c.catalog.view_is c.give_back.ensures
 
 pub returns-in-Err-NoMemory-clause-fits : goal.returns-in-Err-NoMemory-clause-fits
 returns-in-Err-NoMemory-clause-fits g c drafts number fit here =
     let short = c.in-Err-NoMemory.is ∙ ap (λ (e : Stop). Err e) c.in-Err-NoMemory.field-0-is in
     fits_given c.ended.ensures.same fit (put_on number c.ended.new.draft here c.ended.ensures.effect.grasp)
     c.ended.ensures.reserved c.ended.ensures.placed _ c.give_back-in-Err-NoMemory.new.blocks
-    (c.kept-2.view_is ∙ (c.extend.ensures.unmade short).0) c.give_back-in-Err-NoMemory.ensures
+    (c.catalog-2.view_is ∙ (c.extend.ensures.unmade short).0) c.give_back-in-Err-NoMemory.ensures
 
 pub returns-in-Ok-extend-clause-fits : goal.returns-in-Ok-extend-clause-fits
 returns-in-Ok-extend-clause-fits g c drafts number fit here =
     let may = c.in-Ok.ensures.may in
     fits_handed c.ended.ensures.same fit (put_on number c.ended.new.draft here c.ended.ensures.effect.grasp)
-    c.ended.ensures.reserved c.ended.ensures.placed c.extend.new.kept c.in-Ok.end.0 may.used c.list.result.now
+    c.ended.ensures.reserved c.ended.ensures.placed c.extend.new.catalog c.in-Ok.end.0 may.used c.list.result.now
     c.list.ensures.blocks may.there (c.in-Ok.ensures.more may.used may.there)
     (c.in-Ok-extend.ensures.blocks (λ e. cc)) (c.in-Ok-extend.ensures.longer (λ e. cc) may.used may.there)
 
@@ -48,7 +48,7 @@ returns-in-Err-DiskFault-clause-fits g c drafts number fit here =
     let fault : c.extend.result ≡ Err Stop.DiskFault = c.in-Err-DiskFault.is
     ∙ ap (λ (e : Stop). Err e) c.in-Err-DiskFault.field-0-is in
     fits_handed c.ended.ensures.same fit (put_on number c.ended.new.draft here c.ended.ensures.effect.grasp)
-    c.ended.ensures.reserved c.ended.ensures.placed c.extend.new.kept c.in-Ok.end.0 may.used c.list.result.now
+    c.ended.ensures.reserved c.ended.ensures.placed c.extend.new.catalog c.in-Ok.end.0 may.used c.list.result.now
     c.list.ensures.blocks may.there (c.in-Ok.ensures.more may.used may.there)
     (c.extend.ensures.blocks (λ e. cc)) (c.extend.ensures.longer (λ e. cc) may.used may.there)
 
@@ -130,8 +130,8 @@ pub returns-in-Err-clause-answer : goal.returns-in-Err-clause-answer
 returns-in-Err-clause-answer g c sure drafts number w p is =
     spent.also_refused (commit_refusal w number p) c.in-Err.error _ _ _ _
     (c.in-Err.ensures.answer sure drafts number w p is)
-    (spent.stands_dropped c.ended.ensures.same c.ended.new.draft is c.ended.ensures.effect c.ended.ensures.reserved
-    c.ended.ensures.placed c.kept.view_is c.give_back.ensures (c.ended.ensures.stored sure drafts number w p is))
+    (spent.represents_dropped c.ended.ensures.same c.ended.new.draft is c.ended.ensures.effect c.ended.ensures.reserved
+    c.ended.ensures.placed c.catalog.view_is c.give_back.ensures (c.ended.ensures.stored sure drafts number w p is))
 
 pub returns-in-Err-NoMemory-clause-answer : goal.returns-in-Err-NoMemory-clause-answer
 returns-in-Err-NoMemory-clause-answer g c sure drafts number w p is =
@@ -139,8 +139,8 @@ returns-in-Err-NoMemory-clause-answer g c sure drafts number w p is =
     ∙ ap (λ (e : Stop). Err e) c.in-Err-NoMemory.field-0-is) in (
       late w number p is.allowed,
       spent.on_disk g.D.Disk c.ended.new.disk c.extend.new.disk _ (set drafts number None) (dropped w number) unmade.1
-          (spent.stands_dropped c.ended.ensures.same c.ended.new.draft is c.ended.ensures.effect
-          c.ended.ensures.reserved c.ended.ensures.placed (c.kept-2.view_is ∙ unmade.0)
+          (spent.represents_dropped c.ended.ensures.same c.ended.new.draft is c.ended.ensures.effect
+          c.ended.ensures.reserved c.ended.ensures.placed (c.catalog-2.view_is ∙ unmade.0)
           c.give_back-in-Err-NoMemory.ensures (c.ended.ensures.stored sure drafts number w p is)),
     )
 
@@ -155,8 +155,8 @@ returns-in-Ok-extend-clause-answer g c sure drafts number w p is =
     let only = subst (λ (n : ℕ). g.D.Disk.honest c.ended.new.disk → OnlyWrites g.D.Disk (journal_pages n)
     (list_of c.ended.new.draft) c.ended.new.disk wrote.mid)
     (ap (λ (h : Holding). h.layout) c.ended.ensures.same.same) wrote.only in
-    let effect' : Effect g.D.Disk (journal_pages c.args.kept.now.layout) (list_of c.args.draft)
-    (list_of c.ended.new.draft) c.args.disk.now wrote.mid c.args.kept.now.blocks c.ended.new.kept.blocks =
+    let effect' : Effect g.D.Disk (journal_pages c.args.catalog.now.layout) (list_of c.args.draft)
+    (list_of c.ended.new.draft) c.args.disk.now wrote.mid c.args.catalog.now.blocks c.ended.new.catalog.blocks =
     record {
       own = effect.own;
       grasp = effect.grasp;
@@ -167,7 +167,7 @@ returns-in-Ok-extend-clause-answer g c sure drafts number w p is =
       answer.0,
       (
         answer.1.0,
-        spent.stands_committed c.ended.ensures.same c.ended.new.draft is effect' c.ended.ensures.reserved
+        spent.represents_committed c.ended.ensures.same c.ended.new.draft is effect' c.ended.ensures.reserved
             c.ended.ensures.placed wrote.append longer hands wrote.texts
             (c.in-Ok-extend.ensures.answer sure w.store p.number p.declare p.body pending),
       ),
@@ -185,4 +185,4 @@ pub returns-in-Err-NoMemory-clause-unwritten : goal.returns-in-Err-NoMemory-clau
 returns-in-Err-NoMemory-clause-unwritten g c honest short =
     let unmade = c.extend.ensures.unmade (c.in-Err-NoMemory.is
     ∙ ap (λ (e : Stop). Err e) c.in-Err-NoMemory.field-0-is) in
-    subst (OnlyRead g.D.Disk c.args.disk.now) (sym unmade.1) (c.ended.ensures.only honest)
+    subst (PreservesDisk g.D.Disk c.args.disk.now) (sym unmade.1) (c.ended.ensures.only honest)

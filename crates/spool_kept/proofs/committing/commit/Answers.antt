@@ -22,8 +22,8 @@ append_to-requires-clause-placed g c = c.requires.fits.blocks.placed c.args.numb
 
 pub append_to-requires-clause-after : goal.append_to-requires-clause-after
 append_to-requires-clause-after g c =
-    after_slot c.args.kept.now.slots c.in-Some.draft c.in-Ok.found.slot c.in-Ok.ensures.same
-    (head.found_open c.args.kept.now.slots c.in-Some.draft c.in-Ok.found c.in-Ok.ensures c.if-not-found.true)
+    after_slot c.args.catalog.now.slots c.in-Some.draft c.in-Ok.found.slot c.in-Ok.ensures.same
+    (head.found_open c.args.catalog.now.slots c.in-Some.draft c.in-Ok.found c.in-Ok.ensures c.if-not-found.true)
     (c.requires.fits.uploads c.args.number c.in-Some.draft (sym c.in-Some.ensures.taken))
 
 -- EXACTLY SO REFUSED
@@ -77,17 +77,17 @@ returns-then-not-found-clause-offset g c o here = (head.done_for c.in-Some.ensur
 -- WITHOUT A CALL OF THE DISK
 
 pub returns-in-Err-clause-fits : goal.returns-in-Err-clause-fits
-returns-in-Err-clause-fits g c = fits_out c.args.number c.kept.view_is c.in-Some.ensures.taken c.taken.ensures.after
+returns-in-Err-clause-fits g c = fits_out c.args.number c.catalog.view_is c.in-Some.ensures.taken c.taken.ensures.after
     c.give_back.ensures c.requires.fits
 
 pub returns-clause-fits : goal.returns-clause-fits
-returns-clause-fits g c = fits_out c.args.number c.kept.view_is c.in-Some.ensures.taken c.taken.ensures.after
+returns-clause-fits g c = fits_out c.args.number c.catalog.view_is c.in-Some.ensures.taken c.taken.ensures.after
     c.give_back-2.ensures c.requires.fits
 
 pub returns-in-Err-clause-answer : goal.returns-in-Err-clause-answer
 returns-in-Err-clause-answer g c sure w p s there = (
   head.head_refused (head.opened c.args.number s there c.in-Some.ensures.taken) c.in-Err.refusal c.in-Err.ensures,
-  dropped_out c.args.number c.kept.view_is c.in-Some.ensures.taken c.taken.ensures.after c.give_back.ensures s,
+  dropped_out c.args.number c.catalog.view_is c.in-Some.ensures.taken c.taken.ensures.after c.give_back.ensures s,
 )
 
 pub returns-clause-answer : goal.returns-clause-answer
@@ -97,7 +97,7 @@ returns-clause-answer g c sure w p s there =
       head.left_allowed k c.in-Ok.ensures stays,
       (
         head.left_reached k c.in-Ok.ensures stays c.offset-offset.result c.offset-offset.ensures,
-        head.idle_stands k c.in-Ok.ensures stays c.if-found.false _ _ (dropped_out c.args.number c.kept.view_is
+        head.idle_represents k c.in-Ok.ensures stays c.if-found.false _ _ (dropped_out c.args.number c.catalog.view_is
             c.in-Some.ensures.taken c.taken.ensures.after c.give_back-2.ensures s),
       ),
     )
@@ -106,7 +106,7 @@ returns-clause-answer g c sure w p s there =
 
 pub returns-then-found-clause-fits : goal.returns-then-found-clause-fits
 returns-then-found-clause-fits g c = c.set_length.ensures.fits c.taken.new.drafts.items
-    (fits_out c.args.number c.kept.view_is c.in-Some.ensures.taken c.taken.ensures.after c.give_back-2.ensures
+    (fits_out c.args.number c.catalog.view_is c.in-Some.ensures.taken c.taken.ensures.after c.give_back-2.ensures
     c.requires.fits)
 
 pub returns-then-found-clause-answer : goal.returns-then-found-clause-answer
@@ -115,15 +115,15 @@ returns-then-found-clause-answer g c sure w p s there =
     let finds = c.in-Ok.ensures in
     let stays = c.if-not-found.false in
     let new = c.if-found.true in
-    let left = dropped_out c.args.number c.kept.view_is c.in-Some.ensures.taken c.taken.ensures.after
+    let left = dropped_out c.args.number c.catalog.view_is c.in-Some.ensures.taken c.taken.ensures.after
     c.give_back-2.ensures s in
-    let used = rw (← c.kept.view_is) at (head.used_is k finds stays new) in
-    let is_there = ap (λ (h : Holding). get_or h.slots c.in-Ok.found.slot None) c.kept.view_is ∙ finds.same.there in (
+    let used = rw (← c.catalog.view_is) at (head.used_is k finds stays new) in
+    let is_there = ap (λ (h : Holding). get_or h.slots c.in-Ok.found.slot None) c.catalog.view_is ∙ finds.same.there in (
       head.left_allowed k finds stays,
       (
         c.in_ok-set_length.ensures.count finds.same.used is_there
             ∙ head.left_reached k finds stays finds.same.used.accepted finds.same.count,
-        rw (← (head.length_stands k finds stays new)) at (c.in_ok-set_length.ensures.answer sure
+        rw (← (head.length_represents k finds stays new)) at (c.in_ok-set_length.ensures.answer sure
             c.taken.new.drafts.items (dropped w c.args.number) p.number left used
             (head.length_small k finds stays new)),
       ),
@@ -135,25 +135,25 @@ returns-then-found-clause-crash g c w p s there =
     let finds = c.in-Ok.ensures in
     let stays = c.if-not-found.false in
     let new = c.if-found.true in
-    let left = dropped_out c.args.number c.kept.view_is c.in-Some.ensures.taken c.taken.ensures.after
+    let left = dropped_out c.args.number c.catalog.view_is c.in-Some.ensures.taken c.taken.ensures.after
     c.give_back-2.ensures s in
-    let used = rw (← c.kept.view_is) at (head.used_is k finds stays new) in
+    let used = rw (← c.catalog.view_is) at (head.used_is k finds stays new) in
     let outcome = spent.outcome_is w c.args.number p (head.left_allowed k finds stays)
     (patched_store w.store p.number c.in-Ok.found.declared []) (head.store_is k finds stays new) in
-    rw (ap (λ (h : Holding). h.layout) c.kept.view_is) at (rw (← outcome) at
+    rw (ap (λ (h : Holding). h.layout) c.catalog.view_is) at (rw (← outcome) at
     (c.set_length.ensures.crash w.store p.number left.stored used (head.length_small k finds stays new)))
 
 -- THE DISK OR THE MEMORY STOPS THAT
 
 pub returns-in_err-set_length-clause-fits : goal.returns-in_err-set_length-clause-fits
 returns-in_err-set_length-clause-fits g c = c.set_length.ensures.fits c.taken.new.drafts.items
-    (fits_out c.args.number c.kept.view_is c.in-Some.ensures.taken c.taken.ensures.after c.give_back-2.ensures
+    (fits_out c.args.number c.catalog.view_is c.in-Some.ensures.taken c.taken.ensures.after c.give_back-2.ensures
     c.requires.fits)
 
 pub returns-in_err-set_length-clause-answer : goal.returns-in_err-set_length-clause-answer
 returns-in_err-set_length-clause-answer g c sure w p s there =
     let k = head.opened c.args.number s there c.in-Some.ensures.taken in
-    let left = dropped_out c.args.number c.kept.view_is c.in-Some.ensures.taken c.taken.ensures.after
+    let left = dropped_out c.args.number c.catalog.view_is c.in-Some.ensures.taken c.taken.ensures.after
     c.give_back-2.ensures s in
     let err = err_from_is_err_and c.from_residual.result c.from_residual.ensures.1 in
     rw (err.1, err.2) (spent.stopped (commit_refusal w c.args.number p) c.in_err-set_length.field-0.0 _ _
@@ -167,19 +167,19 @@ returns-in_err-set_length-clause-crash g c w p s there =
     let finds = c.in-Ok.ensures in
     let stays = c.if-not-found.false in
     let new = c.if-found.true in
-    let left = dropped_out c.args.number c.kept.view_is c.in-Some.ensures.taken c.taken.ensures.after
+    let left = dropped_out c.args.number c.catalog.view_is c.in-Some.ensures.taken c.taken.ensures.after
     c.give_back-2.ensures s in
-    let used = rw (← c.kept.view_is) at (head.used_is k finds stays new) in
+    let used = rw (← c.catalog.view_is) at (head.used_is k finds stays new) in
     let outcome = spent.outcome_is w c.args.number p (head.left_allowed k finds stays)
     (patched_store w.store p.number c.in-Ok.found.declared []) (head.store_is k finds stays new) in
-    rw (ap (λ (h : Holding). h.layout) c.kept.view_is) at (rw (← outcome) at
+    rw (ap (λ (h : Holding). h.layout) c.catalog.view_is) at (rw (← outcome) at
     (c.set_length.ensures.crash w.store p.number left.stored used (head.length_small k finds stays new)))
 
 -- AFTER THE UPLOAD'S TEXT
 
 is_commit : (g : Over) (c : After-append_to g) {sure : Bool} (w : World) (p : Patch)
-    → StandsFor sure g.D.Disk c.args.disk.now c.args.kept.now c.args.drafts.now.items w
-    → find c.args.number w.patches ≡ Some p → IsCommit sure g.D.Disk c.args.disk.now c.args.kept.now
+    → StandsFor sure g.D.Disk c.args.disk.now c.args.catalog.now c.args.drafts.now.items w
+    → find c.args.number w.patches ≡ Some p → IsCommit sure g.D.Disk c.args.disk.now c.args.catalog.now
     c.args.drafts.now.items c.args.number c.in-Some.draft w p
 is_commit g c w p s there =
     head.commits (head.opened c.args.number s there c.in-Some.ensures.taken) c.in-Ok.ensures

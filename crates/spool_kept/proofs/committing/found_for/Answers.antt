@@ -10,7 +10,7 @@ returns-in_default c slot used = c.in_default.ensures.used slot (rw (← c.numbe
 
 -- the slot's record, as it was read
 abbrev there : {o : Option SlotRecord} {q r : SlotRecord} → Some q ≡ o → r ≡ q → o ≡ Some r
-there here said = sym here ∙ ap (λ (r : SlotRecord). Some r) (sym said)
+there here slot_record = sym here ∙ ap (λ (r : SlotRecord). Some r) (sym slot_record)
 
 pub returns-then-accepted-offset : goal.returns-then-accepted-offset
 returns-then-accepted-offset c = record {
@@ -19,7 +19,7 @@ returns-then-accepted-offset c = record {
   none = λ s has.
       let number = has.number ∙ sym c.number.ensures in
       let at = c.in-Some.ensures.only s (record { used = has.used; there = has.there; is = number }) in
-      c.if-accepted-offset.true (lemmas.has_count has at (there c.in-Some-in_slot.ensures.kept c.record.ensures.said)
+      c.if-accepted-offset.true (lemmas.has_count has at (there c.in-Some-in_slot.ensures.slot c.record.ensures.slot_record)
       ∙ sym c.offset.ensures);
 }
 
@@ -29,13 +29,13 @@ returns-in_err-declared c =
     let is : c.from_residual.result ≡ Err c.in_err-declared.field-0.0 =
     err.1 ∙ ap (λ (e : UploadRefusal). Err e) err.2 in
     rw is (lemmas.refused c.args.draft.now c.record.result.now
-    (there c.in-Some-in_slot.ensures.kept c.record.ensures.said) (rw c.number.ensures at c.in-Some.ensures.used)
+    (there c.in-Some-in_slot.ensures.slot c.record.ensures.slot_record) (rw c.number.ensures at c.in-Some.ensures.used)
     (c.if-accepted-offset.false ∙ c.offset.ensures) c.declare-declare.ensures c.came-came.ensures
     c.in_err-declared.field-0.0 c.in_err-declared.ensures)
 
 pub returns : goal.returns
 returns c =
-    lemmas.found c.args.draft.now c.record.result.now (there c.in-Some-in_slot.ensures.kept c.record.ensures.said)
+    lemmas.found c.args.draft.now c.record.result.now (there c.in-Some-in_slot.ensures.slot c.record.ensures.slot_record)
     (rw c.number.ensures at c.in-Some.ensures.used) (c.if-accepted-offset.false ∙ c.offset.ensures)
     c.declare-declare.ensures c.came-came.ensures c.in_ok-declared.ensures.0 c.in_ok-declared.ensures.1
     c.in_ok-declared.ensures.2 (search rules) c.record.ensures.unpacked c.is_new-declares.ensures c.stays.result

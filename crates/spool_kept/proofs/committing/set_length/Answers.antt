@@ -5,8 +5,8 @@ use Rattle.spool_drafts.specs.declared.draft.SpoolDraft.{SpoolDraft}
 use Rattle.spool_kept.specs.Committing.{MayDeclare}
 use Rattle.spool_kept.specs.Drafting.{DraftsFit}
 use Rattle.spool_catalog.specs.Holding.{Holding}
-use Rattle.spool_catalog.specs.Records.{said_of}
-use Rattle.spool_kept.proofs.commits.CommitSpent.{stands_declared}
+use Rattle.spool_catalog.specs.Records.{slot_record_of}
+use Rattle.spool_kept.proofs.commits.CommitSpent.{represents_declared}
 use Rattle.spool_kept.proofs.commits.Declared as declared
 use Rattle.spool_kept.proofs.drafts.OfUploads.{fits_declared}
 use Rattle.spool_kept.proofs.committing.set_length.Given.{Over}
@@ -14,20 +14,20 @@ use Rattle.spool_kept.proofs.committing.set_length.Goals as goal
 use Rattle.spool_kept.proofs.committing.set_length.Goals.{After-extend}
 
 -- the slot's record, as it was read
-abbrev may_of : (g : Over) (c : After-extend g) → MayDeclare c.args.kept.now.slots c.args.slot c.args.declared
+abbrev may_of : (g : Over) (c : After-extend g) → MayDeclare c.args.catalog.now.slots c.args.slot c.args.declared
 may_of g c =
     let used : c.unwrap.result.now ≡ c.requires.may.used = search rules in
-    declared.may_as (said_of c.record-used.result.now) c.requires.may (c.record-used.ensures.said ∙ used)
+    declared.may_as (slot_record_of c.record-used.result.now) c.requires.may (c.record-used.ensures.slot_record ∙ used)
 
 fit : (g : Over) (c : After-extend g) → (c.extend.result ≡ Err NoMemory → ⊥) → (drafts : List (Option SpoolDraft))
-    → DraftsFit c.args.kept.now drafts → DraftsFit c.extend.new.kept drafts
+    → DraftsFit c.args.catalog.now drafts → DraftsFit c.extend.new.catalog drafts
 fit g c made drafts before =
     let m = may_of g c in
-    fits_declared c.args.kept.now c.extend.new.kept drafts (declared.named m.used c.args.slot c.args.declared) m.used
+    fits_declared c.args.catalog.now c.extend.new.catalog drafts (declared.named m.used c.args.slot c.args.declared) m.used
     m.there (declared.only_declares m) (c.extend.ensures.longer made m.used m.there) before
 
 fit_stopped : (g : Over) (c : After-extend g) (stop : Stop) → c.extend.result ≡ Err stop
-    → (drafts : List (Option SpoolDraft)) → DraftsFit c.args.kept.now drafts → DraftsFit c.extend.new.kept drafts
+    → (drafts : List (Option SpoolDraft)) → DraftsFit c.args.catalog.now drafts → DraftsFit c.extend.new.catalog drafts
 fit_stopped g c NoMemory is drafts =
     subst (λ (h : Holding). DraftsFit h drafts) (sym (c.extend.ensures.unmade is).0)
 fit_stopped g c DiskFault is drafts = fit g c (λ e. cc) drafts
@@ -52,11 +52,11 @@ returns-in_err-extend-clause-crash g c m n stored used small =
     (declared.pending stored (may_of g (goal.at.returns-in_err-extend-clause-crash g c).After-extend) used small)
 
 pub returns-clause-answer : goal.returns-clause-answer
-returns-clause-answer g c sure drafts w n stands used small =
+returns-clause-answer g c sure drafts w n represents used small =
     let k = may_of g (goal.at.returns-clause-answer g c).After-extend in
-    let pending = declared.pending stands.stored k used small in
+    let pending = declared.pending represents.stored k used small in
     let wrote = c.in_ok-extend.ensures.written sure w.store n c.args.declared [] pending in
-    stands_declared stands k.there wrote.append
-    (declared.unknown_of stands.stored k used small wrote.append.upload wrote.append.there)
-    (c.in_ok-extend.ensures.longer (λ e. cc) k.used k.there) (λ known. wrote.only (stands.stored.honest known))
+    represents_declared represents k.there wrote.append
+    (declared.unknown_of represents.stored k used small wrote.append.upload wrote.append.there)
+    (c.in_ok-extend.ensures.longer (λ e. cc) k.used k.there) (λ known. wrote.only (represents.stored.honest known))
     wrote.texts (c.in_ok-extend.ensures.answer sure w.store n c.args.declared [] pending)

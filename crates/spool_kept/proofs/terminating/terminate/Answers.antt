@@ -10,8 +10,8 @@ use Rattle.spool_kept.specs.Drafting.{DraftsFit, StandsFor}
 use Rattle.spool_catalog.specs.Holding.{Holding, FitsTogether, IsUsedBy}
 use Rattle.spool_kept.specs.Stored.{ShowsEither}
 use Rattle.spool_catalog.specs.TakenOut.{IsTakenOut}
-use Rattle.spool_kept.proofs.drafts.Forgotten.{fits_after, stands_forgotten}
-use Rattle.spool_kept.proofs.drafts.OfDeleted.{stands_after}
+use Rattle.spool_kept.proofs.drafts.Forgotten.{fits_after, represents_forgotten}
+use Rattle.spool_kept.proofs.drafts.OfDeleted.{represents_after}
 use Rattle.spool_kept.proofs.slots.Terminated.{allowed, crash_after, refused, stored_after}
 use Rattle.spool_kept.proofs.terminating.terminate.Goals as goal
 use Rattle.spool_kept.proofs.terminating.terminate.Goals.{After-change, After-forget_tails, After-take_out, In-Some}
@@ -26,28 +26,28 @@ pub returns-in_default-clause-forgets : goal.returns-in_default-clause-forgets
 returns-in_default-clause-forgets g c _ slot used = absurd (c.in_default.ensures.used slot used)
 
 pub returns-in_default-clause-answer : goal.returns-in_default-clause-answer
-returns-in_default-clause-answer g c sure w stands =
-    (refused c.args.number stands.stored c.in_default.ensures.used, stands)
+returns-in_default-clause-answer g c sure w represents =
+    (refused c.args.number represents.stored c.in_default.ensures.used, represents)
 
 -- A SLOT HAS IT, SO THE RULES ALLOW IT
 
-may : (g : Over) (c : In-Some g) {sure : Bool} (w : World) → StandsFor sure g.D.Disk c.args.disk.now c.args.kept.now
+may : (g : Over) (c : In-Some g) {sure : Bool} (w : World) → StandsFor sure g.D.Disk c.args.disk.now c.args.catalog.now
     c.args.drafts.now.items w → terminate_refusal w c.args.number ≡ None
-may g c w stands = allowed c.args.number stands.stored c.in-Some.ensures.used
+may g c w represents = allowed c.args.number represents.stored c.in-Some.ensures.used
 
 pub returns-in_default-pages_without-clause-answer : goal.returns-in_default-pages_without-clause-answer
-returns-in_default-pages_without-clause-answer g c sure w stands =
-    let allowed = may g (goal.at.returns-in_default-pages_without-clause-answer g c).In-Some w stands in
-    (subst IsLate (sym allowed) tt, stands)
+returns-in_default-pages_without-clause-answer g c sure w represents =
+    let allowed = may g (goal.at.returns-in_default-pages_without-clause-answer g c).In-Some w represents in
+    (subst IsLate (sym allowed) tt, represents)
 
 pub returns-clause-answer : goal.returns-clause-answer
-returns-clause-answer g c sure w stands =
-    subst IsLate (sym (may g (goal.at.returns-clause-answer g c).In-Some w stands)) tt
+returns-clause-answer g c sure w represents =
+    subst IsLate (sym (may g (goal.at.returns-clause-answer g c).In-Some w represents)) tt
 
 -- WHAT IS KEPT OF IT, AND THE DRAFTS
 
-out_of : (g : Over) (c : After-take_out g) (slot : ℕ) → IsUsedBy c.args.kept.now.slots slot c.args.number
-    → IsTakenOut c.args.kept.now slot c.take_out.new.self
+out_of : (g : Over) (c : After-take_out g) (slot : ℕ) → IsUsedBy c.args.catalog.now.slots slot c.args.number
+    → IsTakenOut c.args.catalog.now slot c.take_out.new.self
 out_of g c slot used = rw (← (c.in-Some.ensures.only slot used)) at c.take_out.ensures
 
 pub returns-in-Ok-change-clause-taken_out : goal.returns-in-Ok-change-clause-taken_out
@@ -70,15 +70,15 @@ returns-clause-fits g c = fit g (goal.at.returns-clause-fits g c).After-forget_t
 
 -- A CRASH
 
-crash : (g : Over) (c : After-change g) (w : World) → StandsFor true g.D.Disk c.args.disk.now c.args.kept.now
+crash : (g : Over) (c : After-change g) (w : World) → StandsFor true g.D.Disk c.args.disk.now c.args.catalog.now
     c.args.drafts.now.items w → Lasts g.D.Disk c.args.disk.now c.change.new.disk
-    (ShowsEither c.args.kept.now.layout w.store (terminate_outcome w c.args.number))
-crash g c w stands =
-    let layout = ap (λ (k : Holding). k.layout) (sym c.kept.view_is) in
-    let rows = ap (λ (k : Holding). k.blocks.rows) (sym c.kept.view_is) ∙ sym c.rows.ensures.same in
-    crash_after c.args.number stands.stored c.in-Some.ensures.used c.take_out.ensures c.in-Ok.ensures.changes
+    (ShowsEither c.args.catalog.now.layout w.store (terminate_outcome w c.args.number))
+crash g c w represents =
+    let layout = ap (λ (k : Holding). k.layout) (sym c.catalog.view_is) in
+    let rows = ap (λ (k : Holding). k.blocks.rows) (sym c.catalog.view_is) ∙ sym c.rows.ensures.same in
+    crash_after c.args.number represents.stored c.in-Some.ensures.used c.take_out.ensures c.in-Ok.ensures.changes
     (λ v v' blocks but same. c.fill_rows.ensures.changes v v' (blocks ∙ layout) but (same ∙ rows))
-    refl (λ v v' blocks. c.change.ensures.lasts (stands.stored.honest refl) v v' (blocks ∙ layout))
+    refl (λ v v' blocks. c.change.ensures.lasts (represents.stored.honest refl) v v' (blocks ∙ layout))
 
 pub returns-in-Ok-change-clause-crash : goal.returns-in-Ok-change-clause-crash
 returns-in-Ok-change-clause-crash g c = crash g (goal.at.returns-in-Ok-change-clause-crash g c).After-change
@@ -89,23 +89,23 @@ returns-clause-crash g c = crash g (goal.at.returns-clause-crash g c).After-chan
 -- DONE
 
 pub returns-in-Ok-change-clause-answer : goal.returns-in-Ok-change-clause-answer
-returns-in-Ok-change-clause-answer g c sure w stands =
-    let h = c.args.kept.now in
+returns-in-Ok-change-clause-answer g c sure w represents =
+    let h = c.args.catalog.now in
     let out = c.take_out.ensures in
-    let stored = stands.stored in
+    let stored = represents.stored in
     let d = c.args.disk.now in
     let d' = c.change.new.disk in
-    let layout = ap (λ (k : Holding). k.layout) (sym c.kept.view_is) in
-    let same : c.kept.inside.layout ≡ h.layout = sym layout ∙ out.layout in
-    let rows = ap (λ (k : Holding). k.blocks.rows) (sym c.kept.view_is) ∙ sym c.rows.ensures.same in
+    let layout = ap (λ (k : Holding). k.layout) (sym c.catalog.view_is) in
+    let same : c.catalog.inside.layout ≡ h.layout = sym layout ∙ out.layout in
+    let rows = ap (λ (k : Holding). k.blocks.rows) (sym c.catalog.view_is) ∙ sym c.rows.ensures.same in
     let now = stored_after c.args.number stored c.in-Some.ensures.used out c.in-Ok.ensures.changes
     (λ v v' blocks but same. c.fill_rows.ensures.changes v v' (blocks ∙ layout) but (same ∙ rows))
-    (subst FitsTogether c.kept.view_is c.kept.invariant) c.in-Ok-change.ensures.honest.0
+    (subst FitsTogether c.catalog.view_is c.catalog.invariant) c.in-Ok-change.ensures.honest.0
     (λ known v v' blocks. c.in-Ok-change.ensures.done (stored.honest known) v v' (blocks ∙ layout)) in
     let texts : sure ≡ true → (p : ℕ) → PAGE * text_page h.layout ≤ p → g.D.Disk.current d' p ≡ g.D.Disk.current d p =
     λ known. rw same at (c.in-Ok-change.ensures.texts (stored.honest known) stored.view
-    (sym stored.keeps.blocks ∙ sym same) (stored.rests known)) in (
-      may g (goal.at.returns-in-Ok-change-clause-answer g c).In-Some w stands,
-      stands_forgotten c.args.number c.args.drafts.now.items c.forget_tails.new.drafts.items c.forget_tails.ensures
-          (none_in_others c.args.number w.store.uploads) (stands_after c.in-Some.ensures.used out stands now texts),
+    (sym stored.has_view.blocks ∙ sym same) (stored.rests known)) in (
+      may g (goal.at.returns-in-Ok-change-clause-answer g c).In-Some w represents,
+      represents_forgotten c.args.number c.args.drafts.now.items c.forget_tails.new.drafts.items c.forget_tails.ensures
+          (none_in_others c.args.number w.store.uploads) (represents_after c.in-Some.ensures.used out represents now texts),
     )

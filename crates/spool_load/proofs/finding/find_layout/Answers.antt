@@ -14,30 +14,30 @@ none_from None never = refl
 none_from (Some x) never = absurd (never x refl)
 
 pub returns-then-len-lt12-clause-found : goal.returns-then-len-lt12-clause-found
-returns-then-len-lt12-clause-found g c bytes gave blocks says =
-    omega (arith, some_pages blocks, c.len.ensures, c.if-len-lt12.true, says.room)
+returns-then-len-lt12-clause-found g c bytes gave blocks encodes =
+    omega (arith, some_pages blocks, c.len.ensures, c.if-len-lt12.true, encodes.room)
 
 pub returns-in_default-clause-found : goal.returns-in_default-clause-found
-returns-in_default-clause-found g c bytes gave blocks says =
+returns-in_default-clause-found g c bytes gave blocks encodes =
     c.in_default.not-Some blocks
-    (c.blocks_said.ensures.said blocks (omega (arith, says.most))
-    (λ i lt. c.in_ok-prefix.ensures.bytes bytes gave i lt ∙ says.prefix i lt))
+    (c.blocks_encoded.ensures.encoded blocks (omega (arith, encodes.most))
+    (λ i lt. c.in_ok-prefix.ensures.bytes bytes gave i lt ∙ encodes.prefix i lt))
 
 pub returns-in_default-of-clause-found : goal.returns-in_default-of-clause-found
-returns-in_default-of-clause-found g c bytes gave blocks says =
+returns-in_default-of-clause-found g c bytes gave blocks encodes =
     let e : c.in-Some.blocks ≡ blocks =
-    same_Some _ _ (c.in-Some.ensures.said blocks (omega (arith, says.most))
-    (λ i lt. c.in_ok-prefix.ensures.bytes bytes gave i lt ∙ says.prefix i lt)) in
-    ⊎_elim (λ below. omega (arith, below, e, says.least)) (λ above. omega (arith, above, e, says.most))
+    same_Some _ _ (c.in-Some.ensures.encoded blocks (omega (arith, encodes.most))
+    (λ i lt. c.in_ok-prefix.ensures.bytes bytes gave i lt ∙ encodes.prefix i lt)) in
+    ⊎_elim (λ below. omega (arith, below, e, encodes.least)) (λ above. omega (arith, above, e, encodes.most))
     (c.of.ensures.none.0 (none_from c.of.result c.in_default-of.not-Some))
 
 pub returns-then-len-pages-clause-found : goal.returns-then-len-pages-clause-found
-returns-then-len-pages-clause-found g c bytes gave blocks says =
+returns-then-len-pages-clause-found g c bytes gave blocks encodes =
     let e : c.in-Some.blocks ≡ blocks =
-    same_Some _ _ (c.in-Some.ensures.said blocks (omega (arith, says.most))
-    (λ i lt. c.in_ok-prefix.ensures.bytes bytes gave i lt ∙ says.prefix i lt)) in
+    same_Some _ _ (c.in-Some.ensures.encoded blocks (omega (arith, encodes.most))
+    (λ i lt. c.in_ok-prefix.ensures.bytes bytes gave i lt ∙ encodes.prefix i lt)) in
     let pages : all_pages c.in-Some-of.layout ≡ all_pages blocks = ap all_pages (c.in-Some-of.ensures.some ∙ e) in
-    omega (arith, pages, says.room, c.len-2.ensures, c.pages.ensures, c.if-len-pages.true, c.read_prefix.ensures.size)
+    omega (arith, pages, encodes.room, c.len-2.ensures, c.pages.ensures, c.if-len-pages.true, c.read_prefix.ensures.size)
 
 some_not_none : {A : Type 0} (o : Option A) (x : A) → o ≡ Some x → IsNone o → ⊥
 some_not_none o x is none = cc

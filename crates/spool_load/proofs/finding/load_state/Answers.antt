@@ -1,7 +1,7 @@
 use Rattle.std.proofs.Common.{◌≡◌, rules, ◌+◌, length, arith}
 use Rattle.spool_journal.specs.declared.TheConstants.{PAGE}
 use Rattle.spool_pages.specs.View.{state_place, state_page}
-use Rattle.spool_pages.proofs.Says.{all_is, some_journal}
+use Rattle.spool_pages.proofs.Encodes.{all_is, some_journal}
 use Rattle.spool_load.proofs.Looks.{read_padded, length-state}
 use Rattle.spool_load.proofs.Refused.{state_read}
 use Rattle.spool_load.proofs.finding.load_state.Goals as goal
@@ -9,14 +9,14 @@ use Rattle.spool_load.proofs.finding.load_state.Goals as goal
 pub read_at-requires : goal.read_at-requires
 read_at-requires g c = omega (arith, all_is c.args.layout, some_journal c.args.layout, c.state_place.ensures)
 
-pub returns-clause-said : goal.returns-clause-said
-returns-clause-said g c bytes gave version next fits stands =
+pub returns-clause-decoded : goal.returns-clause-decoded
+returns-clause-decoded g c bytes gave version next fits are_at =
     let here : c.state_place.result ≡ state_place c.args.layout = omega (arith, c.state_place.ensures) in
     let padded =
     read_padded bytes _ _ c.read_at.new.buf (state_page version next) PAGE
     (c.in_ok-read_at.ensures.bytes bytes gave) (search rules) here (omega (arith, length-state version next))
-    stands in
-    c.found_in.ensures.said version next fits padded
+    are_at in
+    c.found_in.ensures.decoded version next fits padded
 
 pub returns-clause-found : goal.returns-clause-found
 returns-clause-found g c bytes gave =

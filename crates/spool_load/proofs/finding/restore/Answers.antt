@@ -1,34 +1,34 @@
 use Rattle.std.proofs.Common.{◌≡◌, ◌∙◌, ℕ, Result, Err, IfErr, IfOk, refl, sym, subst, rules, arith}
 use Rattle.std.proofs.lemmas.Result.{err_from_is_err_and}
 use Rattle.spool_journal.specs.declared.TheConstants.{PAGE}
-use Rattle.spool_journal.specs.Image.{journal_pages, overlaid, InForm, count, number}
+use Rattle.spool_journal.specs.Image.{journal_pages, overlaid, InForm, count, journal_number}
 use Rattle.spool_journal.specs.Phases.{Settled}
 use Rattle.spool_journal.specs.declared.error.RecoverError.{RecoverError}
 use Rattle.spool_journal.specs.declared.error.RecoverError.TheVariants as recover
-use Rattle.spool_catalog.specs.Faults.{fault_of}
+use Rattle.spool_catalog.specs.Faults.{open_fault_of}
 use Rattle.spool_catalog.specs.Loads.{LoadsAs}
 use Rattle.spool_catalog.specs.declared.error.OpenFault.{OpenFault}
 use Rattle.spool_load.proofs.Opens.{if_ok, read_lasts, read_same, read_settled, read_unwritten, settled_still}
-use Rattle.spool_load.proofs.Opens.{settled_says}
+use Rattle.spool_load.proofs.Opens.{settled_encodes}
 use Rattle.spool_load.proofs.Opens.{still_as}
 use Rattle.spool_load.specs.Refusals.{RefusedAt, RefusedHere}
 use Rattle.spool_disk.specs.Given.{ReadsGave}
 use Rattle.spool_load.specs.Loaded.{FoundOn, IsFoundOf, RestoresBy}
 use Rattle.spool_load.specs.declared.finding.Found.{Found}
-use Rattle.spool_pages.specs.View.{Stands, state_page, state_place}
+use Rattle.spool_pages.specs.View.{AreAt, state_page, state_place}
 use Rattle.spool_load.proofs.Refused.{restored, restored_layout, restored_view, unrestored}
 use Rattle.spool_load.proofs.ReadBys.{by_both, by_first, restored_by}
 use Rattle.spool_load.proofs.finding.restore.Goals as goal
 
 recover_handed : {T : Type 0} (P : T → Type 0) (e : RecoverError) → (e ≡ recover.Damaged → ⊥)
-    → LoadsAs {T = T} (Err (fault_of e)) P
+    → LoadsAs {T = T} (Err (open_fault_of e)) P
 recover_handed P recover.DiskFault not = tt
 recover_handed P recover.Damaged not = absurd (not refl)
 
 recover_reason : (n : ℕ) (before after : ℕ → ℕ) (e : RecoverError)
     → (e ≡ recover.Damaged
-    → (before PAGE ≡ 165) × (InForm (journal_pages n) (count before) (number before) → ⊥))
-    → RefusedHere n before after (fault_of e)
+    → (before PAGE ≡ 165) × (InForm (journal_pages n) (count before) (journal_number before) → ⊥))
+    → RefusedHere n before after (open_fault_of e)
 recover_reason n before after recover.DiskFault bad = tt
 recover_reason n before after recover.Damaged bad =
     let why = bad refl in
@@ -37,12 +37,12 @@ recover_reason n before after recover.Damaged bad =
 err_of : (e d : RecoverError) → e ≡ d → ◌≡◌ {A = Result (Unit {0}) RecoverError} (Err e) (Err d)
 err_of e d same = cc
 
-pub returns-in_err-recover-clause-said : goal.returns-in_err-recover-clause-said
-returns-in_err-recover-clause-said g c honest v valid blocks is =
+pub returns-in_err-recover-clause-decoded : goal.returns-in_err-recover-clause-decoded
+returns-in_err-recover-clause-decoded g c honest v valid blocks is =
     let J : ℕ → Type 0 =
     λ n. g.D.Disk.current c.args.disk.now PAGE ≡ 165
     → InForm (journal_pages n) (count (g.D.Disk.current c.args.disk.now))
-    (number (g.D.Disk.current c.args.disk.now)) in
+    (journal_number (g.D.Disk.current c.args.disk.now)) in
     let form = subst J blocks is.form in
     let valid_head : c.in_err-recover.field-0.0 ≡ recover.Damaged → ⊥ =
     λ e. (let bad = c.recover.ensures.damaged honest (c.in_err-recover.was ∙ err_of _ _ e) in bad.1 (form bad.0)) in
@@ -51,7 +51,7 @@ returns-in_err-recover-clause-said g c honest v valid blocks is =
 
 pub returns-in_err-recover-clause-refused : goal.returns-in_err-recover-clause-refused
 returns-in_err-recover-clause-refused g c honest =
-    let told =
+    let shown =
     recover_reason c.args.layout (g.D.Disk.current c.args.disk.now) (overlaid (g.D.Disk.current c.args.disk.now))
     c.in_err-recover.field-0.0
     (λ e. c.recover.ensures.damaged honest (c.in_err-recover.was ∙ err_of _ _ e)) in
@@ -62,26 +62,26 @@ returns-clause-layout g c =
     subst (λ (r : Result Found OpenFault). IfOk r (λ found. found.layout ≡ c.args.layout)) (sym c.ok_or.ensures.value)
     (restored_layout c.args.layout c.in_ok-load_state.field-0 c.in_ok-load_state.ensures.layout)
 
-pub returns-clause-said : goal.returns-clause-said
-returns-clause-said g c honest v valid blocks is =
+pub returns-clause-decoded : goal.returns-clause-decoded
+returns-clause-decoded g c honest v valid blocks is =
     let settled = c.in_ok-recover.ensures.settled honest in
     let J : ℕ → Type 0 =
     λ n. Settled (journal_pages n) (overlaid (g.D.Disk.current c.args.disk.now)) (g.D.Disk.current c.recover.new.disk)
     (g.D.Disk.unsynced c.recover.new.disk) in
-    let there = (settled_says v (subst J (sym blocks) settled) is.says).state in
-    let state : Stands (g.D.Disk.current c.recover.new.disk) (state_place c.args.layout) PAGE
+    let there = (settled_encodes v (subst J (sym blocks) settled) is.encodes).state in
+    let state : AreAt (g.D.Disk.current c.recover.new.disk) (state_place c.args.layout) PAGE
     (state_page v.version v.next) =
-    subst (λ (n : ℕ). Stands (g.D.Disk.current c.recover.new.disk) (state_place n) PAGE (state_page v.version v.next))
+    subst (λ (n : ℕ). AreAt (g.D.Disk.current c.recover.new.disk) (state_place n) PAGE (state_page v.version v.next))
     blocks there in
     subst (λ (r : Result Found OpenFault). LoadsAs r (IsFoundOf v)) (sym c.ok_or.ensures.value)
     (restored_view v c.args.layout c.in_ok-load_state.field-0 (sym blocks)
-    (c.in_ok-load_state.ensures.said _
+    (c.in_ok-load_state.ensures.decoded _
     (c.load_state.ensures.reads.gave (c.recover.ensures.honest.0 honest) _ (settled_still settled)) v.version v.next
     (omega (arith, valid.next_most)) state)
     c.in_ok-load_state.ensures.layout)
 
 pub returns-clause-found : goal.returns-clause-found
-returns-clause-found g c honest says =
+returns-clause-found g c honest encodes =
     let settled = c.in_ok-recover.ensures.settled honest in
     let was = g.D.Disk.current c.args.disk.now in
     let now = g.D.Disk.current c.recover.new.disk in
@@ -89,7 +89,7 @@ returns-clause-found g c honest says =
     subst (λ (r : Result Found OpenFault). IfOk r (FoundOn size was)) (sym c.ok_or.ensures.value)
     (restored c.args.layout was now (g.D.Disk.unsynced c.recover.new.disk) settled (c.in_ok-recover.ensures.form honest)
     size
-    c.in_ok-load_state.field-0 c.in_ok-load_state.ensures.layout says
+    c.in_ok-load_state.field-0 c.in_ok-load_state.ensures.layout encodes
     (c.in_ok-load_state.ensures.found now
     (c.load_state.ensures.reads.gave (c.recover.ensures.honest.0 honest) now (settled_still settled))))
 
@@ -156,7 +156,7 @@ returns-in_err-recover-clause-given g c =
     by_first c.recover.ensures.reads (λ before after early. rw (p.1, p.2) (record {
       answer = recover_reason c.args.layout before after c.in_err-recover.field-0.0 (bad before early);
       restores =
-          λ v valid blocks journal says. recover_handed (IsFoundOf v) c.in_err-recover.field-0.0
+          λ v valid blocks journal encodes. recover_handed (IsFoundOf v) c.in_err-recover.field-0.0
           (λ e. let why = bad before early e in why.1 (journal why.0));
     }))
 
@@ -165,20 +165,20 @@ returns-in_err-load_state-clause-given g c =
     let p =
     err_from_is_err_and c.from_residual-in_err-load_state.result c.from_residual-in_err-load_state.ensures.1 in
     by_both c.recover.ensures.reads c.load_state.ensures.reads.grew
-    (λ before after early late. rw (p.1, p.2) (record { answer = tt; restores = λ v valid blocks journal says. tt }))
+    (λ before after early late. rw (p.1, p.2) (record { answer = tt; restores = λ v valid blocks journal encodes. tt }))
 
 pub returns-clause-given : goal.returns-clause-given
 returns-clause-given g c =
     let n = c.args.layout in
-    let said = c.in_ok-load_state.field-0 in
+    let decoded = c.in_ok-load_state.field-0 in
     by_both c.recover.ensures.reads c.load_state.ensures.reads.grew (λ before after early late.
     subst (λ (r : Result Found OpenFault). RestoresBy n r before after) (sym c.ok_or.ensures.value) (record {
       answer =
-          restored_by 0 before after n said (c.in_ok-recover.ensures.gave_form before early)
+          restored_by 0 before after n decoded (c.in_ok-recover.ensures.gave_form before early)
           (c.in_ok-load_state.ensures.found after late);
       restores =
-          λ v valid blocks journal says. restored_view v n said (sym blocks)
-          (c.in_ok-load_state.ensures.said after late v.version v.next (omega (arith, valid.next_most))
-          (subst (λ (k : ℕ). Stands after (state_place k) PAGE (state_page v.version v.next)) blocks says.state))
+          λ v valid blocks journal encodes. restored_view v n decoded (sym blocks)
+          (c.in_ok-load_state.ensures.decoded after late v.version v.next (omega (arith, valid.next_most))
+          (subst (λ (k : ℕ). AreAt after (state_place k) PAGE (state_page v.version v.next)) blocks encodes.state))
           c.in_ok-load_state.ensures.layout;
     }))

@@ -1,16 +1,16 @@
 use Rattle.std.proofs.Common.{ℕ, rules, subst, sym}
 use Rattle.spool_disk.proofs.Firm.{counts_on}
 use Rattle.spool_journal.specs.declared.TheConstants.{PAGE}
-use Rattle.spool_pages.specs.View.{Stands, first_page}
+use Rattle.spool_pages.specs.View.{AreAt, first_page}
 use Rattle.spool_load.proofs.Looks.{gave_first, gave_rest, if_ok_more, ok_no_fault, reads_on}
-use Rattle.spool_load.proofs.ValidViews.{area_said}
+use Rattle.spool_load.proofs.ValidViews.{area_encoded}
 use Rattle.spool_load.proofs.loading.load_fields.Goals as goal
 
-pub returns-in_err-check_first-clause-said : goal.returns-in_err-check_first-clause-said
-returns-in_err-check_first-clause-said g c bytes gave v valid blocks says =
+pub returns-in_err-check_first-clause-decoded : goal.returns-in_err-check_first-clause-decoded
+returns-in_err-check_first-clause-decoded g c bytes gave v valid blocks encodes =
     let loaded =
-    c.in_err-check_first.ensures.said bytes gave
-    (subst (λ (n : ℕ). Stands bytes 0 PAGE (first_page n)) blocks says.first) in
+    c.in_err-check_first.ensures.decoded bytes gave
+    (subst (λ (n : ℕ). AreAt bytes 0 PAGE (first_page n)) blocks encodes.first) in
     search rules
 
 pub returns-clause-reads : goal.returns-clause-reads
@@ -20,10 +20,10 @@ pub returns-clause-counts : goal.returns-clause-counts
 returns-clause-counts g c =
     counts_on c.check_first.ensures.counts (ok_no_fault _ _ c.in_ok-check_first.was) c.load_indexes.ensures.counts
 
-pub returns-clause-said : goal.returns-clause-said
-returns-clause-said g c bytes gave v valid blocks says =
-    area_said bytes c.args.layout.now v valid blocks says
-    (c.load_indexes.ensures.said bytes (gave_rest c.check_first.ensures.reads c.load_indexes.ensures.reads gave))
+pub returns-clause-decoded : goal.returns-clause-decoded
+returns-clause-decoded g c bytes gave v valid blocks encodes =
+    area_encoded bytes c.args.layout.now v valid blocks encodes
+    (c.load_indexes.ensures.decoded bytes (gave_rest c.check_first.ensures.reads c.load_indexes.ensures.reads gave))
 
 pub returns-clause-valid : goal.returns-clause-valid
 returns-clause-valid g c bytes gave =

@@ -3,8 +3,8 @@ use Rattle.std.proofs.lemmas.Bool.{false≢true}
 use Rattle.spool_disk.proofs.Firm.{counts_on}
 use Rattle.spool_pages.specs.View.{SlotRecord}
 use Rattle.spool_catalog.specs.Checks.{RecordsPass}
-use Rattle.spool_load.proofs.ValidViews.{slots_said, valid_passes, read_loaded, read_shows}
-use Rattle.spool_load.proofs.Faults.{check_sound, check_told}
+use Rattle.spool_load.proofs.ValidViews.{slots_updated, valid_passes, read_loaded, read_shows}
+use Rattle.spool_load.proofs.Faults.{check_sound, check_reported}
 use Rattle.spool_load.proofs.Looks.{gave_each, gave_rest, reads_none, reads_on, ok_no_fault}
 use Rattle.spool_journal.proofs.Steps.{no_failure}
 use Rattle.spool_load.proofs.loading.read.Goals as goal
@@ -20,21 +20,21 @@ of-requires-clause-below g c s r there =
 pub returns-in_err-slots-clause-reads : goal.returns-in_err-slots-clause-reads
 returns-in_err-slots-clause-reads g c = reads_on c.load_fields.ensures.reads c.load_slots.ensures.reads
 
-pub returns-in_err-slots-clause-said : goal.returns-in_err-slots-clause-said
-returns-in_err-slots-clause-said g c bytes gave v valid is says =
+pub returns-in_err-slots-clause-decoded : goal.returns-in_err-slots-clause-decoded
+returns-in_err-slots-clause-decoded g c bytes gave v valid is encodes =
     let loaded =
-    slots_said bytes c.args.found.layout v valid (sym is.blocks) says c.args.found.version is.state.version
-    (c.in_err-slots.ensures.said bytes (gave_rest c.load_fields.ensures.reads c.load_slots.ensures.reads gave)) in
+    slots_updated bytes c.args.found.layout v valid (sym is.blocks) encodes c.args.found.version is.state.version
+    (c.in_err-slots.ensures.decoded bytes (gave_rest c.load_fields.ensures.reads c.load_slots.ensures.reads gave)) in
     search rules
 
 pub returns-then-not-are_valid-clause-reads : goal.returns-then-not-are_valid-clause-reads
 returns-then-not-are_valid-clause-reads g c = reads_on c.load_fields.ensures.reads c.load_slots.ensures.reads
 
-pub returns-then-not-are_valid-clause-said : goal.returns-then-not-are_valid-clause-said
-returns-then-not-are_valid-clause-said g c bytes gave v valid is says =
+pub returns-then-not-are_valid-clause-decoded : goal.returns-then-not-are_valid-clause-decoded
+returns-then-not-are_valid-clause-decoded g c bytes gave v valid is encodes =
     let slots : c.in_ok-slots.slots.items ≡ v.slots =
-    slots_said bytes c.args.found.layout v valid (sym is.blocks) says c.args.found.version is.state.version
-    (c.in_ok-slots.ensures.said bytes (gave_rest c.load_fields.ensures.reads c.load_slots.ensures.reads gave)) in
+    slots_updated bytes c.args.found.layout v valid (sym is.blocks) encodes c.args.found.version is.state.version
+    (c.in_ok-slots.ensures.decoded bytes (gave_rest c.load_fields.ensures.reads c.load_slots.ensures.reads gave)) in
     let looked : c.deref.result.now ≡ v.slots = search rules in
     let are = subst (λ (n : ℕ). RecordsPass n v.slots) (sym is.state.next) (valid_passes v valid) in
     let passes =
@@ -46,44 +46,44 @@ pub returns-in_err-blocks-clause-reads : goal.returns-in_err-blocks-clause-reads
 returns-in_err-blocks-clause-reads g c =
     reads_on (reads_on c.load_fields.ensures.reads c.load_slots.ensures.reads) c.load_blocks.ensures.reads
 
-pub returns-in_err-blocks-clause-said : goal.returns-in_err-blocks-clause-said
-returns-in_err-blocks-clause-said g c bytes gave v valid is says =
+pub returns-in_err-blocks-clause-decoded : goal.returns-in_err-blocks-clause-decoded
+returns-in_err-blocks-clause-decoded g c bytes gave v valid is encodes =
     let parts = gave_each c.load_fields.ensures.reads c.load_slots.ensures.reads c.load_blocks.ensures.reads gave in
     let slots : c.in_ok-slots.slots.items ≡ v.slots =
-    slots_said bytes c.args.found.layout v valid (sym is.blocks) says c.args.found.version is.state.version
-    (c.in_ok-slots.ensures.said bytes parts.1) in
-    let loaded = c.in_err-blocks.ensures.said bytes parts.2 v valid (sym is.blocks) says (search rules) in
+    slots_updated bytes c.args.found.layout v valid (sym is.blocks) encodes c.args.found.version is.state.version
+    (c.in_ok-slots.ensures.decoded bytes parts.1) in
+    let loaded = c.in_err-blocks.ensures.decoded bytes parts.2 v valid (sym is.blocks) encodes (search rules) in
     search rules
 
 pub returns-clause-reads : goal.returns-clause-reads
 returns-clause-reads g c =
     reads_on (reads_on c.load_fields.ensures.reads c.load_slots.ensures.reads) c.load_blocks.ensures.reads
 
-pub returns-in_err-kept-clause-reads : goal.returns-in_err-kept-clause-reads
-returns-in_err-kept-clause-reads g c =
+pub returns-in_err-catalog-clause-reads : goal.returns-in_err-catalog-clause-reads
+returns-in_err-catalog-clause-reads g c =
     reads_on (reads_on c.load_fields.ensures.reads c.load_slots.ensures.reads) c.load_blocks.ensures.reads
 
-pub returns-clause-said : goal.returns-clause-said
-returns-clause-said g c bytes gave v valid is says =
+pub returns-clause-decoded : goal.returns-clause-decoded
+returns-clause-decoded g c bytes gave v valid is encodes =
     let parts = gave_each c.load_fields.ensures.reads c.load_slots.ensures.reads c.load_blocks.ensures.reads gave in
-    let indexes = c.in_ok-indexes.ensures.said bytes parts.0 v valid (sym is.blocks) says in
+    let indexes = c.in_ok-indexes.ensures.decoded bytes parts.0 v valid (sym is.blocks) encodes in
     let slots : c.in_ok-slots.slots.items ≡ v.slots =
-    slots_said bytes c.args.found.layout v valid (sym is.blocks) says c.args.found.version is.state.version
-    (c.in_ok-slots.ensures.said bytes parts.1) in
-    let held = c.in_ok-blocks.ensures.said bytes parts.2 v valid (sym is.blocks) says (search rules) in
-    c.in_ok-kept.ensures.said v valid (sym is.blocks) is.state.version is.state.next indexes slots held.0 held.1
+    slots_updated bytes c.args.found.layout v valid (sym is.blocks) encodes c.args.found.version is.state.version
+    (c.in_ok-slots.ensures.decoded bytes parts.1) in
+    let held = c.in_ok-blocks.ensures.decoded bytes parts.2 v valid (sym is.blocks) encodes (search rules) in
+    c.in_ok-catalog.ensures.decoded v valid (sym is.blocks) is.state.version is.state.next indexes slots held.0 held.1
 
-pub returns-in_err-kept-clause-said : goal.returns-in_err-kept-clause-said
-returns-in_err-kept-clause-said g c bytes gave v valid is says =
+pub returns-in_err-catalog-clause-decoded : goal.returns-in_err-catalog-clause-decoded
+returns-in_err-catalog-clause-decoded g c bytes gave v valid is encodes =
     let parts = gave_each c.load_fields.ensures.reads c.load_slots.ensures.reads c.load_blocks.ensures.reads gave in
-    let indexes = c.in_ok-indexes.ensures.said bytes parts.0 v valid (sym is.blocks) says in
+    let indexes = c.in_ok-indexes.ensures.decoded bytes parts.0 v valid (sym is.blocks) encodes in
     let slots : c.in_ok-slots.slots.items ≡ v.slots =
-    slots_said bytes c.args.found.layout v valid (sym is.blocks) says c.args.found.version is.state.version
-    (c.in_ok-slots.ensures.said bytes parts.1) in
-    let held = c.in_ok-blocks.ensures.said bytes parts.2 v valid (sym is.blocks) says (search rules) in
-    let told =
-    check_told c.in_err-kept.field-0.0
-    (c.in_err-kept.ensures.said v valid (sym is.blocks) is.state.version is.state.next indexes slots held.0 held.1) in
+    slots_updated bytes c.args.found.layout v valid (sym is.blocks) encodes c.args.found.version is.state.version
+    (c.in_ok-slots.ensures.decoded bytes parts.1) in
+    let held = c.in_ok-blocks.ensures.decoded bytes parts.2 v valid (sym is.blocks) encodes (search rules) in
+    let shown =
+    check_reported c.in_err-catalog.field-0.0
+    (c.in_err-catalog.ensures.decoded v valid (sym is.blocks) is.state.version is.state.next indexes slots held.0 held.1) in
     search rules
 
 pub returns-in_err-slots-clause-counts : goal.returns-in_err-slots-clause-counts
@@ -119,16 +119,16 @@ returns-clause-valid g c bytes gave found =
     read_loaded bytes c.args.found.layout c.args.found.version c.args.found.next c.in_ok-indexes.indexes
     c.in_ok-slots.slots.items c.in_ok-blocks.blocks.rows c.in_ok-indexes.ensures.set c.in_ok-slots.ensures.fits
     (search rules) (search rules) c.in_ok-slots.ensures.long c.in_ok-blocks.ensures.long are (search rules)
-    c.in_ok-blocks.ensures.fits c.in_ok-kept.ensures.distinct c.in_ok-kept.ensures.whole
-    c.in_ok-blocks.blocks.reserved c.in_ok-kept.kept c.in_ok-blocks.ensures.reserved c.in_ok-kept.ensures.said
+    c.in_ok-blocks.ensures.fits c.in_ok-catalog.ensures.distinct c.in_ok-catalog.ensures.whole
+    c.in_ok-blocks.blocks.reserved c.in_ok-catalog.catalog c.in_ok-blocks.ensures.reserved c.in_ok-catalog.ensures.decoded
     fields state slots rows
 
-pub returns-in_err-kept-clause-counts : goal.returns-in_err-kept-clause-counts
-returns-in_err-kept-clause-counts g c =
+pub returns-in_err-catalog-clause-counts : goal.returns-in_err-catalog-clause-counts
+returns-in_err-catalog-clause-counts g c =
     let first = no_failure c.load_fields.ensures.counts (ok_no_fault _ _ c.in_ok-indexes.was) in
     let second = no_failure c.load_slots.ensures.counts (ok_no_fault _ _ c.in_ok-slots.was) in
     let third = no_failure c.load_blocks.ensures.counts (ok_no_fault _ _ c.in_ok-blocks.was) in
-    let sound = check_sound c.in_err-kept.field-0.0 in
+    let sound = check_sound c.in_err-catalog.field-0.0 in
     search rules
 
 pub returns-clause-view : goal.returns-clause-view
@@ -140,8 +140,8 @@ returns-clause-view g c =
     read_shows (λ p. 0) c.args.found.layout c.args.found.version c.args.found.next c.in_ok-indexes.indexes
     c.in_ok-slots.slots.items c.in_ok-blocks.blocks.rows c.in_ok-indexes.ensures.set c.in_ok-slots.ensures.fits
     (search rules) (search rules) c.in_ok-slots.ensures.long c.in_ok-blocks.ensures.long are (search rules)
-    c.in_ok-blocks.ensures.fits c.in_ok-kept.ensures.distinct c.in_ok-kept.ensures.whole
-    c.in_ok-blocks.blocks.reserved c.in_ok-kept.kept c.in_ok-blocks.ensures.reserved c.in_ok-kept.ensures.said
+    c.in_ok-blocks.ensures.fits c.in_ok-catalog.ensures.distinct c.in_ok-catalog.ensures.whole
+    c.in_ok-blocks.blocks.reserved c.in_ok-catalog.catalog c.in_ok-blocks.ensures.reserved c.in_ok-catalog.ensures.decoded
 
 pub returns-then-not-found-clause-reads : goal.returns-then-not-found-clause-reads
 returns-then-not-found-clause-reads g c = reads_none c.args.disk.now

@@ -5,20 +5,20 @@ use Rattle.spool_disk.proofs.Firm.{counts_on}
 use Rattle.spool_disk.proofs.Gave.{grew_none}
 use Rattle.spool_journal.specs.Image.{all_pages, journal_pages, overlaid}
 use Rattle.spool_journal.specs.Phases.{Settled}
-use Rattle.spool_catalog.specs.Kept.{KeepsAlone}
-use Rattle.spool_catalog.specs.declared.kept.Kept.{Kept}
-use Rattle.spool_load.proofs.Faults.{counts_told, loads_err, tells_nothing}
+use Rattle.spool_catalog.specs.Catalog.{HasViewAlone}
+use Rattle.spool_catalog.specs.declared.catalog.Catalog.{Catalog}
+use Rattle.spool_load.proofs.Faults.{counts_reported, loads_err, is_stop_error}
 use Rattle.spool_load.proofs.Looks.{ok_no_fault}
-use Rattle.spool_load.proofs.Opens.{read_lasts, read_same, read_settled, read_unwritten, recovered_says, settled_still}
+use Rattle.spool_load.proofs.Opens.{read_lasts, read_same, read_settled, read_unwritten, recovered_encodes, settled_still}
 use Rattle.spool_load.proofs.Refused.{found_back, opened_on, read_reason, unfound_reason}
 use Rattle.spool_load.proofs.ReadBys.{by_after, loads_by, unfound_by, unread_by}
 use Rattle.spool_pages.specs.View.{IsViewOf}
 use Rattle.spool_load.proofs.opening.load.Goals as goal
 
-pub returns-in_err-found-clause-said : goal.returns-in_err-found-clause-said
-returns-in_err-found-clause-said g c honest v valid is room =
-    let found = c.in_err-found.ensures.said honest v valid is room in
-    let handed = loads_err _ (λ (kept : Kept). KeepsAlone kept v) _ found in
+pub returns-in_err-found-clause-decoded : goal.returns-in_err-found-clause-decoded
+returns-in_err-found-clause-decoded g c honest v valid is room =
+    let found = c.in_err-found.ensures.decoded honest v valid is room in
+    let handed = loads_err _ (λ (catalog : Catalog). HasViewAlone catalog v) _ found in
     search rules
 
 pub returns-in_err-found-clause-refused : goal.returns-in_err-found-clause-refused
@@ -28,16 +28,16 @@ returns-in_err-found-clause-refused g c honest =
 
 pub returns-clause-room : goal.returns-clause-room
 returns-clause-room g c =
-    subst (λ (n : ℕ). PAGE * all_pages n ≤ g.D.Disk.size c.args.disk.now) (sym c.in_ok-kept.ensures.layout)
+    subst (λ (n : ℕ). PAGE * all_pages n ≤ g.D.Disk.size c.args.disk.now) (sym c.in_ok-catalog.ensures.layout)
     c.in_ok-found.ensures.room
 
-pub returns-clause-said : goal.returns-clause-said
-returns-clause-said g c honest v valid is room =
+pub returns-clause-decoded : goal.returns-clause-decoded
+returns-clause-decoded g c honest v valid is room =
     let settled = c.in_ok-found.ensures.settled honest in
-    let found = c.in_ok-found.ensures.said honest v valid is room in
-    c.in_ok-kept.ensures.said _ (c.read.ensures.reads.gave (c.find.ensures.honest.0 honest) _ (settled_still settled)) v
+    let found = c.in_ok-found.ensures.decoded honest v valid is room in
+    c.in_ok-catalog.ensures.decoded _ (c.read.ensures.reads.gave (c.find.ensures.honest.0 honest) _ (settled_still settled)) v
     valid found
-    (recovered_says c.in_ok-found.found.layout v found.blocks settled is)
+    (recovered_encodes c.in_ok-found.found.layout v found.blocks settled is)
 
 pub returns-clause-valid : goal.returns-clause-valid
 returns-clause-valid g c honest =
@@ -48,8 +48,8 @@ returns-clause-valid g c honest =
     let now = g.D.Disk.current c.find.new.disk in
     let unsynced = g.D.Disk.unsynced c.find.new.disk in
     let size = g.D.Disk.size c.args.disk.now in
-    opened_on n was now unsynced settled found.journal size c.in_ok-kept.kept found.says
-    (c.in_ok-kept.ensures.valid now
+    opened_on n was now unsynced settled found.journal size c.in_ok-catalog.catalog found.encodes
+    (c.in_ok-catalog.ensures.valid now
     (c.read.ensures.reads.gave (c.find.ensures.honest.0 honest) now (settled_still settled))
     (found_back size c.in_ok-found.found was now unsynced settled found))
 
@@ -61,11 +61,11 @@ returns-clause-settled g c honest =
     let J : ℕ → Type 0 =
     λ n. Settled (journal_pages n) (overlaid (g.D.Disk.current c.args.disk.now)) (g.D.Disk.current c.read.new.disk)
     (g.D.Disk.unsynced c.read.new.disk) in
-    subst J (sym c.in_ok-kept.ensures.layout) there
+    subst J (sym c.in_ok-catalog.ensures.layout) there
 
 pub returns-clause-lasts : goal.returns-clause-lasts
 returns-clause-lasts g c honest v valid is room =
-    let found = c.in_ok-found.ensures.said honest v valid is room in
+    let found = c.in_ok-found.ensures.decoded honest v valid is room in
     read_lasts g.D.Disk c.args.disk.now c.find.new.disk c.read.new.disk c.in_ok-found.found.layout
     (c.find.ensures.honest.0 honest) (c.in_ok-found.ensures.settled honest) c.read.ensures.reads v.blocks found.blocks
     (c.find.ensures.lasts honest v valid is room)
@@ -82,55 +82,55 @@ returns-clause-same g c honest none fine =
     (c.find.ensures.honest.0 honest) (c.in_ok-found.ensures.settled honest) c.read.ensures.reads
     (c.find.ensures.same honest none (ok_no_fault _ _ c.in_ok-found.was))
 
-pub returns-in_err-kept-clause-counts : goal.returns-in_err-kept-clause-counts
-returns-in_err-kept-clause-counts g c =
-    let e = err_from_is_err_and c.from_residual-in_err-kept.result c.from_residual-in_err-kept.ensures.1 in
+pub returns-in_err-catalog-clause-counts : goal.returns-in_err-catalog-clause-counts
+returns-in_err-catalog-clause-counts g c =
+    let e = err_from_is_err_and c.from_residual-in_err-catalog.result c.from_residual-in_err-catalog.ensures.1 in
     counts_on c.find.ensures.counts (ok_no_fault _ _ c.in_ok-found.was)
-    (counts_told c.in_err-kept.field-0.0 (λ failed. let is = e.1 in let fault = e.2 in cc)
-    (λ device. e.1 ∙ ap Err (e.2 ∙ device)) c.in_err-kept.ensures.counts)
+    (counts_reported c.in_err-catalog.field-0.0 (λ failed. let is = e.1 in let fault = e.2 in cc)
+    (λ device. e.1 ∙ ap Err (e.2 ∙ device)) c.in_err-catalog.ensures.counts)
 
-pub returns-in_err-kept-clause-said : goal.returns-in_err-kept-clause-said
-returns-in_err-kept-clause-said g c honest v valid is room =
+pub returns-in_err-catalog-clause-decoded : goal.returns-in_err-catalog-clause-decoded
+returns-in_err-catalog-clause-decoded g c honest v valid is room =
     let settled = c.in_ok-found.ensures.settled honest in
-    let found = c.in_ok-found.ensures.said honest v valid is room in
+    let found = c.in_ok-found.ensures.decoded honest v valid is room in
     let read =
-    tells_nothing c.in_err-kept.field-0.0 (λ (kept : Kept). KeepsAlone kept v)
-    (c.in_err-kept.ensures.said _
+    is_stop_error c.in_err-catalog.field-0.0 (λ (catalog : Catalog). HasViewAlone catalog v)
+    (c.in_err-catalog.ensures.decoded _
     (c.read.ensures.reads.gave (c.find.ensures.honest.0 honest) _ (settled_still settled)) v valid found
-    (recovered_says c.in_ok-found.found.layout v found.blocks settled is)) in
+    (recovered_encodes c.in_ok-found.found.layout v found.blocks settled is)) in
     search rules
 
-pub returns-in_err-kept-clause-refused : goal.returns-in_err-kept-clause-refused
-returns-in_err-kept-clause-refused g c honest =
+pub returns-in_err-catalog-clause-refused : goal.returns-in_err-catalog-clause-refused
+returns-in_err-catalog-clause-refused g c honest =
     let settled = c.in_ok-found.ensures.settled honest in
     let mid = c.find.ensures.honest.0 honest in
     let reason =
     read_reason (g.D.Disk.size c.args.disk.now) (g.D.Disk.current c.args.disk.now) _ c.in_ok-found.found
-    c.in_err-kept.field-0.0 (c.in_ok-found.ensures.found honest)
-    (λ v valid encodes. let is : IsViewOf (g.D.Disk.current c.args.disk.now) v = record {
-      form = encodes.journal;
-      says = encodes.says;
+    c.in_err-catalog.field-0.0 (c.in_ok-found.ensures.found honest)
+    (λ v valid encodes_by. let is : IsViewOf (g.D.Disk.current c.args.disk.now) v = record {
+      form = encodes_by.journal;
+      encodes = encodes_by.encodes;
     } in
-    let found = c.in_ok-found.ensures.said honest v valid is encodes.begins.room in
-    c.in_err-kept.ensures.said _ (c.read.ensures.reads.gave mid _ (settled_still settled)) v valid found
-    (recovered_says c.in_ok-found.found.layout v found.blocks settled is)) in
+    let found = c.in_ok-found.ensures.decoded honest v valid is encodes_by.begins.room in
+    c.in_err-catalog.ensures.decoded _ (c.read.ensures.reads.gave mid _ (settled_still settled)) v valid found
+    (recovered_encodes c.in_ok-found.found.layout v found.blocks settled is)) in
     search rules
 
-pub returns-in_err-kept-clause-lasts : goal.returns-in_err-kept-clause-lasts
-returns-in_err-kept-clause-lasts g c honest v valid is room =
-    let found = c.in_ok-found.ensures.said honest v valid is room in
+pub returns-in_err-catalog-clause-lasts : goal.returns-in_err-catalog-clause-lasts
+returns-in_err-catalog-clause-lasts g c honest v valid is room =
+    let found = c.in_ok-found.ensures.decoded honest v valid is room in
     read_lasts g.D.Disk c.args.disk.now c.find.new.disk c.read.new.disk c.in_ok-found.found.layout
     (c.find.ensures.honest.0 honest) (c.in_ok-found.ensures.settled honest) c.read.ensures.reads v.blocks found.blocks
     (c.find.ensures.lasts honest v valid is room)
 
-pub returns-in_err-kept-clause-unwritten : goal.returns-in_err-kept-clause-unwritten
-returns-in_err-kept-clause-unwritten g c honest none =
+pub returns-in_err-catalog-clause-unwritten : goal.returns-in_err-catalog-clause-unwritten
+returns-in_err-catalog-clause-unwritten g c honest none =
     read_unwritten g.D.Disk c.args.disk.now c.find.new.disk c.read.new.disk c.in_ok-found.found.layout
     (c.find.ensures.honest.0 honest) (c.in_ok-found.ensures.settled honest) c.read.ensures.reads
     (c.find.ensures.same honest none (ok_no_fault _ _ c.in_ok-found.was)) (c.find.ensures.unwritten honest none)
 
-pub returns-in_err-kept-clause-same : goal.returns-in_err-kept-clause-same
-returns-in_err-kept-clause-same g c honest none fine =
+pub returns-in_err-catalog-clause-same : goal.returns-in_err-catalog-clause-same
+returns-in_err-catalog-clause-same g c honest none fine =
     read_same g.D.Disk c.args.disk.now c.find.new.disk c.read.new.disk c.in_ok-found.found.layout
     (c.find.ensures.honest.0 honest) (c.in_ok-found.ensures.settled honest) c.read.ensures.reads
     (c.find.ensures.same honest none (ok_no_fault _ _ c.in_ok-found.was))
@@ -143,19 +143,19 @@ returns-in_err-found-clause-given g c =
     by_after c.in_err-found.ensures.given (grew_none refl)
     (λ before after is late. rw (p.1, p.2) (unfound_by _ before after c.in_err-found.field-0.0 is))
 
-pub returns-in_err-kept-clause-given : goal.returns-in_err-kept-clause-given
-returns-in_err-kept-clause-given g c =
-    let p = err_from_is_err_and c.from_residual-in_err-kept.result c.from_residual-in_err-kept.ensures.1 in
+pub returns-in_err-catalog-clause-given : goal.returns-in_err-catalog-clause-given
+returns-in_err-catalog-clause-given g c =
+    let p = err_from_is_err_and c.from_residual-in_err-catalog.result c.from_residual-in_err-catalog.ensures.1 in
     by_after c.in_ok-found.ensures.given c.read.ensures.reads.grew
-    (λ before after is late. rw (p.1, p.2) (unread_by _ before after c.in_ok-found.found is c.in_err-kept.field-0.0
-    (λ v valid found says. c.in_err-kept.ensures.said after late v valid found says)))
+    (λ before after is late. rw (p.1, p.2) (unread_by _ before after c.in_ok-found.found is c.in_err-catalog.field-0.0
+    (λ v valid found encodes. c.in_err-catalog.ensures.decoded after late v valid found encodes)))
 
 pub returns-clause-given : goal.returns-clause-given
 returns-clause-given g c =
     by_after c.in_ok-found.ensures.given c.read.ensures.reads.grew
-    (λ before after is late. loads_by _ before after c.in_ok-found.found is c.in_ok-kept.kept
-    (c.in_ok-kept.ensures.valid after late is.answer.state)
-    (λ v valid found says. c.in_ok-kept.ensures.said after late v valid found says))
+    (λ before after is late. loads_by _ before after c.in_ok-found.found is c.in_ok-catalog.catalog
+    (c.in_ok-catalog.ensures.valid after late is.answer.state)
+    (λ v valid found encodes. c.in_ok-catalog.ensures.decoded after late v valid found encodes))
 
 pub returns-in_err-found-clause-same : goal.returns-in_err-found-clause-same
 returns-in_err-found-clause-same g c honest none fine =

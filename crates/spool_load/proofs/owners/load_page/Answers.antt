@@ -2,30 +2,30 @@ use Rattle.std.proofs.Common.{◌≡◌, ◌+◌, ◌*◌, ℕ, length, rules, s
 use Rattle.common.specs.declared.limits.TheConstants.{ROWS, SLOTS}
 use Rattle.spool_journal.specs.declared.TheConstants.{PAGE}
 use Rattle.spool_load.specs.Reads.{IsSameTo}
-use Rattle.spool_load.proofs.Looks.{before_texts, rows_read, rows_stand}
+use Rattle.spool_load.proofs.Looks.{before_texts, rows_read, rows_at_place}
 use Rattle.spool_load.proofs.owners.load_page.Goals as goal
 
 pub read_at-requires : goal.read_at-requires
 read_at-requires g c =
     before_texts c.args.layout.now _ _ c.requires.room (omega (arith, c.requires.page, c.rows_place.ensures))
 
-pub returns-in_err-fill-clause-said : goal.returns-in_err-fill-clause-said
-returns-in_err-fill-clause-said g c bytes gave all long fits stands was =
+pub returns-in_err-fill-clause-decoded : goal.returns-in_err-fill-clause-decoded
+returns-in_err-fill-clause-decoded g c bytes gave all long fits are_at was =
     let wide : length c.read_at.new.buf ≡ PAGE = search rules in
-    absurd (c.in_err-fill.ensures.said all long fits
-    (rows_stand bytes c.args.layout.now _ c.args.page c.read_at.new.buf all
+    absurd (c.in_err-fill.ensures.decoded all long fits
+    (rows_at_place bytes c.args.layout.now _ c.args.page c.read_at.new.buf all
     (c.in_ok-read_at.ensures.bytes bytes gave) wide (omega (arith, c.rows_place.ensures))
-    c.requires.page stands) was)
+    c.requires.page are_at) was)
 
-pub returns-clause-said : goal.returns-clause-said
-returns-clause-said g c bytes gave all long fits stands was =
+pub returns-clause-decoded : goal.returns-clause-decoded
+returns-clause-decoded g c bytes gave all long fits are_at was =
     let page = c.args.page in
     let wide : length c.read_at.new.buf ≡ PAGE = search rules in
     let filled =
-    c.in_ok-fill.ensures.said all long fits
-    (rows_stand bytes c.args.layout.now _ page c.read_at.new.buf all
+    c.in_ok-fill.ensures.decoded all long fits
+    (rows_at_place bytes c.args.layout.now _ page c.read_at.new.buf all
     (c.in_ok-read_at.ensures.bytes bytes gave) wide (omega (arith, c.rows_place.ensures))
-    c.requires.page stands) was in
+    c.requires.page are_at) was in
     let e : ROWS * page + SLOTS ≡ ROWS * (page + 1) = omega arith in
     subst (λ (m : ℕ). IsSameTo m all c.fill.new.rows) e filled
 

@@ -1,40 +1,40 @@
 use Rattle.std.proofs.Common.{◌≡◌, ◌∙◌, ◌-◌, ◌*◌, ℕ, refl, rules, subst, arith}
 use Rattle.common.specs.declared.limits.TheConstants.{ROWS}
 use Rattle.spool_journal.specs.Image.{journal_pages}
-use Rattle.spool_load.specs.Reads.{IsSameTo, StandRows}
+use Rattle.spool_load.specs.Reads.{IsSameTo, RowsAreAt}
 use Rattle.spool_journal.proofs.Steps.{no_failure}
 use Rattle.spool_load.proofs.Looks.{gave_first, gave_rest, ok_no_fault, reads_none, reads_on}
 use Rattle.spool_load.proofs.owners.load_pages.Goals as goal
 
-pub returns-in_err-load_page-clause-said : goal.returns-in_err-load_page-clause-said
-returns-in_err-load_page-clause-said g c bytes gave all long fits stands =
+pub returns-in_err-load_page-clause-decoded : goal.returns-in_err-load_page-clause-decoded
+returns-in_err-load_page-clause-decoded g c bytes gave all long fits are_at =
     let inv = c.loop-page.invariant in
     let read =
-    c.in_err-load_page.ensures.said bytes (gave_rest inv.reads c.load_page.ensures.reads gave) all (search rules) fits
-    stands (inv.said bytes (gave_first inv.reads c.load_page.ensures.reads gave) all long fits stands) in
+    c.in_err-load_page.ensures.decoded bytes (gave_rest inv.reads c.load_page.ensures.reads gave) all (search rules) fits
+    are_at (inv.decoded bytes (gave_first inv.reads c.load_page.ensures.reads gave) all long fits are_at) in
     search rules
 
-pub returns-clause-said : goal.returns-clause-said
-returns-clause-said g c bytes gave all long fits stands =
+pub returns-clause-decoded : goal.returns-clause-decoded
+returns-clause-decoded g c bytes gave all long fits are_at =
     let n = c.args.layout.now in
     let e : ROWS * c.loop-page.page ≡ ROWS * (journal_pages n - 257) =
     omega (arith, c.row_pages-page-end.ensures.pages) in
     subst (λ (m : ℕ). IsSameTo m all c.loop-page.rows) e
-    (c.loop-page.invariant.said bytes gave all long fits stands)
+    (c.loop-page.invariant.decoded bytes gave all long fits are_at)
 
 pub returns-clause-valid : goal.returns-clause-valid
 returns-clause-valid g c bytes gave =
     let n = c.args.layout.now in
     let e : ROWS * c.loop-page.page ≡ ROWS * (journal_pages n - 257) =
     omega (arith, c.row_pages-page-end.ensures.pages) in
-    subst (λ (m : ℕ). StandRows bytes n m c.loop-page.rows) e (c.loop-page.invariant.valid bytes gave)
+    subst (λ (m : ℕ). RowsAreAt bytes n m c.loop-page.rows) e (c.loop-page.invariant.valid bytes gave)
 
 pub loop-page-init : goal.loop-page-init
 loop-page-init g c = record {
   reads = reads_none c.args.disk.now;
   free = c.requires.free;
   counts = refl;
-  said = λ bytes gave all long fits stands. record { each = λ k below. absurd (omega (arith, below)) };
+  decoded = λ bytes gave all long fits are_at. record { each = λ k below. absurd (omega (arith, below)) };
   valid = λ bytes gave. record { each = λ b below. absurd (omega (arith, below)) };
 }
 
@@ -50,9 +50,9 @@ loop-page-preserved g c =
       reads = reads_on inv.reads c.load_page.ensures.reads;
       free = c.in_ok-load_page.ensures.after;
       counts = no_failure c.load_page.ensures.counts (ok_no_fault _ _ c.in_ok-load_page.was) ∙ inv.counts;
-      said =
-          λ bytes gave all long fits stands. c.in_ok-load_page.ensures.said bytes (gave_now bytes gave) all
-          (search rules) fits stands (inv.said bytes (gave_before bytes gave) all long fits stands);
+      decoded =
+          λ bytes gave all long fits are_at. c.in_ok-load_page.ensures.decoded bytes (gave_now bytes gave) all
+          (search rules) fits are_at (inv.decoded bytes (gave_before bytes gave) all long fits are_at);
       valid =
           λ bytes gave. c.in_ok-load_page.ensures.valid bytes (gave_now bytes gave)
           (inv.valid bytes (gave_before bytes gave));

@@ -3,7 +3,7 @@ use Rattle.std.proofs.Common.{subst, arith}
 use Rattle.std.proofs.Math.ListN.{get_or-eq_default}
 use Rattle.spool_journal.specs.Image.{byte_of}
 use Rattle.spool_load.specs.Reads.{IsSameTo}
-use Rattle.spool_load.proofs.Looks.{put_same, put_stands}
+use Rattle.spool_load.proofs.Looks.{put_same, put_at}
 use Rattle.spool_load.proofs.owners.put_rows.Goals as goal
 
 same_ok : {T E : Type 0} (r : Result T E) (a b : T) → r ≡ Ok a → r ≡ Ok b → a ≡ b
@@ -26,33 +26,33 @@ loop-k-preserved c =
     let put = c.in_ok-put_row.ensures.put in
     let others = c.in_ok-put_row.ensures.others in
     record {
-      said = λ all long fits stands was.
+      decoded = λ all long fits are_at was.
           let is =
           same_ok _ row _ c.in_ok-row_at.was
-          (c.row_at.ensures.said (get_or all (first + k) None) (fits (first + k)) (stands k (search rules))) in
+          (c.row_at.ensures.encoded (get_or all (first + k) None) (fits (first + k)) (are_at k (search rules))) in
           step_on first k all _
-          (put_same c.loop-k.rows c.put_row.new.rows (first + k) row put others all (inv.said all long fits stands was)
+          (put_same c.loop-k.rows c.put_row.new.rows (first + k) row put others all (inv.decoded all long fits are_at was)
           is);
       valid =
-          put_stands c.loop-k.rows c.put_row.new.rows (first + k) row put others (byte_of c.args.page.now) first k
+          put_at c.loop-k.rows c.put_row.new.rows (first + k) row put others (byte_of c.args.page.now) first k
           (omega arith) inv.valid c.in_ok-row_at.ensures.valid;
       before = λ b lt. let ne : b ≢ first + k = omega (arith, lt) in others b ne ∙ inv.before b lt;
       after = λ b from. let ne : b ≢ first + k = omega (arith, from, c.loop-k-test.true) in
           others b ne ∙ inv.after b from;
     }
 
-pub returns-in_err-row_at-clause-said : goal.returns-in_err-row_at-clause-said
-returns-in_err-row_at-clause-said c all long fits stands was =
+pub returns-in_err-row_at-clause-decoded : goal.returns-in_err-row_at-clause-decoded
+returns-in_err-row_at-clause-decoded c all long fits are_at was =
     let k = c.loop-k.k in
-    absurd (no_err _ _ _ (c.row_at.ensures.said (get_or all (c.args.first + k) None) (fits (c.args.first + k))
-    (stands k (search rules))) c.in_err-row_at.was)
+    absurd (no_err _ _ _ (c.row_at.ensures.encoded (get_or all (c.args.first + k) None) (fits (c.args.first + k))
+    (are_at k (search rules))) c.in_err-row_at.was)
 
-pub returns-in_err-put_row-clause-said : goal.returns-in_err-put_row-clause-said
-returns-in_err-put_row-clause-said c all long fits stands was =
+pub returns-in_err-put_row-clause-decoded : goal.returns-in_err-put_row-clause-decoded
+returns-in_err-put_row-clause-decoded c all long fits are_at was =
     let k = c.loop-k.k in
     let is =
     same_ok _ c.in_ok-row_at.field-0 _ c.in_ok-row_at.was
-    (c.row_at.ensures.said (get_or all (c.args.first + k) None) (fits (c.args.first + k)) (stands k (search rules)))
+    (c.row_at.ensures.encoded (get_or all (c.args.first + k) None) (fits (c.args.first + k)) (are_at k (search rules)))
     in
     let after : length c.loop-k.rows ≤ c.args.first + k = c.in_err-put_row.ensures.after in
     let same : length c.loop-k.rows ≡ length all = search rules in

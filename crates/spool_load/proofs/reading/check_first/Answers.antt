@@ -5,8 +5,8 @@ use Rattle.std.proofs.lemmas.List.{ext_get_or}
 use Rattle.std.proofs.lemmas.Slice.Eq.{slice_eq-Decides}
 use Rattle.spool_journal.specs.declared.TheConstants.{PAGE}
 use Rattle.spool_pages.specs.Bytes.{IsPadded}
-use Rattle.spool_pages.specs.View.{Stands, first_page}
-use Rattle.spool_pages.proofs.Says.{all_is, some_journal}
+use Rattle.spool_pages.specs.View.{AreAt, first_page}
+use Rattle.spool_pages.proofs.Encodes.{all_is, some_journal}
 use Rattle.spool_load.proofs.Looks.{length-first, padded_back, read_padded}
 use Rattle.spool_load.proofs.reading.check_first.Goals as goal
 
@@ -19,17 +19,17 @@ returns-then-eq-clause-valid g c bytes gave =
     let blocks : c.blocks-2.result ≡ c.args.layout.now = c.blocks-2.ensures.same in
     let same : c.read_at.new.buf ≡ c.first_page.result =
     (slice_eq-Decides Decides-eqb _ _ c.eq.result c.eq.ensures).0 c.if-eq.true in
-    subst (λ (n : ℕ). Stands bytes 0 PAGE (first_page n)) blocks
+    subst (λ (n : ℕ). AreAt bytes 0 PAGE (first_page n)) blocks
     (padded_back bytes 0 0 c.read_at.new.buf (first_page c.blocks-2.result) PAGE
     (c.in_ok-read_at.ensures.bytes bytes gave) wide refl
     (subst (λ (page : List ℕ). IsPadded page (first_page c.blocks-2.result)) (sym same) c.first_page.ensures))
 
-pub returns-else-eq-clause-said : goal.returns-else-eq-clause-said
-returns-else-eq-clause-said g c bytes gave stands =
+pub returns-else-eq-clause-decoded : goal.returns-else-eq-clause-decoded
+returns-else-eq-clause-decoded g c bytes gave are_at =
     let wide : length c.read_at.new.buf ≡ PAGE = search rules in
     let long : length c.first_page.result ≡ PAGE = search rules in
     let blocks : c.blocks-2.result ≡ c.args.layout.now = c.blocks-2.ensures.same in
-    let there = subst (λ (n : ℕ). Stands bytes 0 PAGE (first_page n)) (sym blocks) stands in
+    let there = subst (λ (n : ℕ). AreAt bytes 0 PAGE (first_page n)) (sym blocks) are_at in
     let padded =
     read_padded bytes 0 0 c.read_at.new.buf (first_page c.blocks-2.result) PAGE
     (c.in_ok-read_at.ensures.bytes bytes gave) wide refl (omega (arith, length-first c.blocks-2.result)) there in

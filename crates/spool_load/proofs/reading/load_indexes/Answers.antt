@@ -23,14 +23,14 @@ area_there x bytes place area now read long same there = subst (IsAreaOf x) same
   bytes = λ i lt. read.each i (omega (arith, long, lt)) ∙ there i lt;
 })
 
-pub returns-in-Ok-clause-said : goal.returns-in-Ok-clause-said
-returns-in-Ok-clause-said g c bytes gave x valid there =
+pub returns-in-Ok-clause-decoded : goal.returns-in-Ok-clause-decoded
+returns-in-Ok-clause-decoded g c bytes gave x valid there =
     c.in-Ok.ensures.given_back x valid
     (area_there x bytes _ _ _ (c.in_ok-area.ensures.read bytes gave) c.in_ok-area.ensures.long (search rules) there)
 
-pub returns-clause-said : goal.returns-clause-said
-returns-clause-said g c bytes gave x valid there =
-    let told =
+pub returns-clause-decoded : goal.returns-clause-decoded
+returns-clause-decoded g c bytes gave x valid there =
+    let shown =
     c.from_area.ensures.given_back x valid
     (area_there x bytes _ _ _ (c.in_ok-area.ensures.read bytes gave) c.in_ok-area.ensures.long (search rules) there) in
     search rules

@@ -1,6 +1,6 @@
 use Rattle.std.proofs.Common.{◌≡◌, ◌+◌, ℕ, length, rules, arith}
 use Rattle.spool_pages.specs.View.{index_place}
-use Rattle.spool_pages.proofs.Says.{some_journal}
+use Rattle.spool_pages.proofs.Encodes.{some_journal}
 use Rattle.spool_load.proofs.Looks.{before_texts, read_more}
 use Rattle.spool_load.proofs.reading.push_area_page.Goals as goal
 

@@ -2,7 +2,7 @@ use Rattle.std.proofs.Common.{◌≡◌, ◌∙◌, ap, length, sym, rules}
 use Rattle.spool_disk.specs.Disk.{span}
 use Rattle.spool_disk.proofs.Firm.{lasts_call}
 use Rattle.spool_disk.proofs.Gave.{read_grew}
-use Rattle.spool_journal.proofs.Recovers.{still_keeps, still_image}
+use Rattle.spool_journal.proofs.Recovers.{still_preserves, still_image}
 use Rattle.spool_load.proofs.Looks.{on_ok_more, read_bytes, read_gave, read_given, still_span}
 use Rattle.spool_load.proofs.reading.read_at.Goals as goal
 
@@ -18,10 +18,10 @@ returns-clause-reads g c =
           λ honest bytes still. read_gave _ _ bytes c.read.result c.read.ensures.given c.read.ensures.none
           (λ done. ap (span bytes c.args.place) wide ∙ still_span _ bytes c.args.place _ still
           ∙ sym (c.read.ensures.bytes honest done));
-      still = λ honest bytes still. still_keeps still (c.read.ensures.keeps honest);
+      still = λ honest bytes still. still_preserves still (c.read.ensures.preserves honest);
       lasts =
           λ honest bytes still. lasts_call (c.read.ensures.time honest)
-          (λ image is. still_image (still_keeps still (c.read.ensures.keeps honest)) is);
+          (λ image is. still_image (still_preserves still (c.read.ensures.preserves honest)) is);
     }
 
 pub returns-clause-bytes : goal.returns-clause-bytes

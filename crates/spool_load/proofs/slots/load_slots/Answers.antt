@@ -3,14 +3,14 @@ use Rattle.spool_journal.proofs.Steps.{no_failure}
 use Rattle.spool_load.proofs.Looks.{gave_first, gave_rest, reads_none, reads_on, ok_no_fault, prefix_all}
 use Rattle.spool_load.proofs.slots.load_slots.Goals as goal
 
-pub returns-in_err-push_slot-clause-said : goal.returns-in_err-push_slot-clause-said
-returns-in_err-push_slot-clause-said g c bytes gave said long fits stands =
+pub returns-in_err-push_slot-clause-decoded : goal.returns-in_err-push_slot-clause-decoded
+returns-in_err-push_slot-clause-decoded g c bytes gave decoded long fits are_at =
     let inv = c.loop-slot.invariant in
     let s = c.loop-slot.slot in
     let before = gave_first inv.reads c.push_slot.ensures.reads gave in
     let pushed =
-    c.in_err-push_slot.ensures.said bytes (gave_rest inv.reads c.push_slot.ensures.reads gave) said long (fits s)
-    (stands s (omega arith)) inv.long (inv.said bytes before said long fits stands) in
+    c.in_err-push_slot.ensures.decoded bytes (gave_rest inv.reads c.push_slot.ensures.reads gave) decoded long (fits s)
+    (are_at s (omega arith)) inv.long (inv.decoded bytes before decoded long fits are_at) in
     search rules
 
 pub loop-slot-preserved : goal.loop-slot-preserved
@@ -21,20 +21,20 @@ loop-slot-preserved g c =
       reads = reads_on inv.reads c.push_slot.ensures.reads;
       counts = no_failure c.push_slot.ensures.counts (ok_no_fault _ _ c.in_ok-push_slot.was) ∙ inv.counts;
       long = c.in_ok-push_slot.ensures.long ∙ ap (λ (n : ℕ). n + 1) inv.long;
-      said =
-          λ bytes gave said long fits stands. c.in_ok-push_slot.ensures.said bytes
-          (gave_rest inv.reads c.push_slot.ensures.reads gave) said long (fits s) (stands s (omega arith)) inv.long
-          (inv.said bytes (gave_first inv.reads c.push_slot.ensures.reads gave) said long fits stands);
+      decoded =
+          λ bytes gave decoded long fits are_at. c.in_ok-push_slot.ensures.decoded bytes
+          (gave_rest inv.reads c.push_slot.ensures.reads gave) decoded long (fits s) (are_at s (omega arith)) inv.long
+          (inv.decoded bytes (gave_first inv.reads c.push_slot.ensures.reads gave) decoded long fits are_at);
       valid =
           λ bytes gave. c.in_ok-push_slot.ensures.valid bytes (gave_rest inv.reads c.push_slot.ensures.reads gave)
           inv.long (inv.valid bytes (gave_first inv.reads c.push_slot.ensures.reads gave));
       fits = c.in_ok-push_slot.ensures.fits inv.fits;
     }
 
-pub returns-clause-said : goal.returns-clause-said
-returns-clause-said g c bytes gave said long fits stands =
+pub returns-clause-decoded : goal.returns-clause-decoded
+returns-clause-decoded g c bytes gave decoded long fits are_at =
     let inv = c.loop-slot.invariant in
-    prefix_all said c.loop-slot.slots.items (inv.said bytes gave said long fits stands)
+    prefix_all decoded c.loop-slot.slots.items (inv.decoded bytes gave decoded long fits are_at)
     (omega (arith, inv.long, long))
 
 pub loop-slot-init : goal.loop-slot-init
@@ -44,7 +44,7 @@ loop-slot-init g c =
       reads = reads_none c.args.disk.now;
       counts = refl;
       long = empty;
-      said = λ bytes gave said long fits stands. record {
+      decoded = λ bytes gave decoded long fits are_at. record {
         few = omega (arith, empty);
         each = λ k below. absurd (omega (arith, below, empty));
       };

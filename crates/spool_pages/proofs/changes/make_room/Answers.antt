@@ -6,7 +6,7 @@ use Rattle.spool_pages.proofs.changes.make_room.Goals as goal
 
 absent : (page : ℕ) (pages : List (ℕ × List ℕ)) (there : Bool) → (IsSome (page_in page pages) → IsTrue there)
     → there ≡ false → page_in page pages ≡ None
-absent page pages there told is = grind arith
+absent page pages there shown is = grind arith
 
 pub put-requires : goal.put-requires
 put-requires c = number_none c.args.page c.args.pages.now

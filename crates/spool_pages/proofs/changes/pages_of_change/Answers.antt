@@ -1,7 +1,7 @@
 use Rattle.std.proofs.Common.{◌∙◌, ◌+◌, option_copied, get_or, below_more, refl, sym, rules, arith}
 use Rattle.spool_journal.specs.Image.{journal_pages}
 use Rattle.spool_pages.specs.Changes.{row_number}
-use Rattle.spool_pages.proofs.Changed.{room_some, room_changes, said_beside}
+use Rattle.spool_pages.proofs.Changed.{room_some, room_changes, encodes_beside}
 use Rattle.spool_pages.proofs.PageIn.{in_put, in_none, still_some}
 use Rattle.spool_pages.proofs.changes.pages_of_change.Goals as goal
 
@@ -35,8 +35,8 @@ returns-clause-some c = room_some c.loop-block.pages (282 + journal_pages c.args
 pub returns-clause-changes : goal.returns-clause-changes
 returns-clause-changes c v blocks version slots beside rows same =
     room_changes c.loop-block.pages c.new-pages.ensures c.in_ok-put.ensures.put v c.args.slot
-    (option_copied c.args.kept) c.args.blocks.now rows
+    (option_copied c.args.own) c.args.blocks.now rows
     (rw (sym blocks) at c.loop-block.invariant.prefix)
     (λ i lt. rw blocks (c.loop-block.invariant.there i (omega (arith, lt))))
-    (rw blocks c.record_number-last.ensures.number) c.requires.slot slots (rw version c.page_with.ensures.kept)
-    (said_beside v c.args.slot c.page_with.result version beside c.page_with.ensures.beside) same
+    (rw blocks c.record_number-last.ensures.number) c.requires.slot slots (rw version c.page_with.ensures.own)
+    (encodes_beside v c.args.slot c.page_with.result version beside c.page_with.ensures.beside) same

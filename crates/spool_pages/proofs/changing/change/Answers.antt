@@ -2,7 +2,7 @@ use Rattle.std.proofs.Common.{◌⊎◌, inl, inr, ◌∙◌, arith, ⊎_elim}
 use Rattle.spool_disk.proofs.Firm.{lasts_more, on_more}
 use Rattle.spool_journal.specs.Image.{journal_pages, laid}
 use Rattle.spool_journal.specs.Phases.{IsBefore, ReadsAs}
-use Rattle.spool_pages.proofs.Laid.{changed_says, laid_out}
+use Rattle.spool_pages.proofs.Laid.{changed_encodes, laid_out}
 use Rattle.spool_pages.proofs.Resting.{rests_idle, rests_before, reads_is, settled_rests}
 use Rattle.spool_pages.proofs.changing.change.Goals as goal
 
@@ -10,7 +10,7 @@ pub returns-clause-done : goal.returns-clause-done
 returns-clause-done g c honest v v' size rests changes texts =
     on_more c.commit.result (c.commit.ensures.done honest (rests_idle size rests) c.requires.some)
     (λ settled. settled_rests (changes.others.blocks ∙ size) settled
-    (changed_says size c.requires.area rests c.commit.ensures.ascends changes texts))
+    (changed_encodes size c.requires.area rests c.commit.ensures.ascends changes texts))
 
 pub returns-clause-laid : goal.returns-clause-laid
 returns-clause-laid g c honest v size rests =
@@ -31,5 +31,5 @@ returns-clause-lasts g c honest v v' size rests changes texts =
     (λ before. inl (rests_before image size rests before))
     (λ reads. inr (reads_is image (laid c.args.pages.now (g.D.Disk.current c.args.disk.now)) v'
     (changes.others.blocks ∙ size) reads
-    (changed_says size c.requires.area rests c.commit.ensures.ascends changes texts)))
+    (changed_encodes size c.requires.area rests c.commit.ensures.ascends changes texts)))
     either)

@@ -2,9 +2,9 @@ use Rattle.std.proofs.Common.{rules, refl, ◌≡◌, ◌+◌, ℕ, ◌↔◌, [
 use Rattle.spool_journal.specs.declared.TheConstants.{PAGE}
 use Rattle.spool_journal.specs.Image.{byte_of}
 use Rattle.spool_pages.specs.Bytes.{IsPadded}
-use Rattle.spool_pages.specs.View.{Stands, first_page, state_page}
-use Rattle.spool_pages.proofs.Blank.{with_blank_rest, blank_rest, padded_of_stands}
-use Rattle.spool_pages.proofs.RecordBytes.{padded_stands}
+use Rattle.spool_pages.specs.View.{AreAt, first_page, state_page}
+use Rattle.spool_pages.proofs.Blank.{with_blank_rest, blank_rest, padded_of_at}
+use Rattle.spool_pages.proofs.RecordBytes.{padded_at}
 use Rattle.spool_pages.proofs.pages.is_blank_after_fields.Goals as goal
 
 module _ (page fields : List ℕ) (full : length page ≡ PAGE) (long : length fields ≡ 12)
@@ -12,11 +12,11 @@ module _ (page fields : List ℕ) (full : length page ≡ PAGE) (long : length f
   all : 12 + 4084 ≡ length page
   all = omega (arith, full)
 
-  both : Stands (byte_of page) 0 12 fields → blank ↔ Stands (byte_of page) 0 PAGE fields
+  both : AreAt (byte_of page) 0 12 fields → blank ↔ AreAt (byte_of page) 0 PAGE fields
   both prefix = (
-    λ yes. padded_stands PAGE (with_blank_rest page 12 4084 all fields long prefix (exact.0 yes)),
+    λ yes. padded_at PAGE (with_blank_rest page 12 4084 all fields long prefix (exact.0 yes)),
     λ whole.
-        let padded = padded_of_stands page fields PAGE full (omega (arith, long)) whole in
+        let padded = padded_of_at page fields PAGE full (omega (arith, long)) whole in
         exact.1 (blank_rest page 12 4084 all fields long padded),
   )
 

@@ -1,8 +1,8 @@
-use Rattle.spool_pages.proofs.Resting.{rests_keeps, rests_writes, rests_aside, rests_but}
+use Rattle.spool_pages.proofs.Resting.{rests_preserve, rests_writes, rests_aside, rests_but}
 use Rattle.spool_pages.proofs.rests.resting_writes.Goals as goal
 
 pub returns-clause-reads : goal.returns-clause-reads
-returns-clause-reads g c v old new rests keeps = rests_keeps rests keeps
+returns-clause-reads g c v old new rests preserves = rests_preserve rests preserves
 
 pub returns-clause-writes : goal.returns-clause-writes
 returns-clause-writes g c v n blocks old new size rests unowned writes = rests_writes blocks size rests unowned writes

@@ -10,5 +10,5 @@ returns-clause-free c = (
 )
 
 pub returns-clause-only : goal.returns-clause-only
-returns-clause-only c free k lt row fits stands =
-    free_only c.args.page.now (8 * k) row (c.is_blank.ensures.0 free) fits stands
+returns-clause-only c free k lt row fits are_at =
+    free_only c.args.page.now (8 * k) row (c.is_blank.ensures.0 free) fits are_at

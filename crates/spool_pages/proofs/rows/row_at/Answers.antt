@@ -3,34 +3,34 @@ use Rattle.std.proofs.Common.{◌⊎◌, inl, inr, sym}
 use Rattle.std.specs.Int.{to_be_bytes, w32}
 use Rattle.spool_journal.specs.Image.{byte_of}
 use Rattle.spool_pages.specs.Fits.{FitsRow}
-use Rattle.spool_pages.specs.View.{Stands, row_bytes}
+use Rattle.spool_pages.specs.View.{AreAt, row_bytes}
 use Rattle.spool_pages.proofs.RowBytes.{slot_at, ordinal_at, free_at, free_ordinal_at, owned_at, free_of_zeros}
 use Rattle.spool_pages.proofs.rows.row_at.Goals as goal
 
 module _ (page : List ℕ) (at slot ordinal : ℕ)
-    (slot_is : (n : ℕ) → n < 2 ^ 32 → Stands (byte_of page) at 4 (to_be_bytes w32 n) → slot ≡ n)
-    (ordinal_is : (n : ℕ) → n < 2 ^ 32 → Stands (byte_of page) (at + 4) 4 (to_be_bytes w32 n) → ordinal ≡ n) where
+    (slot_is : (n : ℕ) → n < 2 ^ 32 → AreAt (byte_of page) at 4 (to_be_bytes w32 n) → slot ≡ n)
+    (ordinal_is : (n : ℕ) → n < 2 ^ 32 → AreAt (byte_of page) (at + 4) 4 (to_be_bytes w32 n) → ordinal ≡ n) where
   -- what the two fields are of a row that stands there
-  fields : (row : Option (ℕ × ℕ)) → FitsRow row → Stands (byte_of page) at 8 (row_bytes row)
+  fields : (row : Option (ℕ × ℕ)) → FitsRow row → AreAt (byte_of page) at 8 (row_bytes row)
       → ((row ≡ None) × (slot ≡ 0) × (ordinal ≡ 0)) ⊎ ((0 < slot) × (row ≡ Some (slot - 1, ordinal)))
-  fields None fits stands = inl (
+  fields None fits are_at = inl (
     refl,
-    slot_is 0 (omega arith) (free_at (byte_of page) at stands),
-    ordinal_is 0 (omega arith) (free_ordinal_at (byte_of page) at stands),
+    slot_is 0 (omega arith) (free_at (byte_of page) at are_at),
+    ordinal_is 0 (omega arith) (free_ordinal_at (byte_of page) at are_at),
   )
-  fields (Some o) fits stands =
-      let is = slot_is (o.0 + 1) fits.0 (slot_at (byte_of page) at o.0 o.1 stands) in
-      let same = ordinal_is o.1 fits.1 (ordinal_at (byte_of page) at o.0 o.1 stands) in
+  fields (Some o) fits are_at =
+      let is = slot_is (o.0 + 1) fits.0 (slot_at (byte_of page) at o.0 o.1 are_at) in
+      let same = ordinal_is o.1 fits.1 (ordinal_at (byte_of page) at o.0 o.1 are_at) in
       inr (omega arith, grind arith)
 
-  owned : 0 < slot → (row : Option (ℕ × ℕ)) → FitsRow row → Stands (byte_of page) at 8 (row_bytes row)
+  owned : 0 < slot → (row : Option (ℕ × ℕ)) → FitsRow row → AreAt (byte_of page) at 8 (row_bytes row)
       → Some (slot - 1, ordinal) ≡ row
-  owned some row fits stands = let row_is = fields row fits stands in grind arith
+  owned some row fits are_at = let row_is = fields row fits are_at in grind arith
 
-pub returns-then-slot-gt0-clause-said : goal.returns-then-slot-gt0-clause-said
-returns-then-slot-gt0-clause-said c row fits stands =
+pub returns-then-slot-gt0-clause-encoded : goal.returns-then-slot-gt0-clause-encoded
+returns-then-slot-gt0-clause-encoded c row fits are_at =
     ap Ok (owned c.args.page.now c.args.at _ _ c.get_u32-slot.ensures.is c.get_u32-ordinal.ensures.is
-    c.if-slot-gt0.true row fits stands)
+    c.if-slot-gt0.true row fits are_at)
 
 pub returns-then-slot-gt0-clause-valid : goal.returns-then-slot-gt0-clause-valid
 returns-then-slot-gt0-clause-valid c =
@@ -39,16 +39,16 @@ returns-then-slot-gt0-clause-valid c =
     owned_at (byte_of c.args.page.now) c.args.at (n - 1) c.get_u32-ordinal.result
     (rw (sym is) c.get_u32-slot.ensures.there) c.get_u32-ordinal.ensures.there
 
-pub returns-then-ordinal-gt0-clause-said : goal.returns-then-ordinal-gt0-clause-said
-returns-then-ordinal-gt0-clause-said c row fits stands =
+pub returns-then-ordinal-gt0-clause-encoded : goal.returns-then-ordinal-gt0-clause-encoded
+returns-then-ordinal-gt0-clause-encoded c row fits are_at =
     let row_is = fields c.args.page.now c.args.at _ _ c.get_u32-slot.ensures.is c.get_u32-ordinal.ensures.is row fits
-    stands in
+    are_at in
     absurd (grind (arith, c.if-slot-gt0.false, c.if-ordinal-gt0.true))
 
-pub returns-clause-said : goal.returns-clause-said
-returns-clause-said c row fits stands =
+pub returns-clause-encoded : goal.returns-clause-encoded
+returns-clause-encoded c row fits are_at =
     let row_is = fields c.args.page.now c.args.at _ _ c.get_u32-slot.ensures.is c.get_u32-ordinal.ensures.is row fits
-    stands in
+    are_at in
     grind (arith, c.if-slot-gt0.false)
 
 pub returns-clause-valid : goal.returns-clause-valid

@@ -4,7 +4,7 @@ use Rattle.spool_journal.specs.Image.{journal_pages}
 use Rattle.spool_journal.proofs.Puts.{put_area, put_length}
 use Rattle.spool_pages.specs.Changes.{state_number}
 use Rattle.spool_pages.proofs.PageIn.{in_none, in_put, in_put_else, number_none}
-use Rattle.spool_pages.proofs.RecordBytes.{padded_stands}
+use Rattle.spool_pages.proofs.RecordBytes.{padded_at}
 use Rattle.spool_pages.proofs.Upgraded.{slots_more, upgraded_changes}
 use Rattle.spool_pages.proofs.upgrading.pages_of_upgrade.Goals as goal
 
@@ -23,7 +23,7 @@ loop-pair-init c =
           c.state_number.ensures.inside;
       count = let no : length c.new-pages.result ≡ 0 = ap length empty in omega (arith, put_length put, no);
       state = refl;
-      says = λ s lt. absurd (omega (arith, lt));
+      encodes = λ s lt. absurd (omega (arith, lt));
       none = λ q from. in_put_else put q (λ e. omega (arith, e, from, c.state_number.ensures.number))
           ∙ in_none q c.new-pages.result empty;
     }
@@ -40,7 +40,7 @@ loop-pair-preserved c =
       area = put_area put inv.area c.record_number.ensures.inside;
       count = omega (arith, put_length put, inv.count);
       state = in_put_else put (state_number n) (λ e. omega (arith, e, here)) ∙ inv.state;
-      says = slots_more n c.loop-pair.pair c.args.slots.now put here inv.says none c.pair_page.ensures.first
+      encodes = slots_more n c.loop-pair.pair c.args.slots.now put here inv.encodes none c.pair_page.ensures.first
           c.pair_page.ensures.second;
       none = λ q from. in_put_else put q (λ e. omega (arith, e, here, from)) ∙ inv.none q (omega (arith, from));
     }
@@ -52,6 +52,6 @@ returns-clause-changes c v size next slots =
     upgraded_changes n c.loop-pair.pages c.args.slots.now c.args.next c.state_page.result
     (inv.state ∙ rw c.state_number.ensures.number at (in_put c.in_ok-put.ensures.put
     (in_none c.state_number.result c.new-pages.result c.new-pages.ensures)))
-    (padded_stands PAGE c.state_page.ensures)
-    (λ s lt. inv.says s (omega (arith, lt, c.loop-pair-test.false)))
+    (padded_at PAGE c.state_page.ensures)
+    (λ s lt. inv.encodes s (omega (arith, lt, c.loop-pair-test.false)))
     (λ q from. inv.none q (omega (arith, from, c.loop-pair.auto.pair-end))) v size next slots

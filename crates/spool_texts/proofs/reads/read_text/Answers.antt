@@ -2,7 +2,7 @@ use Rattle.std.proofs.Common.{◌≤◌, length, ◌-◌, arith, ◌∙◌, take
 use Rattle.spool_disk.proofs.Firm.{lasts_on, lasts_more, not_err}
 use Rattle.spool_journal.specs.Image.{text_page}
 use Rattle.spool_journal.proofs.Steps.{no_failure}
-use Rattle.spool_texts.proofs.Pieces.{bytes_on, rest_on, all_read, keeps_on, image_keeps}
+use Rattle.spool_texts.proofs.Pieces.{bytes_on, rest_on, all_read, preserves_on, image_preserves}
 use Rattle.spool_texts.proofs.reads.read_text.Goals as goal
 
 pub loop-done-preserved : goal.loop-done-preserved
@@ -18,9 +18,9 @@ loop-done-preserved g c =
       back = λ honest. inv.back (c.read_piece.ensures.honest.1 honest);
       later = omega (arith, inv.later, c.read_piece.ensures.later);
       counts = no_failure c.read_piece.ensures.counts (not_err _ _ c.in_ok-done.was) ∙ inv.counts;
-      keeps = λ honest. keeps_on (inv.keeps honest) (c.read_piece.ensures.keeps (inv.honest honest));
+      preserves = λ honest. preserves_on (inv.preserves honest) (c.read_piece.ensures.preserves (inv.honest honest));
       lasts = λ honest. lasts_on (inv.lasts honest)
-          (lasts_more (c.read_piece.ensures.lasts (inv.honest honest)) (λ image is. image_keeps (inv.keeps honest) is));
+          (lasts_more (c.read_piece.ensures.lasts (inv.honest honest)) (λ image is. image_preserves (inv.preserves honest) is));
       within = omega (
         arith,
         few,
@@ -29,10 +29,10 @@ loop-done-preserved g c =
         inv.within,
       );
       bytes = λ honest. bytes_on _ _ c.args.at c.loop-done.done c.min-count.result c.in_ok-done.field-0 c.args.buf.now
-          c.loop-done.buf c.read_piece.new.buf (inv.keeps honest) inv.within fits few
+          c.loop-done.buf c.read_piece.new.buf (inv.preserves honest) inv.within fits few
           (c.in_ok-done.ensures.piece (inv.honest honest)) (inv.bytes honest);
       rest = λ honest. rest_on _ _ c.args.at c.loop-done.done c.min-count.result c.in_ok-done.field-0 c.args.buf.now
-          c.loop-done.buf c.read_piece.new.buf (inv.keeps honest) inv.within fits few
+          c.loop-done.buf c.read_piece.new.buf (inv.preserves honest) inv.within fits few
           (c.in_ok-done.ensures.piece (inv.honest honest)) (inv.rest honest);
     }
 

@@ -1,5 +1,5 @@
 use Rattle.std.proofs.Common.{◌-◌, ◌≡◌, ◌≤◌, ◌+◌, get_or, ℕ, ◌<◌}
-use Rattle.spool_disk.specs.Disk.{IsImage, Keeps}
+use Rattle.spool_disk.specs.Disk.{IsImage, Preserves}
 use Rattle.spool_disk.specs.Views.{Lasts}
 use Rattle.spool_journal.specs.Image.{text_page}
 use Rattle.spool_texts.specs.Reading.{byte_on}
@@ -12,7 +12,7 @@ invariant-loop-done g l = record {
   back : g.D.Disk.honest l.disk → g.D.Disk.honest l.fn.disk;
   later : g.D.Disk.moment l.fn.disk ≤ g.D.Disk.moment l.disk;
   counts : g.D.Disk.failures l.disk ≡ g.D.Disk.failures l.fn.disk;
-  keeps : g.D.Disk.honest l.fn.disk → Keeps (g.D.Disk.current l.fn.disk) (g.D.Disk.current l.disk)
+  preserves : g.D.Disk.honest l.fn.disk → Preserves (g.D.Disk.current l.fn.disk) (g.D.Disk.current l.disk)
       (g.D.Disk.unsynced l.fn.disk)
       (g.D.Disk.unsynced l.disk);
   lasts : g.D.Disk.honest l.fn.disk → Lasts g.D.Disk l.fn.disk l.disk

@@ -10,8 +10,8 @@ use Rattle.tus_action.proofs.Pieces.{given_piece, piece_left, piece_size_is, rea
 use Rattle.tus_action.proofs.reads.give_more.Goals as goal
 
 pub returns-in-Ok-extend_from_slice-clause-answer : goal.returns-in-Ok-extend_from_slice-clause-answer
-returns-in-Ok-extend_from_slice-clause-answer g c = λ sure w h stands is.
-    let a = c.in-Ok.ensures.answer sure w stands in
+returns-in-Ok-extend_from_slice-clause-answer g c = λ sure w h represents is.
+    let a = c.in-Ok.ensures.answer sure w represents in
     let up = read_there w.store c.args.giving.number h.number is.number a.0 in
     let gives = is.there up.0 up.1 in
     let n : ℕ = c.min-count.result in
@@ -39,18 +39,18 @@ returns-in-Ok-extend_from_slice-clause-answer g c = λ sure w h stands is.
     )
 
 pub returns-in-Err-clause-answer : goal.returns-in-Err-clause-answer
-returns-in-Err-clause-answer g c = λ sure w h stands is.
-    let a = c.in-Ok.ensures.answer sure w stands in
+returns-in-Err-clause-answer g c = λ sure w h represents is.
+    let a = c.in-Ok.ensures.answer sure w represents in
     let up = read_there w.store c.args.giving.number h.number is.number a.0 in
     (ap is_there up.1, a.1.1, c.in-Err.ensures.items)
 
 pub returns-in-Err-Refused-clause-answer : goal.returns-in-Err-Refused-clause-answer
-returns-in-Err-Refused-clause-answer g c = λ sure w h stands is.
-    let a = refused_answer _ _ _ _ _ c.in-Err-Refused.field-0-is (c.in-Err-Refused.ensures.answer sure w stands) in
+returns-in-Err-Refused-clause-answer g c = λ sure w h represents is.
+    let a = refused_answer _ _ _ _ _ c.in-Err-Refused.field-0-is (c.in-Err-Refused.ensures.answer sure w represents) in
     (a.1, refused_gone sure w.store c.args.giving.number h _ c.args.out.now.items is.number a.0)
 
 pub returns-in-Err-Stop-clause-answer : goal.returns-in-Err-Stop-clause-answer
-returns-in-Err-Stop-clause-answer g c = λ sure w h stands is.
+returns-in-Err-Stop-clause-answer g c = λ sure w h represents is.
     rw c.in-Err-Stop.stop-is (stops_read g.U.Uploads sure c.read_text.new.self w c.args.giving.number h
     c.in-Err-Stop.stop _ c.args.out.now.items _ is.number c.in-Err-Stop.field-0-is
-    (c.in-Err-Stop.ensures.answer sure w stands))
+    (c.in-Err-Stop.ensures.answer sure w represents))

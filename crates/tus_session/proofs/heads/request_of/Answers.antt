@@ -3,42 +3,42 @@ use Rattle.std.proofs.lemmas.Result.{err_from_is_err_and}
 use Rattle.tus_request.specs.Shown.{request_shown}
 use Rattle.tus_action.specs.declared.bodies.OpenPatch.{OpenPatch}
 use Rattle.tus_session.proofs.Feeding.{head_stopped}
-use Rattle.tus_session.proofs.HeadTold.{slice_is, slice_rest, head_limits, nothing_told, text_told, begun, patch_opened}
-use Rattle.tus_session.proofs.HeadTold.{patch_limits}
+use Rattle.tus_session.proofs.HeadResults.{slice_is, slice_rest, head_limits, nothing_replied, text_recorded, begun, patch_opened}
+use Rattle.tus_session.proofs.HeadResults.{patch_limits}
 use Rattle.tus_session.proofs.heads.request_of.Goals as goal
 
 pub returns-in_err-done-clause-crash : goal.returns-in_err-done-clause-crash
-returns-in_err-done-clause-crash g c w conn h n stands is =
-    head_limits w conn h _ n _ _ is (c.act.ensures.crash w stands)
+returns-in_err-done-clause-crash g c w conn h n represents is =
+    head_limits w conn h _ n _ _ is (c.act.ensures.crash w represents)
 
 pub returns-in_err-done-clause-answer : goal.returns-in_err-done-clause-answer
-returns-in_err-done-clause-answer g c sure w conn h n stands is =
+returns-in_err-done-clause-answer g c sure w conn h n represents is =
     let stopped = err_from_is_err_and c.from_residual.result c.from_residual.ensures.1 in
     rw (stopped.1, stopped.2) (head_stopped g.U.Uploads sure _ c.in_err-done.field-0.0 _ _ w conn _ _ is.inside.draft
-    (c.in_err-done.ensures.answer sure w stands))
+    (c.in_err-done.ensures.answer sure w represents))
 
 pub returns-in-Replied-clause-crash : goal.returns-in-Replied-clause-crash
-returns-in-Replied-clause-crash g c w conn h n stands is =
-    head_limits w conn h _ n _ _ is (c.act.ensures.crash w stands)
+returns-in-Replied-clause-crash g c w conn h n represents is =
+    head_limits w conn h _ n _ _ is (c.act.ensures.crash w represents)
 
 pub returns-in-Giving-clause-crash : goal.returns-in-Giving-clause-crash
-returns-in-Giving-clause-crash g c w conn h n stands is =
-    head_limits w conn h _ n _ _ is (c.act.ensures.crash w stands)
+returns-in-Giving-clause-crash g c w conn h n represents is =
+    head_limits w conn h _ n _ _ is (c.act.ensures.crash w represents)
 
 pub returns-in-Replied-clause-answer : goal.returns-in-Replied-clause-answer
-returns-in-Replied-clause-answer g c sure w conn h n stands is =
-    nothing_told w conn h c.args.bytes.now n c.args.before _ is g.U.Uploads sure _ _ _ c.in-Replied.closes _ _
-    c.args.head _ (rw c.in-Replied.is at (c.in_ok-done.ensures.answer sure w stands))
+returns-in-Replied-clause-answer g c sure w conn h n represents is =
+    nothing_replied w conn h c.args.bytes.now n c.args.before _ is g.U.Uploads sure _ _ _ c.in-Replied.closes _ _
+    c.args.head _ (rw c.in-Replied.is at (c.in_ok-done.ensures.answer sure w represents))
     (slice_rest c.args.before c.args.bytes.now) c.skip.ensures.link c.requires.cleared c.skip.ensures.answer
 
 pub returns-in-Giving-clause-answer : goal.returns-in-Giving-clause-answer
-returns-in-Giving-clause-answer g c sure w conn h n stands is =
+returns-in-Giving-clause-answer g c sure w conn h n represents is =
     rw c.waits.ensures
-    (text_told w conn h c.args.bytes.now n c.args.before _ is g.U.Uploads sure _ c.in-Giving.giving _ _ c.args.head
-    (rw c.in-Giving.is at (c.in_ok-done.ensures.answer sure w stands)) c.requires.cleared)
+    (text_recorded w conn h c.args.bytes.now n c.args.before _ is g.U.Uploads sure _ c.in-Giving.giving _ _ c.args.head
+    (rw c.in-Giving.is at (c.in_ok-done.ensures.answer sure w represents)) c.requires.cleared)
 
 pub returns-in-Opened-clause-answer : goal.returns-in-Opened-clause-answer
-returns-in-Opened-clause-answer g c sure w conn h n stands is =
+returns-in-Opened-clause-answer g c sure w conn h n represents is =
     let r = request_shown c.args.request in
     let b : OpenPatch g.row.U-Draft.Denot = record {
       draft = c.in-Opened.draft;
@@ -47,8 +47,8 @@ returns-in-Opened-clause-answer g c sure w conn h n stands is =
       closes = c.args.request.closes;
     } in
     let x = begun g.U.Uploads sure w r _ c.act.new.store _ _ b
-    (rw c.in-Opened.is at (c.in_ok-done.ensures.answer sure w stands)) (c.reached_by-reached.ensures c.requires.small)
-    refl refl (λ n up there. g.met.U.Uploads.below c.args.store.now sure w n up stands there) in
+    (rw c.in-Opened.is at (c.in_ok-done.ensures.answer sure w represents)) (c.reached_by-reached.ensures c.requires.small)
+    refl refl (λ n up there. g.met.U.Uploads.below c.args.store.now sure w n up represents there) in
     let p = x.patches in
     let body = c.body_of-turned.ensures in
     rw c.back_to.ensures.same
@@ -62,7 +62,7 @@ returns-in-Opened-clause-answer g c sure w conn h n stands is =
     }) c.back_to.ensures.back)
 
 pub returns-in-Opened-clause-crash : goal.returns-in-Opened-clause-crash
-returns-in-Opened-clause-crash g c w conn h n stands is =
+returns-in-Opened-clause-crash g c w conn h n represents is =
     let r = request_shown c.args.request in
     let b : OpenPatch g.row.U-Draft.Denot = record {
       draft = c.in-Opened.draft;
@@ -71,10 +71,10 @@ returns-in-Opened-clause-crash g c w conn h n stands is =
       closes = c.args.request.closes;
     } in
     let x = begun g.U.Uploads true w r _ c.act.new.store _ _ b
-    (rw c.in-Opened.is at (c.in_ok-done.ensures.answer true w stands)) (c.reached_by-reached.ensures c.requires.small)
-    refl refl (λ n up there. g.met.U.Uploads.below c.args.store.now true w n up stands there) in
+    (rw c.in-Opened.is at (c.in_ok-done.ensures.answer true w represents)) (c.reached_by-reached.ensures c.requires.small)
+    refl refl (λ n up there. g.met.U.Uploads.below c.args.store.now true w n up represents there) in
     let p = x.patches in
     patch_limits g.U.Uploads true w conn h c.args.bytes.now n c.args.before _ is b c.act.new.store _ _ x _
-    (slice_is c.args.before c.args.bytes.now) (c.act.ensures.crash w stands)
+    (slice_is c.args.before c.args.bytes.now) (c.act.ensures.crash w represents)
     (λ few. c.body_of-turned.ensures.part_crash few _ _ x.shown p.found p.holds)
     (λ enough. c.body_of-turned.ensures.rest_crash enough _ _ r x.shown p.found p.holds (omega arith))

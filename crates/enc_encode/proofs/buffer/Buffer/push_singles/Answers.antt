@@ -1,6 +1,6 @@
 use Rattle.std.proofs.Common.{take}
 use Rattle.enc_encode.specs.Runs.{RunPrefix}
-use Rattle.enc_encode.specs.Singles.{IsSingle}
+use Rattle.enc_encode.specs.Singles.{IsSingleByte}
 use Rattle.enc_encode.proofs.Prefixes.{left_text}
 use Rattle.enc_encode.proofs.RunPrefixes.{run_none, run_both}
 use Rattle.enc_encode.proofs.buffer.Buffer.push_singles.Goals as goal
@@ -23,7 +23,7 @@ loop-len-preserved c =
       left_text rest p.prefix left v.0 p.own p.parts,
       c.put_run-end.ensures.more.1,
       c.put_run-end.array_long,
-      run_both (IsSingle c.args.pointers.now) c.args.text.now rest left c.args.self.now
+      run_both (IsSingleByte c.args.pointers.now) c.args.text.now rest left c.args.self.now
           (take c.loop-len.len c.loop-len.self-inside.bytes)
           (take c.put_run-end.result.1 c.put_run-end.new.held) v.3
           p,
@@ -31,7 +31,7 @@ loop-len-preserved c =
 
 pub returns : goal.returns
 returns c =
-    let gives = IsSingle c.args.pointers.now in
+    let gives = IsSingleByte c.args.pointers.now in
     let text = c.args.text.now in
     let held = c.args.self.now in
     let rest = c.loop-len-test.rest.now in

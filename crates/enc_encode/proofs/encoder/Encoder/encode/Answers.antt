@@ -2,7 +2,7 @@ use Rattle.std.proofs.Common.{refl}
 use Rattle.std.proofs.lemmas.Result.{err_from_is_err_and}
 use Rattle.enc_model.specs.Encode.{encoder}
 use Rattle.enc_model.specs.Indexes.{tables}
-use Rattle.enc_encode.specs.Code.{bytes_of, written_of, final}
+use Rattle.enc_encode.specs.Code.{code_bytes, written_of, final}
 use Rattle.enc_encode.specs.State.{shift_of}
 use Rattle.enc_encode.proofs.Growth.{prefix}
 use Rattle.enc_encode.proofs.Final.{gave_after}
@@ -14,7 +14,7 @@ returns-in_err-append-in-Restore c =
     let i = c.self.inside in
     let w = encoder (tables c.args.set.now) i.to (shift_of c.in-Restore.next) c.args.c in
     let e = coded_twice (tables c.args.set.now) i.to i.mode (shift_of c.args.shift) c.args.c
-    (bytes_of c.in-Restore.bytes)
+    (code_bytes c.in-Restore.bytes)
     (shift_of c.in-Restore.next) w c.in-Restore.ensures refl in
     let p = err_from_is_err_and c.from_residual.result c.from_residual.ensures.1 in
     rw (← c.self.view_is, e, p.1, p.2)
@@ -24,11 +24,11 @@ pub returns-in_ok-append-in-Restore : goal.returns-in_ok-append-in-Restore
 returns-in_ok-append-in-Restore c =
     let i = c.self.inside in
     let e = coded_twice (tables c.args.set.now) i.to i.mode (shift_of c.args.shift) c.args.c
-    (bytes_of c.in-Restore.bytes)
+    (code_bytes c.in-Restore.bytes)
     (shift_of c.in-Restore.next) (written_of c.written-in-Restore.result)
     c.in-Restore.ensures c.written-in-Restore.ensures in
     rw (← c.self.view_is, e)
-    (gave_after (bytes_of c.in-Restore.bytes) (final i.mode
+    (gave_after (code_bytes c.in-Restore.bytes) (final i.mode
     (written_of c.written-in-Restore.result)) c.write_out.new.out
     c.write_out.result
     (rw c.as_slice.ensures at c.in_ok-append-in-Restore.ensures.grew) c.write_out.ensures)

@@ -49,17 +49,17 @@ loop-rest-preserved g c =
     let more = c.in_ok-next.ensures.ok in
     let new = c.hold_prefix.new in
     let left = c.push_run-rest.result.now in
-    let kept = c.push_run-rest.new.self in
+    let still_held = c.push_run-rest.new.self in
     let runs = c.push_run-rest.ensures in
     let text = left_text rest more.prefix after c.loop-rest.invariant.0 more.own more.parts in
     let by_prefix = prefix_then t e run rest after old [] c.loop-rest.out c.loop-rest.held new.out new.held
     c.loop-rest.shift (Ok next) c.loop-rest.invariant.1 more in
     let same : c.encoding_of-to.result ≡ e.to =
     c.encoding_of-to.ensures ∙ ap (λ (z : EncoderState). z.to) c.self.view_is in
-    let coded = stays_run t e.to e.mode (shift_of next) after left new.held kept (rw same at runs) in
-    let by_run = coded_held t e after left next new.out new.held kept coded in (
+    let coded = stays_run t e.to e.mode (shift_of next) after left new.held still_held (rw same at runs) in
+    let by_run = coded_held t e after left next new.out new.held still_held coded in (
       left_text after runs.prefix left text runs.own runs.parts,
-      prefix_then t e run after left old [] new.out new.held new.out kept next (Ok next) by_prefix by_run,
+      prefix_then t e run after left old [] new.out new.held new.out still_held next (Ok next) by_prefix by_run,
     )
 
 pub returns-in_err-flush : goal.returns-in_err-flush
@@ -67,18 +67,18 @@ returns-in_err-flush g c =
     let t = tables c.args.set.now in
     let e = c.args.self.now in
     let run = c.args.run.now in
-    let kept = prefix_all t e run c.loop-rest.rest.now c.args.out.now c.loop-rest.out c.loop-rest.held c.loop-rest.shift
+    let still_held = prefix_all t e run c.loop-rest.rest.now c.args.out.now c.loop-rest.out c.loop-rest.held c.loop-rest.shift
     c.loop-rest.invariant.1 c.loop-rest-test.ensures in
     let p = err_from_is_err_and c.from_residual-in_err-flush.result c.from_residual-in_err-flush.ensures.1 in
     rw (p.1, p.2) (unflushed (code_from t e (chars run)) c.args.out.now c.loop-rest.out c.flush.new.out c.loop-rest.held
-    c.loop-rest.shift kept c.in_err-flush.ensures.err)
+    c.loop-rest.shift still_held c.in_err-flush.ensures.err)
 
 pub returns : goal.returns
 returns g c =
     let t = tables c.args.set.now in
     let e = c.args.self.now in
     let run = c.args.run.now in
-    let kept = prefix_all t e run c.loop-rest.rest.now c.args.out.now c.loop-rest.out c.loop-rest.held c.loop-rest.shift
+    let still_held = prefix_all t e run c.loop-rest.rest.now c.args.out.now c.loop-rest.out c.loop-rest.held c.loop-rest.shift
     c.loop-rest.invariant.1 c.loop-rest-test.ensures in
     flushed (code_from t e (chars run)) c.args.out.now c.loop-rest.out c.flush.new.out c.loop-rest.held
-    c.loop-rest.shift kept c.in_ok-flush.ensures.ok.0
+    c.loop-rest.shift still_held c.in_ok-flush.ensures.ok.0

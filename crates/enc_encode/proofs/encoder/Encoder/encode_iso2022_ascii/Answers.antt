@@ -1,7 +1,7 @@
 use Rattle.std.proofs.Common.{refl, ap, subst}
 use Rattle.std.proofs.lemmas.Result.{err_from_is_err_and}
 use Rattle.enc_model.specs.Encode.{encoder}
-use Rattle.enc_encode.specs.Code.{bytes_of, written_of, final}
+use Rattle.enc_encode.specs.Code.{code_bytes, written_of, final}
 use Rattle.enc_encode.specs.State.{EncoderState, shift_of}
 use Rattle.enc_encode.specs.Reasons.{Gave}
 use Rattle.enc_encode.proofs.Growth.{prefix}
@@ -13,7 +13,7 @@ pub returns-in_err-append-in-Restore : goal.returns-in_err-append-in-Restore
 returns-in_err-append-in-Restore c t =
     let e = c.args.self.now in
     let w = encoder t e.to (shift_of c.in-Restore.next) c.args.b in
-    let code = coded_twice t e.to e.mode (shift_of c.args.shift) c.args.b (bytes_of c.in-Restore.bytes)
+    let code = coded_twice t e.to e.mode (shift_of c.args.shift) c.args.b (code_bytes c.in-Restore.bytes)
     (shift_of c.in-Restore.next) w (rw c.requires.to (c.in-Restore.ensures t.jis0208 t.katakana)) refl in
     let p = err_from_is_err_and c.from_residual.result c.from_residual.ensures.1 in
     rw (code, p.1, p.2)
@@ -22,7 +22,7 @@ returns-in_err-append-in-Restore c t =
 pub returns-in_ok-append-in-Restore : goal.returns-in_ok-append-in-Restore
 returns-in_ok-append-in-Restore c t =
     let e = c.args.self.now in
-    let bytes = bytes_of c.in-Restore.bytes in
+    let bytes = code_bytes c.in-Restore.bytes in
     let w = written_of c.iso2022_ascii-in-Restore.result in
     let code = coded_twice t e.to e.mode (shift_of c.args.shift) c.args.b bytes (shift_of c.in-Restore.next) w
     (rw c.requires.to (c.in-Restore.ensures t.jis0208 t.katakana))

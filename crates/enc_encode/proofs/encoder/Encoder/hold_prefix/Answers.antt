@@ -6,10 +6,10 @@ use Rattle.std.specs.Str.Iter.{chars_rest}
 use lib.Utf8.{encode}
 use Rattle.enc_model.specs.declared.Mode.TheVariants.{Html}
 use Rattle.enc_model.specs.Encode.{Wrote, coded, encoder}
-use Rattle.enc_encode.specs.Code.{bytes_of}
+use Rattle.enc_encode.specs.Code.{code_bytes}
 use Rattle.enc_encode.proofs.Codes.{coded_once}
 use Rattle.enc_model.specs.Indexes.{tables}
-use Rattle.enc_encode.specs.Held.{HeldPrefix, Kept}
+use Rattle.enc_encode.specs.Held.{HeldPrefix, HoldsCode}
 use Rattle.enc_encode.specs.Runs.{IsCoded, RunPrefix}
 use Rattle.enc_encode.specs.State.{EncoderState, shift_of, shifted, code_from}
 use Rattle.enc_encode.specs.declared.error.EncodeError.TheVariants.{NoMemory}
@@ -40,8 +40,8 @@ pub returns-in-Some-clause-ok : goal.returns-in-Some-clause-ok
 returns-in-Some-clause-ok g c =
     rw c.range_from.ensures.value
     (ascii_held (tables c.args.set.now) c.args.self.now c.args.to c.args.text.now c.in-Some.lanes.now c.in-Some.prefix
-    c.args.shift c.args.out.now c.args.held.now c.make_room.new.out c.make_room.new.self c.push_front.new.self
-    c.requires.same c.in-Some.ensures c.in_ok-make_room.ensures.ok c.push_front.ensures)
+    c.args.shift c.args.out.now c.args.held.now c.make_room.new.out c.make_room.new.self c.push_prefix.new.self
+    c.requires.same c.in-Some.ensures c.in_ok-make_room.ensures.ok c.push_prefix.ensures)
 
 pub returns-in_err-hold-clause-err : goal.returns-in_err-hold-clause-err
 returns-in_err-hold-clause-err g c =
@@ -63,12 +63,12 @@ returns-in-Wrote-clause-ok g c =
     let x = c.in-Some-next.c in
     let next = c.in-Wrote.next in
     let once = coded_once (tables c.args.set.now) e.to e.mode (shift_of c.args.shift) x
-    (Wrote (bytes_of c.in-Wrote.bytes) (shift_of next)) (rw (c.requires.same, c.in-Wrote.is) at c.written.ensures) tt in
+    (Wrote (code_bytes c.in-Wrote.bytes) (shift_of next)) (rw (c.requires.same, c.in-Wrote.is) at c.written.ensures) tt in
     rw c.as_str.ensures
     (char_held (tables c.args.set.now) e c.args.text.now (chars_rest c.next.new.self) x c.args.shift c.args.out.now
     c.args.held.now c.hold.new.out c.hold.new.self (Ok next) c.utf8.text
     (sym c.chars-chars.ensures.rest ∙ c.in-Some-next.ensures.steps.0)
-    (subst (λ code. Kept code c.args.out.now c.args.held.now c.hold.new.out c.hold.new.self (Ok next)) (sym once)
+    (subst (λ code. HoldsCode code c.args.out.now c.args.held.now c.hold.new.out c.hold.new.self (Ok next)) (sym once)
     (refl, refl, c.in_ok-hold.ensures.ok)))
 
 pub returns-in_err-next-clause-err : goal.returns-in_err-next-clause-err
@@ -102,7 +102,7 @@ returns-in-Html-clause-ok g c =
     let old = c.args.out.now in
     let out = c.hold_otherwise.new.out in
     let mid = c.hold_otherwise.new.held in
-    let kept = c.push_coded-left.new.self in
+    let still_held = c.push_coded-left.new.self in
     let html : e.mode ≡ Html = sym (ap (λ (z : EncoderState). z.mode) c.self.view_is) ∙ c.in-Html.is in
     let parts = sym c.chars-chars.ensures.rest ∙ c.in-Some-next.ensures.steps.0
     ∙ ap (λ z. encode c.in-Some-next.c ++ z) (sym c.as_str-rest.ensures) in
@@ -110,9 +110,9 @@ returns-in-Html-clause-ok g c =
     (Ok next) =
     char_held t e text after c.in-Some-next.c c.args.shift old c.args.held.now out mid (Ok next) c.utf8.text parts
     c.in_ok-next.ensures in
-    let gives : RunPrefix (IsCoded t e.to e.mode (shift_of next)) after left mid kept =
-    subst (λ m. RunPrefix (IsCoded t e.to m (shift_of next)) after left mid kept) (sym html)
-    (subst (λ to. RunPrefix (IsCoded t to Html (shift_of next)) after left mid kept) c.requires.same
+    let gives : RunPrefix (IsCoded t e.to e.mode (shift_of next)) after left mid still_held =
+    subst (λ m. RunPrefix (IsCoded t e.to m (shift_of next)) after left mid still_held) (sym html)
+    (subst (λ to. RunPrefix (IsCoded t to Html (shift_of next)) after left mid still_held) c.requires.same
     c.push_coded-left.ensures) in
-    prefix_then t (shifted e (shift_of c.args.shift)) text after left old c.args.held.now out mid out kept next
-    (Ok next) one (coded_held t (shifted e (shift_of c.args.shift)) after left next out mid kept gives)
+    prefix_then t (shifted e (shift_of c.args.shift)) text after left old c.args.held.now out mid out still_held next
+    (Ok next) one (coded_held t (shifted e (shift_of c.args.shift)) after left next out mid still_held gives)

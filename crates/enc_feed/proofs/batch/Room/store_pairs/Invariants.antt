@@ -6,7 +6,7 @@ use Rattle.enc_feed.proofs.batch.Room.store_pairs.Given as goal
 abbrev pub invariant-loop-at : goal.invariant-loop-at
 invariant-loop-at g l =
     let so_far = take l.len l.self-inside.bytes in record {
-      took : (given : List ℕ) × ArePairs (g.P.PairReader.stand_for l.ready) (take l.at l.bytes) given × BatchTook
+      took : (given : List ℕ) × ArePairs (g.P.PairReader.represent l.ready) (take l.at l.bytes) given × BatchTook
           l.fn.self given so_far;
       text : is_utf8 so_far ≡ true;
       few : l.len ≤ length l.fn.self + 4 * l.at;

@@ -1,5 +1,5 @@
 use Rattle.std.proofs.Common.{◌≡◌, ◌-◌, ◌+◌, ◌<◌, length, arith, sym, ◌∙◌, replicate, rules}
-use Rattle.enc_index.specs.Usable.{keeps}
+use Rattle.enc_index.specs.Usable.{includes}
 use Rattle.enc_index.proofs.Least.{past_none, past_unusable, past_taken, from_nothing, found_none, found_set}
 use Rattle.std.proofs.lemmas.List.{length-replicate, length-set}
 use Rattle.enc_index.proofs.pointers.Pointers.least.Goals as goal
@@ -11,7 +11,7 @@ loop-place-init c =
     record {
       within = omega arith;
       long = rw empty (length-replicate count 0xFFFF);
-      least = λ q. rw (empty, found_none count q) (sym (from_nothing (keeps c.args.usable) c.args.codes.now q));
+      least = λ q. rw (empty, found_none count q) (sym (from_nothing (includes c.args.usable) c.args.codes.now q));
     }
 
 pub loop-place-preserved-then-may_use : goal.loop-place-preserved-then-may_use

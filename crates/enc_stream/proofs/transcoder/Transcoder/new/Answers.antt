@@ -1,12 +1,12 @@
 use Rattle.std.proofs.Common.{[], sym, subst}
 use Rattle.enc_encode.specs.State.{EncoderState}
-use Rattle.enc_model.specs.Transcode.{IsAt, Before}
+use Rattle.enc_model.specs.Transcode.{IsStateAt, Before}
 use Rattle.enc_stream.proofs.Begins.{start_at}
 use Rattle.enc_stream.proofs.transcoder.Transcoder.new.Goals as goal
 
 pub returns-clause-nothing_read : goal.returns-clause-nothing_read
 returns-clause-nothing_read c t =
-    subst (λ (e : EncoderState). IsAt t
+    subst (λ (e : EncoderState). IsStateAt t
     (record {
       from = c.args.from;
       to = e.to;

@@ -1,6 +1,6 @@
 use Rattle.std.proofs.Common.{◌≡◌, ◌∙◌, ap, sym, subst, false, take}
 use Rattle.std.specs.Str.{chars}
-use Rattle.enc_model.specs.Stream.{Run, steps}
+use Rattle.enc_model.specs.Stream.{DecoderRun, steps}
 use Rattle.enc_model.specs.Utf16.{Utf16, utf16}
 use Rattle.enc_model.proofs.Calm.{utf16_calm}
 use Rattle.enc_feed.proofs.Feeding.{feed_refused}
@@ -19,7 +19,7 @@ returns-in_err-text-clause-refused g c =
     let read = c.write_text-read.result.0 in
     let text : chars c.from_utf8_unchecked.result.now ≡ (steps h false s (take read rest)).text =
     ap chars c.from_utf8_unchecked.ensures
-    ∙ sym (ap (λ (run : Run Utf16). run.text) (ap (λ z. steps h false z (take read rest)) c.if-is_empty.ensures
+    ∙ sym (ap (λ (run : DecoderRun Utf16). run.text) (ap (λ z. steps h false z (take read rest)) c.if-is_empty.ensures
     ∙ c.write_text-read.ensures.run)) in
     if_err c.from_residual.result why _ c.from_residual.ensures.1
     (feed_refused g.S.Sink.takes r g.met.S.Sink.is_sink h calm s rest read c.args.sink.now c.text.new.self why

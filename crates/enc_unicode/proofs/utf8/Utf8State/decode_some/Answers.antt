@@ -15,12 +15,12 @@ returns-then-not-is_empty-clause-text c =
     c.push_str.new.self)
     same
     (text_gathered s c.args.rest.now text.result.now c.push_few-few.new.batch c.push_str.new.self
-    (at_start i.needed i.lower i.upper i.point i.current i.kept s c.self.view_is c.self.invariant.0 c.if-self-ne0.false)
+    (at_start i.needed i.lower i.upper i.point i.current i.partial s c.self.view_is c.self.invariant.0 c.if-self-ne0.false)
     text.utf8 text.ensures c.push_str.ensures)
 
 pub returns-then-not-is_empty-clause-state : goal.returns-then-not-is_empty-clause-state
 returns-then-not-is_empty-clause-state c =
     let i = c.self.inside in
     text_state c.args.self.now c.args.rest.now c.text_before_fault-text.result.now
-    (at_start i.needed i.lower i.upper i.point i.current i.kept c.args.self.now c.self.view_is c.self.invariant.0
+    (at_start i.needed i.lower i.upper i.point i.current i.partial c.args.self.now c.self.view_is c.self.invariant.0
     c.if-self-ne0.false) c.text_before_fault-text.utf8 c.text_before_fault-text.ensures

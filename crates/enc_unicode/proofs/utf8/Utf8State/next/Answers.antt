@@ -12,5 +12,5 @@ invariant_of-self-2 c =
     let upper : c.self.inside.upper ≡ c.args.self.now.upper = ap (λ (s : Utf8). s.upper) c.self.view_is in (
       grind (arith, common_steps),
       after_next _ c.args.b _ c.self.invariant.1 (omega arith) (omega arith) (omega arith) (omega arith)
-          (take_more_set c.self.inside.kept c.self.inside.current c.args.b (omega arith)),
+          (take_more_set c.self.inside.partial c.self.inside.current c.args.b (omega arith)),
     )

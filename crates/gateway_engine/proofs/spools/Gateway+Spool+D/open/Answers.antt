@@ -5,7 +5,7 @@ use Rattle.spool_disk.specs.Views.{Lasts}
 use Rattle.spool_disk.proofs.Gave.{grew_none}
 use Rattle.spool_catalog.specs.declared.error.OpenFault.TheVariants.{Stop}
 use Rattle.spool_load.proofs.ReadBys.{by_after}
-use Rattle.spool_image.specs.Spool.{Keeps, disk_of}
+use Rattle.spool_image.specs.Spool.{SpoolHasView, disk_of}
 use Rattle.spool_image.specs.LeftOnly.{AllShow, LeftOrShows}
 use Rattle.spool_image.specs.Opening.{ReadsSame, Unwritten}
 use Rattle.spool_image.proofs.Opening.{opened_exactly, opened_reads, refused_exactly, view_more}
@@ -13,17 +13,17 @@ use Rattle.gateway_engine.proofs.OnDisk.{refused_as, view_room}
 use Rattle.gateway_engine.proofs.spools.Gateway+Spool+D.open.Goals as goal
 
 pub returns-in-Ok-clause-opened : goal.returns-in-Ok-clause-opened
-returns-in-Ok-clause-opened g c n m is = c.in-Ok.ensures.ok true m (Some n) (c.in_ok-spool.ensures.stands n m is)
+returns-in-Ok-clause-opened g c n m is = c.in-Ok.ensures.ok true m (Some n) (c.in_ok-spool.ensures.represents n m is)
 
-pub returns-in-Ok-clause-kept : goal.returns-in-Ok-clause-kept
-returns-in-Ok-clause-kept g c v m shows keeps =
-    c.in-Ok.ensures.ok false m (Some v.blocks) (c.in_ok-spool.ensures.kept v m shows
-    (subst (λ s. Keeps s v) c.in-Ok.ensures.same keeps))
+pub returns-in-Ok-clause-represents_view : goal.returns-in-Ok-clause-represents_view
+returns-in-Ok-clause-represents_view g c v m shows has_view =
+    c.in-Ok.ensures.ok false m (Some v.blocks) (c.in_ok-spool.ensures.represents_view v m shows
+    (subst (λ s. SpoolHasView s v) c.in-Ok.ensures.same has_view))
 
 pub returns-in-Ok-clause-view : goal.returns-in-Ok-clause-view
 returns-in-Ok-clause-view g c =
     let at = c.in_ok-spool.ensures.view in
-    (at.0, at.1, subst (λ s. Keeps s at.0) (sym c.in-Ok.ensures.same) at.2, at.3)
+    (at.0, at.1, subst (λ s. SpoolHasView s at.0) (sym c.in-Ok.ensures.same) at.2, at.3)
 
 pub returns-in-Ok-clause-shows : goal.returns-in-Ok-clause-shows
 returns-in-Ok-clause-shows g c n m is =
@@ -45,9 +45,9 @@ returns-in-Err-clause-lasts g c n m is =
 pub returns-in_err-spool-clause-opened : goal.returns-in_err-spool-clause-opened
 returns-in_err-spool-clause-opened g c n m is =
     let p = err_from_is_err_and c.from_residual.result c.from_residual.ensures.1 in
-    let said = c.in_err-spool.ensures.opened is.honest is.shows.view is.shows.shows.valid is.shows.is
+    let answer_is = c.in_err-spool.ensures.opened is.honest is.shows.view is.shows.shows.valid is.shows.is
     (view_room g.D.Disk c.args.disk n m is) in
-    rw (p.1, p.2) (refused_as _ _ _ said)
+    rw (p.1, p.2) (refused_as _ _ _ answer_is)
 
 pub returns-in_err-spool-clause-lasts : goal.returns-in_err-spool-clause-lasts
 returns-in_err-spool-clause-lasts g c n m is =
@@ -72,8 +72,8 @@ returns-in-Ok-clause-given g c =
     by_after c.in_ok-spool.ensures.given (grew_none (ap (λ s. g.D.Disk.reads (disk_of s)) same))
     (λ before after is late. record {
       exact = opened_exactly _ before after is.memory;
-      memory = view_more (λ v keeps. subst (λ s. Keeps s v) (sym same) keeps) is.memory;
-      opened = λ v valid encodes. subst (λ s. Keeps s v) (sym same) (is.opened v valid encodes);
+      memory = view_more (λ v has_view. subst (λ s. SpoolHasView s v) (sym same) has_view) is.memory;
+      opened = λ v valid encodes. subst (λ s. SpoolHasView s v) (sym same) (is.opened v valid encodes);
     })
 
 pub returns-in-Err-clause-given : goal.returns-in-Err-clause-given

@@ -11,7 +11,7 @@ pub returns-in-Ok-clause-serves : goal.returns-in-Ok-clause-serves
 returns-in-Ok-clause-serves g c = λ sure before st past ended went joins.
     let n = c.args.conn in
     let piece = c.left.result.now in
-    let gives = c.came-answer.ensures.gives sure _ went.stands in
+    let gives = c.came-answer.ensures.gives sure _ went.represents in
     served g.C.Connections sure before c.args.gateway.now c.came-answer.new.gateway st past (Came n piece) went
     (λ known ms among. g.met.C.Connections.durable c.args.gateway.now _ ms (surely went known) among)
     (λ (now : List Marked). Alone sure st n past now
@@ -21,7 +21,7 @@ returns-in-Ok-clause-serves g c = λ sure before st past ended went joins.
       stage = c.in-Ok.next.stage;
     })) ended st now n)
     (λ now. Unit {0})
-    c.came-answer.result (Ok c.in-Ok.next) c.in-Ok.ensures.fault gives.1.keeps
+    c.came-answer.result (Ok c.in-Ok.next) c.in-Ok.ensures.fault gives.1.now_represents
     (λ known. c.came-answer.ensures.crash _ (surely went known)) c.came-answer.ensures.falls
     (λ ok. (
       alone_step sure st past (Came n piece) _,
@@ -35,13 +35,13 @@ pub returns-in-Err-clause-serves : goal.returns-in-Err-clause-serves
 returns-in-Err-clause-serves g c = λ sure before st past ended went joins.
     let n = c.args.conn in
     let piece = c.left.result.now in
-    let told : Result ℕ DiskFault = Err c.in-Err.fault in
-    let gives = c.came-answer.ensures.gives sure _ went.stands in
+    let reported : Result ℕ DiskFault = Err c.in-Err.fault in
+    let gives = c.came-answer.ensures.gives sure _ went.represents in
     served g.C.Connections sure before c.args.gateway.now c.came-answer.new.gateway st past (Came n piece) went
     (λ known ms among. g.met.C.Connections.durable c.args.gateway.now _ ms (surely went known) among)
     (λ now. Unit {0}) (λ (now : List Marked). Alone sure st n past now
     × Joins sure (joint_of (record c.args.self.now { output = c.came-answer.new.self })) ended st now n)
-    c.came-answer.result told c.in-Err.ensures.fault gives.1.keeps
+    c.came-answer.result reported c.in-Err.ensures.fault gives.1.now_represents
     (λ known. c.came-answer.ensures.crash _ (surely went known)) c.came-answer.ensures.falls
     (λ ok. tt)
     (λ fails. (

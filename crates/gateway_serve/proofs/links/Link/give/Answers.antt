@@ -10,9 +10,9 @@ pub returns-in-Err-clause-serves : goal.returns-in-Err-clause-serves
 returns-in-Err-clause-serves g c = λ sure before st past ended went joins.
     let n = c.args.conn in
     let s = c.loop-calls.invariant.1 sure before st past ended went joins in
-    let told : Result (Unit {0}) DiskFault = Err c.in-Err.fault in
+    let reported : Result (Unit {0}) DiskFault = Err c.in-Err.fault in
     let Joined : List Marked → Type 0 = λ now. Joins sure (joint_of c.came.new.self) ended st now n in
-    alone_after g.C.Connections sure before c.came.new.gateway st n past s.0 Joined Joined told s.2.0
+    alone_after g.C.Connections sure before c.came.new.gateway st n past s.0 Joined Joined reported s.2.0
     (c.in-Err.ensures.serves sure before st s.0 ended s.1 s.2.1)
 
 pub loop-calls-preserved : goal.loop-calls-preserved
@@ -21,9 +21,9 @@ loop-calls-preserved g c = (
   λ sure before st past ended went joins.
       let n = c.args.conn in
       let s = c.loop-calls.invariant.1 sure before st past ended went joins in
-      let told : Result (Unit {0}) DiskFault = Ok tt in
+      let reported : Result (Unit {0}) DiskFault = Ok tt in
       let Joined : List Marked → Type 0 = λ now. Joins sure (joint_of c.came.new.self) ended st now n in
-      alone_after g.C.Connections sure before c.came.new.gateway st n past s.0 Joined Joined told s.2.0
+      alone_after g.C.Connections sure before c.came.new.gateway st n past s.0 Joined Joined reported s.2.0
       (c.in-Ok.ensures.serves sure before st s.0 ended s.1 s.2.1),
   c.in-Ok.ensures.socket ∙ c.loop-calls.invariant.2,
 )

@@ -11,13 +11,13 @@ use Rattle.gateway_serve.proofs.links.Link.more.Goals as goal
 pub returns-in-Ok-clause-serves : goal.returns-in-Ok-clause-serves
 returns-in-Ok-clause-serves g c = λ sure before st past ended went joins.
     let n = c.args.conn in
-    let gives = c.more.ensures.gives sure _ went.stands in
+    let gives = c.more.ensures.gives sure _ went.represents in
     served g.C.Connections sure before c.args.gateway.now c.more.new.gateway st past (More n) went
     (λ known ms among. g.met.C.Connections.durable c.args.gateway.now _ ms (surely went known) among)
     (λ (now : List Marked). Alone sure st n past now
     × Joins sure (joint_of (record c.args.self.now { output = c.more.new.self; stage = c.in-Ok.next.stage })) ended st
     now n) (λ now. Unit {0})
-    c.more.result (Ok c.in-Ok.next) c.in-Ok.ensures.fault gives.1.keeps
+    c.more.result (Ok c.in-Ok.next) c.in-Ok.ensures.fault gives.1.now_represents
     (λ known. quiet_limits _ _ c.more.ensures.crash) c.more.ensures.falls
     (λ ok. (
       alone_step sure st past (More n) _,
@@ -29,13 +29,13 @@ returns-in-Ok-clause-serves g c = λ sure before st past ended went joins.
 pub returns-in-Err-clause-serves : goal.returns-in-Err-clause-serves
 returns-in-Err-clause-serves g c = λ sure before st past ended went joins.
     let n = c.args.conn in
-    let told : Result ℕ DiskFault = Err c.in-Err.fault in
-    let gives = c.more.ensures.gives sure _ went.stands in
+    let reported : Result ℕ DiskFault = Err c.in-Err.fault in
+    let gives = c.more.ensures.gives sure _ went.represents in
     served g.C.Connections sure before c.args.gateway.now c.more.new.gateway st past (More n) went
     (λ known ms among. g.met.C.Connections.durable c.args.gateway.now _ ms (surely went known) among)
     (λ now. Unit {0}) (λ (now : List Marked). Alone sure st n past now
     × Joins sure (joint_of (record c.args.self.now { output = c.more.new.self })) ended st now n)
-    c.more.result told c.in-Err.ensures.fault gives.1.keeps
+    c.more.result reported c.in-Err.ensures.fault gives.1.now_represents
     (λ known. quiet_limits _ _ c.more.ensures.crash) c.more.ensures.falls
     (λ ok. tt)
     (λ fails. (

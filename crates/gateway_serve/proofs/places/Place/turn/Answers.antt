@@ -10,10 +10,10 @@ returns-in-Ok-clause-serves g c = λ sure before st past went joins.
     let n = c.args.conn in
     let ended = current_of n c.args.ended.now.items in
     let ended' = current_of n c.end.new.ended.items in
-    let told : Result (Unit {0}) DiskFault = Ok tt in
+    let reported : Result (Unit {0}) DiskFault = Ok tt in
     let s = c.in-Ok-Lost.ensures.serves sure before st past ended went (rw c.in-Open.is at joins) in
     alone_after g.C.Connections sure before c.end.new.gateway st n past s.0
-    (λ p. PlaceJoins sure c.end.new.self ended' st p n) (λ p. PlaceFell sure c.end.new.self ended' st p n) told s.2.0
+    (λ p. PlaceJoins sure c.end.new.self ended' st p n) (λ p. PlaceFell sure c.end.new.self ended' st p n) reported s.2.0
     (c.in-Ok.ensures.serves sure before st s.0 s.1 s.2.1)
 
 pub returns-in-Err-end-clause-serves : goal.returns-in-Err-end-clause-serves
@@ -21,8 +21,8 @@ returns-in-Err-end-clause-serves g c = λ sure before st past went joins.
     let n = c.args.conn in
     let ended = current_of n c.args.ended.now.items in
     let ended' = current_of n c.end.new.ended.items in
-    let told : Result (Unit {0}) DiskFault = Err c.in-Err-end.fault in
+    let reported : Result (Unit {0}) DiskFault = Err c.in-Err-end.fault in
     let s = c.in-Ok-Lost.ensures.serves sure before st past ended went (rw c.in-Open.is at joins) in
     alone_after g.C.Connections sure before c.end.new.gateway st n past s.0
-    (λ p. PlaceJoins sure c.end.new.self ended' st p n) (λ p. PlaceFell sure c.end.new.self ended' st p n) told s.2.0
+    (λ p. PlaceJoins sure c.end.new.self ended' st p n) (λ p. PlaceFell sure c.end.new.self ended' st p n) reported s.2.0
     (c.in-Err-end.ensures.serves sure before st s.0 s.1 s.2.1)

@@ -20,14 +20,14 @@ pub returns-in-Ok-clause-serves : goal.returns-in-Ok-clause-serves
 returns-in-Ok-clause-serves g c = λ sure before st past went joins.
     let n = c.in-Some.conn in
     let ended = ended_of c.next_place.new.self in
-    let told : Result (Unit {0}) DiskFault = Ok tt in
-    let does = c.opened.ensures.does sure _ went.stands in
-    let goes : GoesOn c.opened.result told = (λ e. absurd (cc), λ f. let x = c.in-Ok.is in absurd (cc)) in
+    let reported : Result (Unit {0}) DiskFault = Ok tt in
+    let does = c.opened.ensures.does sure _ went.represents in
+    let goes : GoesOn c.opened.result reported = (λ e. absurd (cc), λ f. let x = c.in-Ok.is in absurd (cc)) in
     let all = same_join sure (places_of c.args.self.now) (places_of c.next_place.new.self)
     (ended_of c.args.self.now) ended st past c.next_place.ensures.same c.next_place.ensures.rest.ended joins in
     served g.C.Connections sure before c.args.gateway.now c.opened.new.self st past (Opened n) went
     (λ known ms among. g.met.C.Connections.durable c.args.gateway.now _ ms (surely went known) among)
-    _ (λ now. Unit {0}) c.opened.result told goes does.keeps
+    _ (λ now. Unit {0}) c.opened.result reported goes does.now_represents
     (λ known. quiet_limits _ _ c.opened.ensures.crash) c.opened.ensures.falls
     (λ ok. all_opened sure (places_of c.next_place.new.self) n ended st past c.opened.result does.answer all
     c.in-Some.ensures.free.1 c.open.result c.in-Some.ensures.free.0 c.open.ensures.none tt c.in-Ok.is)
@@ -38,14 +38,14 @@ returns-in-Err-clause-serves g c = λ sure before st past went joins.
     let n = c.in-Some.conn in
     let ended = ended_of c.next_place.new.self in
     let answer : Result (Unit {0}) SessionError = Err c.in-Err.error in
-    let does = c.in-Err.ensures.does sure _ went.stands in
+    let does = c.in-Err.ensures.does sure _ went.represents in
     let all = same_join sure (places_of c.args.self.now) (places_of c.next_place.new.self)
     (ended_of c.args.self.now) ended st past c.next_place.ensures.same c.next_place.ensures.rest.ended joins in
-    let kept = all_unopened sure (places_of c.next_place.new.self) n ended st past answer does.answer all
+    let unchanged = all_unopened sure (places_of c.next_place.new.self) n ended st past answer does.answer all
     c.in-Some.ensures.free.1 c.in-Err.error refl in
     served g.C.Connections sure before c.args.gateway.now c.opened.new.self st past (Opened n) went
     (λ known ms among. g.met.C.Connections.durable c.args.gateway.now _ ms (surely went known) among)
     (AllJoin sure (places_of c.next_place.new.self) ended st) (AllFell sure (places_of c.next_place.new.self) ended st)
-    answer c.unless_failed.result c.unless_failed.ensures does.keeps
+    answer c.unless_failed.result c.unless_failed.ensures does.now_represents
     (λ known. quiet_limits _ _ c.opened.ensures.crash) c.in-Err.ensures.falls
-    (λ ok. kept) (λ fails. all_fall sure (places_of c.next_place.new.self) ended st _ kept)
+    (λ ok. unchanged) (λ fails. all_fall sure (places_of c.next_place.new.self) ended st _ unchanged)

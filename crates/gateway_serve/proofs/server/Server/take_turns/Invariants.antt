@@ -1,8 +1,8 @@
 use Rattle.std.proofs.Common.{◌≡◌, ◌≤◌, ◌-◌, length, Result, Ok}
 use Rattle.common.specs.declared.stop.DiskFault.{DiskFault}
 use Rattle.gateway_serve.specs.Acceptors.{LetsInBy}
-use Rattle.gateway_serve.specs.Joined.{GoesOn, places_of, ended_of}
-use Rattle.gateway_serve.specs.Streams.{AllKeep}
+use Rattle.gateway_serve.specs.Joined.{StaysJoined, places_of, ended_of}
+use Rattle.gateway_serve.specs.Streams.{AllPreserve}
 use Rattle.gateway_serve.specs.Reasons.{StayReasoned}
 use Rattle.gateway_serve.specs.Turns.{closed_of, door_of}
 use Rattle.gateway_serve.proofs.server.Server.take_turns.Given as goal
@@ -11,9 +11,9 @@ abbrev pub invariant-loop-left : goal.invariant-loop-left
 invariant-loop-left g l =
     let on : Result (Unit {0}) DiskFault = Ok tt in
     (g.C.Connections.failures l.gateway ≡ g.C.Connections.failures l.fn.gateway)
-    × GoesOn g.C.Connections l.fn.gateway l.gateway on (places_of l.fn.self) (places_of l.self) (ended_of l.fn.self)
+    × StaysJoined g.C.Connections l.fn.gateway l.gateway on (places_of l.fn.self) (places_of l.self) (ended_of l.fn.self)
     (ended_of l.self)
-    × AllKeep g.S.Read.remaining g.S.Write.contents (places_of l.fn.self) (places_of l.self) (ended_of l.fn.self)
+    × AllPreserve g.S.Read.remaining g.S.Write.contents (places_of l.fn.self) (places_of l.self) (ended_of l.fn.self)
     (ended_of l.self)
     × StayReasoned (ended_of l.fn.self) (ended_of l.self)
     × (l.left ≤ l.fn.turns)

@@ -1,6 +1,6 @@
 use Rattle.std.proofs.Common.{◌≡◌, Bool, [], ◌∷◌, ◌++◌, false, Option, Some, None, ℕ, ap, ap₂, sym, ◌∙◌}
 use Rattle.std.proofs.lemmas.Bool.{true≢false}
-use Rattle.enc_model.specs.Stream.{Run, steps}
+use Rattle.enc_model.specs.Stream.{DecoderRun, steps}
 use Rattle.enc_model.specs.Utf16.{Utf16, utf16}
 use Rattle.lane_kernels.specs.Orders.{is_big}
 use Rattle.lane_kernels.specs.Units.{lead_of}
@@ -16,7 +16,7 @@ carried : (odd lead : Option ℕ) (byte : Option ℕ) (state : Utf16) → odd �
     ◌≡◌ {A = Utf16} (record { byte = byte; lead = lead }) state
 carried odd lead byte state same is = ap (λ b. record { byte = b; lead = lead }) (sym same) ∙ is
 
-stepped : (big : Bool) (odd lead byte : Option ℕ) (state : Utf16) (next : ℕ) (r : Run Utf16) → odd ≡ byte
+stepped : (big : Bool) (odd lead byte : Option ℕ) (state : Utf16) (next : ℕ) (r : DecoderRun Utf16) → odd ≡ byte
     → ◌≡◌ {A = Utf16} (record { byte = odd; lead = lead }) state
     → steps (utf16 big) false (record { byte = byte; lead = lead }) (next ∷ []) ≡ r
     → r ≡ steps (utf16 big) false state (next ∷ [])

@@ -1,7 +1,7 @@
 use Rattle.std.proofs.Common.{◌≡◌, ℕ, ◌+◌, ◌<◌, List, length, get_or, take, drop, arith, sym, ◌∙◌, ap, subst}
 use Rattle.std.proofs.lemmas.List.{get_or-drop, get_or-take}
 use Rattle.spool_disk.specs.Disk.{span}
-use Rattle.spool_disk.specs.Memory.{bytes_of}
+use Rattle.spool_disk.specs.Memory.{memory_bytes}
 use Rattle.spool_disk.proofs.Span.{span_is}
 use Rattle.spool_disk.proofs.memory.MemoryDiskDisk.read.Goals as goal
 
@@ -14,6 +14,6 @@ by_index xs ys all at n k e same lt =
 pub returns-clause-bytes : goal.returns-clause-bytes
 returns-clause-bytes c _ _ =
     let long : length c.copy_from_slice.new.self ≡ length c.args.buf.now = c.copy_from_slice.ensures.len in
-    subst (λ (n : ℕ). c.copy_from_slice.new.self ≡ span (bytes_of c.args.self.now) c.args.at n) long
-    (sym (span_is (bytes_of c.args.self.now) c.args.at c.copy_from_slice.new.self
+    subst (λ (n : ℕ). c.copy_from_slice.new.self ≡ span (memory_bytes c.args.self.now) c.args.at n) long
+    (sym (span_is (memory_bytes c.args.self.now) c.args.at c.copy_from_slice.new.self
     (λ k lt. by_index _ _ _ c.args.at _ k c.copy_from_slice.ensures.after c.deref.ensures.value (omega arith))))

@@ -2,10 +2,10 @@ use Rattle.std.proofs.Common.{◌≤◌, ◌+◌, ◌++◌, ℕ, List, false, le
 use Rattle.std.proofs.Common.{ap, subst, Err}
 use Rattle.std.proofs.lemmas.Bool.{cases_eq}
 use Rattle.spool_journal.specs.Image.{text_page}
-use Rattle.spool_texts.specs.Drafts.{Draft, bytes_of, len_of}
-use Rattle.spool_drafts.specs.Drafts.{Carries, Holds, IsAfter, IsLonger, IsPlaced, committed_len_of, declare_of}
-use Rattle.spool_drafts.specs.Drafts.{KeepsTail, list_of, number_of, offset_of, open_text, with_piece}
-use Rattle.spool_drafts.specs.Progress.{GoesOn, HasBytes, IsGrowing}
+use Rattle.spool_texts.specs.Drafts.{Draft, draft_bytes, len_of}
+use Rattle.spool_drafts.specs.Drafts.{Carries, Holds, IsAfter, IsLonger, IsTailPlaced, committed_len_of, declare_of}
+use Rattle.spool_drafts.specs.Drafts.{PreservesTail, list_of, upload_number_of, offset_of, open_text, with_piece}
+use Rattle.spool_drafts.specs.Progress.{IsStateOf, HasBytes, IsGrowing}
 use Rattle.spool_drafts.specs.declared.draft.SpoolDraft.{SpoolDraft}
 use Rattle.spool_drafts.specs.declared.progress.Progress.TheVariants.{Text}
 use Rattle.spool_drafts.proofs.Appends.{longer_fault, longer_full, longer_short, longer_text, open_longer}
@@ -48,18 +48,18 @@ returns-in_default-progress g c =
       counts = search rules;
       nothing = search rules;
       same = (
-        ap number_of next,
+        ap upload_number_of next,
         ap offset_of next,
         ap declare_of next,
         ap committed_len_of next,
-        subst (KeepsTail d) (sym next) (inr (refl, tt)),
+        subst (PreservesTail d) (sym next) (inr (refl, tt)),
       );
       after = λ len state is. subst (IsAfter len state) (sym next) record {
         committed = is.committed;
-        goes_on = subst (GoesOn state) c.in-Some.is (c.in-Ok.ensures.goes_on state is.goes_on);
+        goes_on = subst (IsStateOf state) c.in-Some.is (c.in-Ok.ensures.goes_on state is.goes_on);
         room = λ growing. is.room (c.in-Ok.ensures.growing (subst IsGrowing (sym c.in-Some.is) growing));
       };
-      placed = subst (IsPlaced c.args.layout.now) (sym next) record {
+      placed = subst (IsTailPlaced c.args.layout.now) (sym next) record {
         below = λ i lt. absurd (omega (arith, lt));
         few = c.requires.placed.few;
       };
@@ -84,7 +84,7 @@ returns-in_default-progress g c =
 pub returns-in-Ok-put-clause-after : goal.returns-in-Ok-put-clause-after
 returns-in-Ok-put-clause-after g c len state is = record {
   committed = is.committed;
-  goes_on = subst (GoesOn state) c.in-Some.is (c.in-Ok.ensures.goes_on state is.goes_on);
+  goes_on = subst (IsStateOf state) c.in-Some.is (c.in-Ok.ensures.goes_on state is.goes_on);
   room = λ growing. is.room (c.in-Ok.ensures.growing (subst IsGrowing (sym c.in-Some.is) growing));
 }
 
@@ -107,7 +107,7 @@ returns-in-Ok-put-clause-content g c p honest held fits carries =
     let first = text_page c.args.layout.now in
     let before = subst (HasBytes current first (open_text c.args.indexes.now p false)) c.in-Text.is carries in
     c.in-Ok-put.ensures.content honest
-    ∙ ap (λ (xs : List ℕ). bytes_of current first c.in-Text.text ++ xs) c.deref.ensures.value
+    ∙ ap (λ (xs : List ℕ). draft_bytes current first c.in-Text.text ++ xs) c.deref.ensures.value
     ∙ ap (λ (xs : List ℕ). xs ++ c.fed.new.out.items) before
     ∙ sym (open_longer held fits c.is_empty.ensures c.if-is_empty.false (c.in-Ok.ensures.reads p.began p.body)
     c.in-Some.next c.in-Some.is)
@@ -116,7 +116,7 @@ pub returns-in-Err-Full-clause-after : goal.returns-in-Err-Full-clause-after
 returns-in-Err-Full-clause-after g c len state is =
     subst (IsAfter len state) (sym c.leave-in-Err-Full.ensures.next) record {
       committed = is.committed;
-      goes_on = subst (GoesOn state) c.in-Some.is (c.in-Ok.ensures.goes_on state is.goes_on);
+      goes_on = subst (IsStateOf state) c.in-Some.is (c.in-Ok.ensures.goes_on state is.goes_on);
       room = λ growing. is.room (c.in-Ok.ensures.growing (subst IsGrowing (sym c.in-Some.is) growing));
     }
 

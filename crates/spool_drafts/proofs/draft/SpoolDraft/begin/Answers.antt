@@ -5,23 +5,23 @@ use Rattle.spool_drafts.proofs.Begins.{begins, begins_carries, open_still}
 use Rattle.spool_drafts.proofs.draft.SpoolDraft.begin.Goals as goal
 
 pub returns-in_err-admits-clause-begun : goal.returns-in_err-admits-clause-begun
-returns-in_err-admits-clause-begun c x n u keeps =
+returns-in_err-admits-clause-begun c x n u valid_record =
     let e = err_from_is_err_and c.from_residual.result c.from_residual.ensures.1 in
     subst (IsBegun x n c.args.offset c.args.count c.args.declare u) (sym (e.1 ∙ ap Err e.2))
-    (c.in_err-admits.ensures.rules x n u keeps.tells)
+    (c.in_err-admits.ensures.rules x n u valid_record.represents)
 
 pub returns-clause-begun : goal.returns-clause-begun
-returns-clause-begun c x n u keeps = (
-  c.in_ok-admits.ensures.rules x n u keeps.tells,
-  begins x u n c.args.count c.args.declare c.args.upload.now c.args.list.now c.args.offset c.in-Some.progress keeps
+returns-clause-begun c x n u valid_record = (
+  c.in_ok-admits.ensures.rules x n u valid_record.represents,
+  begins x u n c.args.count c.args.declare c.args.upload.now c.args.list.now c.args.offset c.in-Some.progress valid_record
       (c.in_ok-admits.ensures.room refl) (c.in_ok-admits.ensures.small refl)
-      (c.in-Some.ensures.stands x n u keeps.tells keeps.encodable keeps.valid)
-      (λ growing. open_still x u n c.args.count c.args.declare c.args.upload.now keeps (c.in-Some.ensures.room growing))
+      (c.in-Some.ensures.state_after x n u valid_record.represents valid_record.encodable valid_record.valid)
+      (λ growing. open_still x u n c.args.count c.args.declare c.args.upload.now valid_record (c.in-Some.ensures.room growing))
       c.in-Some.ensures.starts,
 )
 
 pub returns-clause-content : goal.returns-clause-content
-returns-clause-content c x n u current first keeps same =
+returns-clause-content c x n u current first valid_record same =
     begins_carries x u n c.args.count c.args.declare current first c.args.upload.now.text_len c.args.list.now
-    c.in-Some.progress c.requires.long c.in-Some.ensures.starts same keeps.tells.text_len
-    (λ growing. open_still x u n c.args.count c.args.declare c.args.upload.now keeps (c.in-Some.ensures.room growing))
+    c.in-Some.progress c.requires.long c.in-Some.ensures.starts same valid_record.represents.text_len
+    (λ growing. open_still x u n c.args.count c.args.declare c.args.upload.now valid_record (c.in-Some.ensures.room growing))

@@ -1,19 +1,19 @@
 use Rattle.std.proofs.Common.{[], refl, sym, subst, ◌∙◌}
 use Rattle.upload_rules.proofs.Transcoders.{unencodable_ended}
-use Rattle.spool_drafts.specs.Progress.{StandsAt}
-use Rattle.spool_drafts.proofs.Standings.{after, after_open, finishes, nothing_yet, reads_after}
+use Rattle.spool_drafts.specs.Progress.{IsStateAfter}
+use Rattle.spool_drafts.proofs.TranscoderStates.{after, after_open, finishes, nothing_yet, reads_after}
 use Rattle.spool_drafts.proofs.progress.Progress.ended.Goals as goal
 
 pub returns-in_default-clause-finished : goal.returns-in_default-clause-finished
 returns-in_default-clause-finished c u bytes still here =
     let x = c.args.indexes.now in
-    let none = subst (StandsAt x u bytes) (sym c.transcoder.ensures ∙ c.in_default.is) here in
+    let none = subst (IsStateAfter x u bytes) (sym c.transcoder.ensures ∙ c.in_default.is) here in
     (refl, unencodable_ended x u bytes c.args.completes (none still))
 
 pub returns-clause-finished : goal.returns-clause-finished
 returns-clause-finished c u bytes still here =
     let x = c.args.indexes.now in
-    let reads = subst (StandsAt x u bytes) (sym c.transcoder.ensures ∙ c.in-Some.is) here in
+    let reads = subst (IsStateAfter x u bytes) (sym c.transcoder.ensures ∙ c.in-Some.is) here in
     finishes x u bytes c.args.completes _ c.ended.ensures.refusal
     (c.ended.ensures.ended (after u bytes) []
     (reads_after x u bytes c.in-Some.transcoder reads, nothing_yet x u bytes _ c.new.ensures.items)

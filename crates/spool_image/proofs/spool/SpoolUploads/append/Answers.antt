@@ -5,14 +5,14 @@ use Rattle.spool_image.proofs.LeftImages.{quiet_shown}
 use Rattle.spool_image.proofs.spool.SpoolUploads.append.Goals as goal
 
 pub returns-clause-answer : goal.returns-clause-answer
-returns-clause-answer g c sure w p stands there holds fits =
+returns-clause-answer g c sure w p represents there holds fits =
     answers_more None c.append.result (λ done after. (tt, after)) (λ after. after)
-    (c.append.ensures.answer sure w p stands there fits)
+    (c.append.ensures.answer sure w p represents there fits)
 
 pub returns-clause-crash : goal.returns-clause-crash
-returns-clause-crash g c w p stands there holds =
+returns-clause-crash g c w p represents there holds =
     let disk = c.args.self.now.disk in
     quiet_shown g.D.Disk disk c.append.new.disk c.append.ensures.honest c.append.ensures.size
-    c.args.self.now.kept.layout c.append.new.kept.layout
+    c.args.self.now.catalog.layout c.append.new.catalog.layout
     (ap (λ (h : Holding). h.layout) c.append.ensures.same.same) (g.met.D.Disk.counts_now disk)
-    (c.append.ensures.quiet w p stands there)
+    (c.append.ensures.quiet w p represents there)

@@ -6,7 +6,7 @@ use Rattle.std.proofs.lemmas.Result.{err_from_is_err_and}
 use Rattle.spool_journal.specs.declared.TheConstants.{PAGE}
 use Rattle.spool_journal.specs.Image.{text_page}
 use Rattle.spool_disk.proofs.Firm.{counts_as}
-use Rattle.spool_texts.specs.Drafts.{Draft, bytes_of, len_of, tail_on}
+use Rattle.spool_texts.specs.Drafts.{Draft, draft_bytes, len_of, tail_on}
 use Rattle.spool_texts.specs.contracts.block_text.BlockText.{the_view}
 use Rattle.spool_texts.specs.TextOn.{AllBelow}
 use Rattle.spool_texts.specs.declared.block_text.Unread.{Unread}
@@ -60,4 +60,4 @@ returns-clause-content g c honest =
     record { unread = None; blocks = blocks; unfinished = take u.len page; room = 0 } c.in-Some.is inv.1
     (ap (λ (n : ℕ). take n c.self.inside.page.items) inv.2) refl
     (ap (λ (xs : List ℕ). take u.len xs) page_is ∙ c.in_ok-read_tail.ensures.tail honest)
-    ∙ ap (bytes_of current first) c.self.view_is
+    ∙ ap (draft_bytes current first) c.self.view_is

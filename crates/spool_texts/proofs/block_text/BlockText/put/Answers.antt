@@ -3,10 +3,10 @@ use Rattle.std.proofs.lemmas.List.{append-nil, take_all}
 use Rattle.spool_disk.proofs.Firm.{lasts_on, lasts_more, no_calls, one_call}
 use Rattle.spool_journal.proofs.Steps.{no_failure}
 use Rattle.spool_journal.specs.Image.{text_page}
-use Rattle.spool_texts.specs.Drafts.{Draft, bytes_of, len_of, IsReserved}
+use Rattle.spool_texts.specs.Drafts.{Draft, draft_bytes, len_of, IsReserved}
 use Rattle.spool_texts.proofs.Asides.{image_aside}
 use Rattle.spool_texts.proofs.Contents.{begun_content, begun_held, content_more}
-use Rattle.spool_texts.proofs.Prefixes.{writes_keeps, writes_none, writes_on, but_image, but_more, but_on, idle_in}
+use Rattle.spool_texts.proofs.Prefixes.{writes_preserve, writes_none, writes_on, but_image, but_more, but_on, idle_in}
 use Rattle.spool_texts.proofs.Prefixes.{image_in}
 use Rattle.spool_texts.proofs.Reserves.{takes_none, takes_on}
 use Rattle.spool_texts.proofs.block_text.BlockText.put.Goals as goal
@@ -25,7 +25,7 @@ returns-in_err-open-clause-takes g c =
     takes_none _ _ _ (c.open.ensures.list ∙ ap (λ (d : Draft). d.blocks) c.make_room.ensures.same)
 
 pub returns-in_err-open-clause-writes : goal.returns-in_err-open-clause-writes
-returns-in_err-open-clause-writes g c honest = writes_keeps _ _ (c.open.ensures.keeps honest)
+returns-in_err-open-clause-writes g c honest = writes_preserve _ _ (c.open.ensures.preserves honest)
 
 pub returns-in_err-open-clause-idle : goal.returns-in_err-open-clause-idle
 returns-in_err-open-clause-idle g c honest idle = idle_in idle (returns-in_err-open-clause-writes g c honest)
@@ -60,10 +60,10 @@ loop-done-init g c =
       held = omega (arith, begun_held d begun, len);
       content = λ honest.
           sym (begun_content current' first d begun) ∙ c.in_ok-open.ensures.content honest
-          ∙ ap (bytes_of current first) same ∙ sym (append-nil (bytes_of current first old));
+          ∙ ap (draft_bytes current first) same ∙ sym (append-nil (draft_bytes current first old));
       takes = takes_none _ _ _ blocks;
       reserved = subst (IsReserved c.args.blocks.now) (sym blocks) c.requires.reserved;
-      writes = λ honest. writes_keeps _ _ (c.open.ensures.keeps honest);
+      writes = λ honest. writes_preserve _ _ (c.open.ensures.preserves honest);
       lasts = λ honest. lasts_more (c.open.ensures.lasts honest) (λ image is. but_image is);
     }
 
@@ -140,7 +140,7 @@ returns-clause-len g c =
 pub returns-clause-content : goal.returns-clause-content
 returns-clause-content g c honest =
     let inv = c.loop-done.invariant in
-    let before = bytes_of (g.D.Disk.current c.args.disk.now) (text_page c.args.layout.now) c.args.self.now in
+    let before = draft_bytes (g.D.Disk.current c.args.disk.now) (text_page c.args.layout.now) c.args.self.now in
     begun_content (g.D.Disk.current c.loop-done.disk) (text_page c.args.layout.now) c.loop-done.self inv.begun
     ∙ inv.content honest
     ∙ ap (λ (xs : List ℕ). before ++ xs)

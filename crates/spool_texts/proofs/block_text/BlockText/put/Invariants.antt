@@ -3,7 +3,7 @@ use Rattle.spool_journal.specs.declared.TheConstants.{PAGE}
 use Rattle.spool_disk.proofs.Firm.{NoneFailed}
 use Rattle.spool_disk.specs.Views.{Lasts}
 use Rattle.spool_journal.specs.Image.{text_page}
-use Rattle.spool_texts.specs.Drafts.{bytes_of, content_on, held_count, len_of, IsReserved, Takes}
+use Rattle.spool_texts.specs.Drafts.{draft_bytes, content_on, held_count, len_of, IsReserved, Takes}
 use Rattle.spool_texts.specs.Written.{WritesIn, IsImageBut}
 use Rattle.spool_texts.proofs.block_text.BlockText.put.Given as goal
 
@@ -17,7 +17,7 @@ invariant-loop-done g l = record {
   some : 1 ≤ l.done → 1 ≤ length l.self.blocks;
   held : held_count l.self ≡ len_of l.fn.self + l.done;
   content : g.D.Disk.honest l.fn.disk → content_on (g.D.Disk.current l.disk) (text_page l.layout)
-      l.self ≡ bytes_of (g.D.Disk.current l.fn.disk) (text_page l.layout) l.fn.self ++ take l.done l.bytes;
+      l.self ≡ draft_bytes (g.D.Disk.current l.fn.disk) (text_page l.layout) l.fn.self ++ take l.done l.bytes;
   takes : Takes l.fn.blocks l.blocks l.fn.self.blocks l.self.blocks;
   reserved : IsReserved l.blocks l.self.blocks;
   writes : g.D.Disk.honest l.fn.disk → WritesIn (text_page l.layout) l.self.blocks

@@ -1,7 +1,7 @@
 use Rattle.std.proofs.Common.{◌-◌, List, ℕ, min, length, take, sym, ◌∙◌, ap, arith}
 use Rattle.tus_request.specs.declared.heads.TheConstants.{MOST_HEAD}
 use Rattle.tus_request.specs.Searches.{after_bytes}
-use Rattle.tus_request.specs.declared.search.Search.TheVariants.{Front}
+use Rattle.tus_request.specs.declared.search.Search.TheVariants.{Leading}
 use Rattle.tus_request.proofs.Limits.{filled}
 use Rattle.tus_request.proofs.SearchLemmas.{search_on}
 use Rattle.tus_request.proofs.buffer.HeadBuffer.fill.Goals as goal
@@ -12,7 +12,7 @@ invariant_of-self-2-clause-searched c =
     let prefix = take c.min.result c.args.piece.now in
     c.after-self.ensures
     ∙ (ap (λ s. after_bytes s prefix) c.args.self.now.searched
-    ∙ (sym (search_on Front old prefix) ∙ ap (after_bytes Front) (sym c.in_ok-extend_from_slice.ensures.items)))
+    ∙ (sym (search_on Leading old prefix) ∙ ap (after_bytes Leading) (sym c.in_ok-extend_from_slice.ensures.items)))
 
 pub returns : goal.returns
 returns c =

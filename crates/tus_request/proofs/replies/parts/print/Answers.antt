@@ -1,4 +1,4 @@
-use Rattle.tus_request.proofs.ReplyTexts.{print_more, room_kept}
+use Rattle.tus_request.proofs.ReplyTexts.{print_more, room_unchanged}
 use Rattle.tus_request.proofs.replies.parts.print.Goals as goal
 
 pub loop-line-preserved : goal.loop-line-preserved
@@ -8,6 +8,6 @@ loop-line-preserved c = record {
       c.loop-line.out.items c.put-in-loop-line.new.out.items c.loop-line-test.true c.loop-line.invariant.items
       c.put-in-loop-line.ensures.items;
   room =
-      room_kept c.args.lines.now c.loop-line.line-index _ _ _ _ _ _ c.loop-line-test.true
+      room_unchanged c.args.lines.now c.loop-line.line-index _ _ _ _ _ _ c.loop-line-test.true
       c.loop-line.invariant.room c.put-in-loop-line.ensures.len c.put-in-loop-line.ensures.capacity;
 }

@@ -5,15 +5,15 @@ use Rattle.tus_session.proofs.session.Session.close.Goals as goal
 
 pub loop-place-init : goal.loop-place-init
 loop-place-init g c = record {
-  kept = λ sure st stands. (
+  represents = λ sure st represents. (
     st.world,
     begins_closing g.U.Uploads sure c.args.self.links.items c.args.store.now st
-        stands,
+        represents,
   );
   prefix = sym (take_all (length c.args.self.links.items) c.args.self.links.items (omega arith));
   below = omega arith;
   counts = refl;
-  crash = record { later = omega arith; keeps = λ n t ms le left. left };
+  crash = record { later = omega arith; limits = λ n t ms le left. left };
 }
 
 pub loop-place-preserved : goal.loop-place-preserved
@@ -22,10 +22,10 @@ loop-place-preserved g c =
     let is = popped c.args.self.links.items c.loop-place.links.items c.pop.new.self.items c.in-Some.place inv.prefix
     c.in-Some.ensures.items in
     record {
-      kept = λ sure st stands.
-          let v = inv.kept sure st stands in
+      represents = λ sure st represents.
+          let v = inv.represents sure st represents in
           after_closed g.U.Uploads sure c.args.self.links.items c.loop-place.links.items c.pop.new.self.items
-          c.args.store.now st stands c.loop-place.store v.0 c.in-Some.place c.in_default-place.is is v.1;
+          c.args.store.now st represents c.loop-place.store v.0 c.in-Some.place c.in_default-place.is is v.1;
       prefix = is.prefix;
       below = omega (arith, inv.below, is.count);
       counts = inv.counts;
@@ -38,25 +38,25 @@ loop-place-preserved-in-Some-place g c =
     let is = popped c.args.self.links.items c.loop-place.links.items c.pop.new.self.items c.in-Some.place inv.prefix
     c.in-Some.ensures.items in
     record {
-      kept = λ sure st stands.
-          let v = inv.kept sure st stands in
+      represents = λ sure st represents.
+          let v = inv.represents sure st represents in
           after_open g.U.Uploads sure c.args.self.links.items c.loop-place.links.items c.pop.new.self.items
-          c.args.store.now st stands c.loop-place.store c.drop_link.new.store v.0 c.in-Some.place c.in-Some-place.link
-          c.in-Some-place.is is v.1 (c.drop_link.ensures.kept sure v.0 v.1.shown);
+          c.args.store.now st represents c.loop-place.store c.drop_link.new.store v.0 c.in-Some.place c.in-Some-place.link
+          c.in-Some-place.is is v.1 (c.drop_link.ensures.represents sure v.0 v.1.shown);
       prefix = is.prefix;
       below = omega (arith, inv.below, is.count);
       counts = c.drop_link.ensures.counts ∙ inv.counts;
       crash = record {
         later = omega (arith, inv.crash.later, c.drop_link.ensures.crash.later);
-        keeps = λ n t ms le left.
-            c.drop_link.ensures.crash.keeps n t ms (omega (arith, inv.crash.later)) (inv.crash.keeps n t ms le left);
+        limits = λ n t ms le left.
+            c.drop_link.ensures.crash.limits n t ms (omega (arith, inv.crash.later)) (inv.crash.limits n t ms le left);
       };
     }
 
-pub returns-clause-kept : goal.returns-clause-kept
-returns-clause-kept g c sure st stands =
+pub returns-clause-represents : goal.returns-clause-represents
+returns-clause-represents g c sure st represents =
     let none : length c.loop-place.links.items ≡ 0 =
     omega (arith, c.in_default.ensures.cases.0, c.loop-place.links.ok.0) in
-    let v = c.loop-place.invariant.kept sure st stands in
+    let v = c.loop-place.invariant.represents sure st represents in
     all_closed g.U.Uploads sure st c.loop-place.store v.0
     (subst (λ n. IsClosing g.U.Uploads sure st n c.loop-place.store v.0) none v.1)

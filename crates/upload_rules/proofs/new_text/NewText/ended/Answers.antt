@@ -1,21 +1,21 @@
 use Rattle.std.proofs.Common.{◌≡◌, ℕ, Bool, true, false, List, refl, ap, ◌∙◌, Vec, Global}
 use Rattle.enc_model.specs.Indexes.{IndexSet, tables}
 use Rattle.enc_model.specs.Transcode.{Transcoder, added_end}
-use Rattle.enc_stream.specs.Standing.{Standing}
-use Rattle.enc_stream.specs.StateBytes.{IsValid, state_bytes}
+use Rattle.enc_stream.specs.TranscoderState.{TranscoderState}
+use Rattle.enc_stream.specs.StateBytes.{IsValidState, state_bytes}
 use Rattle.upload_rules.specs.declared.new_text.NewText.{NewText}
 use Rattle.upload_rules.specs.declared.new_text.NewText.TheVariants.{Growing, Unencodable, Complete}
 use Rattle.upload_rules.specs.Store.{Upload, text_with, is_complete}
 use Rattle.upload_rules.specs.World.{is_there}
 use Rattle.upload_rules.specs.States.{IsState, SameEncodings}
-use Rattle.upload_rules.specs.Texts.{GoesOn, HoldsText}
+use Rattle.upload_rules.specs.Texts.{IsTextStateOf, HoldsText}
 use Rattle.upload_rules.proofs.Transcoders.{whole_ended, whole_open, end_fault, unencodable_ended, code_fault}
 use Rattle.upload_rules.proofs.new_text.NewText.ended.Goals as goal
 use Rattle.upload_rules.proofs.new_text.NewText.ended.Goals.{then-completes+in-Ok, else-completes}
 
 -- what isn't growing has no value, or its upload is complete
 no_text : (x : IndexSet) (u : Upload) (bytes : List ℕ) (done : Bool) (t : NewText)
-    → ((transcoder : Standing) (text : Vec ℕ Global) → t ≡ Growing transcoder text → ⊥)
+    → ((transcoder : TranscoderState) (text : Vec ℕ Global) → t ≡ Growing transcoder text → ⊥)
     → HoldsText x u bytes t → is_complete u ≡ false → is_there (text_with x u bytes done).fault ≡ true
 no_text x u bytes done (Growing transcoder text) other holds still = absurd (other transcoder text refl)
 no_text x u bytes done Unencodable other holds still = unencodable_ended x u bytes done holds
@@ -54,9 +54,9 @@ returns-clause-ended c = λ u bytes holds still.
 -- WHATEVER THE UPLOAD
 
 -- the encodings and the mode stay
-same_encodings : (state packed : List ℕ) (t : Standing) (text : Vec ℕ Global) (next : Transcoder) → IsState state
-    → GoesOn state (Growing t text) → next.from ≡ t.transcoder.from → next.to ≡ t.transcoder.to
-    → next.mode ≡ t.transcoder.mode → packed ≡ state_bytes next → IsValid next → SameEncodings state packed
+same_encodings : (state packed : List ℕ) (t : TranscoderState) (text : Vec ℕ Global) (next : Transcoder) → IsState state
+    → IsTextStateOf state (Growing t text) → next.from ≡ t.transcoder.from → next.to ≡ t.transcoder.to
+    → next.mode ≡ t.transcoder.mode → packed ≡ state_bytes next → IsValidState next → SameEncodings state packed
 same_encodings state packed t text next old goes from to mode is valid = record {
   before = old.transcoder;
   after = next;
@@ -77,10 +77,10 @@ returns-clause-same c state old goes =
     elim c.if-completes.branch [
       | then-completes+in-Ok w ↦
           let is = w.transcoder-is ∙ w.in-Ok.ensures.over in
-          same (ap (λ (t : Standing). t.transcoder.from) is) (ap (λ (t : Standing). t.transcoder.to) is)
-          (ap (λ (t : Standing). t.transcoder.mode) is) c.pack.ensures.bytes c.pack.ensures.valid
+          same (ap (λ (t : TranscoderState). t.transcoder.from) is) (ap (λ (t : TranscoderState). t.transcoder.to) is)
+          (ap (λ (t : TranscoderState). t.transcoder.mode) is) c.pack.ensures.bytes c.pack.ensures.valid
       | else-completes w ↦
           let is = w.transcoder-is in
-          same (ap (λ (t : Standing). t.transcoder.from) is) (ap (λ (t : Standing). t.transcoder.to) is)
-          (ap (λ (t : Standing). t.transcoder.mode) is) c.pack.ensures.bytes c.pack.ensures.valid
+          same (ap (λ (t : TranscoderState). t.transcoder.from) is) (ap (λ (t : TranscoderState). t.transcoder.to) is)
+          (ap (λ (t : TranscoderState). t.transcoder.mode) is) c.pack.ensures.bytes c.pack.ensures.valid
     ]

@@ -4,5 +4,5 @@ use Rattle.upload_rules.proofs.slot.Slot.new.Goals as goal
 
 pub returns : goal.returns
 returns c = λ x.
-    let kept = c.first.ensures.kept x in
+    let slot_is = c.first.ensures.valid x in
     assumption (c.new.ensures.items ∙ sym (new_text x c.args.fields))

@@ -1,0 +1,101 @@
+//! What the program prints of what it did.
+ghost use Rattle.std.specs.Prelude.{◌≡◌, OnOk, count_by};
+ghost use Rattle.std.specs.Io.KnownBytes.{Appends};
+ghost use Rattle.gateway_files.specs.Reports.{formatted_line, free_line, is_read, losses_line, losses_line_of, open_line};
+ghost use Rattle.gateway_files.specs.Reports.{read_lines, served_line, up_line, upgraded_line};
+
+use crate::index_files::IndexFile;
+use crate::surveying::Survey;
+use common::SLOTS;
+use std::io::{self, Write};
+
+/// Says what `format` made.
+pub fn report_formatted<W: Write>(writer: &mut W, blocks: u32, pages: u32) -> io::Result<()>
+    ensures { OnOk result (Appends (W.contents writer.old) (W.contents writer.new) (formatted_line blocks pages)) }
+{
+    writeln!(writer, "formatted {blocks} blocks, {pages} pages")
+}
+
+/// Says which index files were read, and which of them aren't whole.
+pub fn report_read<W: Write>(writer: &mut W, files: &[IndexFile]) -> io::Result<()>
+    ensures { OnOk result (Appends (W.contents writer.old) (W.contents writer.new) (read_lines files.now)) }
+{
+    writeln!(writer, "index files read: {}", count_read(files))?;
+    for file in files {
+        write!(writer, "{file}")?;
+    }
+    Ok(())
+}
+
+// How many of the files were read.
+fn count_read(files: &[IndexFile]) -> usize
+    ensures { result ≡ count_by is_read files.now }
+{
+    files.iter().filter(|file| file.entries.is_some()).count()
+}
+
+/// Says that a spool was upgraded.
+pub fn report_upgraded<W: Write>(writer: &mut W) -> io::Result<()>
+    ensures { OnOk result (Appends (W.contents writer.old) (W.contents writer.new) upgraded_line) }
+{
+    writeln!(writer, "upgraded to version 2")
+}
+
+/// Says how many connections were served.
+pub fn report_served<W: Write>(writer: &mut W, connections: u64) -> io::Result<()>
+    ensures { OnOk result (Appends (W.contents writer.old) (W.contents writer.new) (served_line connections)) }
+{
+    writeln!(writer, "served {connections} connections")
+}
+
+/// Says how much of a spool is free.
+pub fn report_free<W: Write>(writer: &mut W, survey: &Survey) -> io::Result<()>
+    ensures { OnOk result (Appends (W.contents writer.old) (W.contents writer.new) (free_line survey.now)) }
+{
+    writeln!(
+        writer,
+        "version {}, {} of {} blocks free, {} of {SLOTS} slots free",
+        survey.version, survey.free_blocks, survey.blocks, survey.free_slots
+    )
+}
+
+/// Says how often a text has U+FFFD.
+pub fn report_losses<W: Write>(writer: &mut W, losses: u64) -> io::Result<()>
+    ensures { OnOk result (Appends (W.contents writer.old) (W.contents writer.new) (losses_line losses)) }
+{
+    writeln!(writer, "U+FFFD in the text: {losses}")
+}
+
+/// Says how often the text of an upload has U+FFFD.
+pub fn report_losses_of<W: Write>(writer: &mut W, number: u64, losses: u64) -> io::Result<()>
+    ensures { OnOk result (Appends (W.contents writer.old) (W.contents writer.new) (losses_line_of number losses)) }
+{
+    writeln!(writer, "U+FFFD in the text of {number}: {losses}")
+}
+
+/// Says what is served, and where.
+pub fn report_up<W: Write>(
+    writer: &mut W,
+    spool: &str,
+    survey: &Survey,
+    address: &str,
+) -> io::Result<()>
+    ensures { OnOk result (Appends (W.contents writer.old) (W.contents writer.new)
+        (up_line spool.now survey.now address.now)) }
+{
+    writeln!(
+        writer,
+        "{spool}: version {}, {} of {} blocks free, {} of {SLOTS} slots free; listening {address}",
+        survey.version, survey.free_blocks, survey.blocks, survey.free_slots
+    )
+}
+
+/// Warns of an address that other machines may reach.
+pub fn report_open<W: Write>(writer: &mut W, address: &str) -> io::Result<()>
+    ensures { OnOk result (Appends (W.contents writer.old) (W.contents writer.new) (open_line address.now)) }
+{
+    writeln!(
+        writer,
+        "warning: {address} is open to other machines, and there are no passwords"
+    )
+}

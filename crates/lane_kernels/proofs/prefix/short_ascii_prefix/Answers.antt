@@ -1,0 +1,11 @@
+use Rattle.std.proofs.Common.{◌+◌, ◌≤◌, length, arith, rules}
+use Rattle.std.proofs.lemmas.Grind.{common_steps}
+use Rattle.std.specs.Char.{is_ascii}
+use Rattle.lane_kernels.proofs.Prefixes.{passes_within}
+use Rattle.lane_kernels.proofs.prefix.short_ascii_prefix.Goals as goal
+
+pub overflow_add-result : goal.overflow_add-result
+overflow_add-result c =
+    let total : c.skip_ascii-skipped.result + c.prefix.result ≤ length c.args.bytes.now =
+    passes_within is_ascii c.args.bytes.now _ _ c.skip_ascii-skipped.ensures.passed (grind (arith, common_steps)) in
+    search (rules, total)

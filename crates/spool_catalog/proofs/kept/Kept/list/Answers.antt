@@ -1,6 +1,0 @@
-use Rattle.std.proofs.Common.{subst}
-use Rattle.spool_catalog.specs.Holding.{FitsTogether}
-use Rattle.spool_catalog.proofs.kept.Kept.list.Goals as goal
-
-pub returns-clause-fits : goal.returns-clause-fits
-returns-clause-fits c = subst FitsTogether c.self.view_is c.self.invariant
