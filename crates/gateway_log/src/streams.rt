@@ -38,7 +38,7 @@ impl<T: Clock, W: Write + Drop> Watch<'_, T, W> {
             }
             let (after, exchange) = self.talk.sent(rest);
             if let Some(exchange) = exchange {
-                self.log.sent(self.client, self.opened, &exchange);
+                self.log.log_exchange(self.client, self.opened, &exchange);
             }
             rest = after;
         }
@@ -57,7 +57,7 @@ impl<T: Clock, W: Write + Drop> Drop for Watch<'_, T, W> {
             log.body_ends();
         }
         if let Some(exchange) = talk.end() {
-            log.sent(client, opened, &exchange);
+            log.log_exchange(client, opened, &exchange);
         }
     }
 }
