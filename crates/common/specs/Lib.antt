@@ -1,4 +1,5 @@
 pub mod Counts
+pub mod Given
 pub mod Reading
 pub mod Traces
 pub mod Splits

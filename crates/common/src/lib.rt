@@ -2,11 +2,13 @@
 //! and the words for counts and reads.
 #![tactic(auto)]
 
+mod given;
 mod limits;
 mod stop;
 mod texts;
 mod trace;
 
+pub use crate::given::Given;
 pub use crate::limits::{LEAST_BLOCKS, MOST_BLOCKS, MOST_LENGTH, MOST_METADATA, ROWS, SLOTS};
 pub use crate::stop::{DiskFault, Stop};
 pub use crate::texts::{after, number, prefix};

@@ -1,5 +1,6 @@
 //! Texts of uploads, copied to writers.
 ghost use Rattle.std.specs.Prelude.{◌≡◌, ◌<◌, ◌≤◌, ◌+◌, ◌-◌, Bool, IfErr, IfOk, IsErrOf, OnOk, drop, length, min, take};
+ghost use Rattle.common.specs.Given.{MoreReads};
 ghost use Rattle.common.specs.declared.stop.Stop.{Stop};
 ghost use Rattle.upload_rules.specs.Answers.{Counts, Quiet};
 ghost use Rattle.upload_rules.specs.Reading.{text_at};
@@ -36,6 +37,7 @@ pub fn copy_text<W: Write, U: Uploads>(
     ensures refused { IfErr result IsChangeFault }
     ensures counts { Counts (IsErrOf result (Fault.Stop Stop.DiskFault)) (U.failures uploads.old)
         (U.failures uploads.new) }
+    ensures reads { MoreReads (U.reads uploads.old) (U.reads uploads.new) }
 {
     let Some(record) = uploads.record(number) else {
         return Ok(());
@@ -62,6 +64,7 @@ fn copy_bytes<W: Write, U: Uploads>(
     ensures refused { IfErr result IsChangeFault }
     ensures counts { Counts (IsErrOf result (Fault.Stop Stop.DiskFault)) (U.failures uploads.old)
         (U.failures uploads.new) }
+    ensures reads { MoreReads (U.reads uploads.old) (U.reads uploads.new) }
 {
     let mut at = 0;
     while at < len {
@@ -91,6 +94,7 @@ fn copy_piece<W: Write, U: Uploads>(
     ensures refused { IfErr result IsChangeFault }
     ensures counts { Counts (IsErrOf result (Fault.Stop Stop.DiskFault)) (U.failures uploads.old)
         (U.failures uploads.new) }
+    ensures reads { MoreReads (U.reads uploads.old) (U.reads uploads.new) }
 {
     let count = (len - at).min(PIECE as u64);
     let mut buffer = [0; PIECE];
@@ -113,6 +117,7 @@ fn read_at<U: Uploads>(uploads: &mut U, number: u64, at: u64, piece: &mut [u8]) 
     ensures refused { IfErr result IsChangeFault }
     ensures counts { Counts (IsErrOf result (Fault.Stop Stop.DiskFault)) (U.failures uploads.old)
         (U.failures uploads.new) }
+    ensures reads { MoreReads (U.reads uploads.old) (U.reads uploads.new) }
 {
     match uploads.read_text(number, at, piece) {
         // What no upload has is no text.

@@ -8,7 +8,7 @@ ghost use Rattle.upload_rules.specs.Calls.{terminated};
 ghost use Rattle.upload_rules.specs.Store.{Store, deleted_store, upload_of};
 ghost use Rattle.upload_rules.specs.World.{World, is_there};
 ghost use Rattle.spool_image.specs.LeftOnly.{AllShow, IsSpool};
-ghost use Rattle.spool_image.specs.Opening.{OpensOn};
+ghost use Rattle.spool_image.specs.Opening.{ReadsBy};
 ghost use Rattle.gateway_files.specs.declared.faults.Fault.{Fault};
 ghost use Rattle.gateway_files.specs.Changing.{IsChangeResult, IsChangeFault, LimitsTo};
 ghost use Rattle.gateway_files.specs.Deleting.{all_there, deletion_line, deletion_lines, left, stages};
@@ -77,8 +77,8 @@ pub fn delete_on<D: Disk + Drop, W: Write>(
     // A spool's uploads are deleted, unless memory, the disk or the writer refuses it.
     ensures deletes { (n : ℕ) (m : Store) → IsSpool D.Disk disk n m → IsChangeResult result.1 }
 
-    // On any disk it answers by what the reads of its opening gave: for the uploads of the view that they encode.
-    ensures given { OpensOn D.Disk disk (AnswersAs
+    // On any disk it answers by what its reads gave: for the uploads of the view that they encode.
+    ensures given { ReadsBy (D.reads disk) (D.reads result.0) (AnswersAs
         (λ m. Appends (W.contents writer.old) (W.contents writer.new) (deletion_lines m numbers.now)
         × IfOk result.1 (λ all. all ≡ all_there m numbers.now)) (D.size disk) result.1) }
 
@@ -123,6 +123,7 @@ pub fn delete_uploads<W: Write, U: Uploads>(
     ensures refused { IfErr result IsChangeFault }
     ensures counts { Counts (IsErrOf result (Fault.Stop Stop.DiskFault)) (U.failures uploads.old)
         (U.failures uploads.new) }
+    ensures reads { U.reads uploads.new ≡ U.reads uploads.old }
 {
     let mut all = true;
     for number in numbers {
@@ -150,6 +151,7 @@ fn delete_one<W: Write, U: Uploads>(
     ensures refused { IfErr result IsChangeFault }
     ensures counts { Counts (IsErrOf result (Fault.Stop Stop.DiskFault)) (U.failures uploads.old)
         (U.failures uploads.new) }
+    ensures reads { U.reads uploads.new ≡ U.reads uploads.old }
 {
     let there = terminate(uploads, number)?;
     report_deleted(writer, number, there)?;
@@ -168,6 +170,7 @@ fn terminate<U: Uploads>(uploads: &mut U, number: u64) -> Result<bool, Fault>
     ensures refused { IfErr result IsChangeFault }
     ensures counts { Counts (IsErrOf result (Fault.Stop Stop.DiskFault)) (U.failures uploads.old)
         (U.failures uploads.new) }
+    ensures reads { U.reads uploads.new ≡ U.reads uploads.old }
 {
     match uploads.terminate(number) {
         Ok(()) => Ok(true),

@@ -2,6 +2,7 @@
 ghost use Rattle.std.specs.Prelude.{◌≡◌, [], ◌∷◌, ℕ, Bool, Err, IfErr, IfOk, IsErrOf, IsOk, None, OnErr, OnOk, Some};
 ghost use Rattle.std.specs.Prelude.{◌||◌, ◌==◌, false, length, map, not};
 ghost use Rattle.std.specs.Io.KnownBytes.{Appends};
+ghost use Rattle.common.specs.Given.{MoreReads};
 ghost use Rattle.common.specs.declared.stop.Stop.{Stop};
 ghost use Rattle.spool_load.specs.Refusals.{HasOtherVersion, IsDamaged, IsNoSpool};
 ghost use Rattle.upload_rules.specs.Answers.{Counts, Quiet};
@@ -9,7 +10,7 @@ ghost use Rattle.upload_rules.specs.Reading.{text_at};
 ghost use Rattle.upload_rules.specs.Store.{Store, upload_of};
 ghost use Rattle.upload_rules.specs.World.{World};
 ghost use Rattle.spool_image.specs.LeftOnly.{AllShow, IsSpool};
-ghost use Rattle.spool_image.specs.Opening.{OpensOn};
+ghost use Rattle.spool_image.specs.Opening.{ReadsBy};
 ghost use Rattle.gateway_files.specs.declared.faults.Fault.{Fault};
 ghost use Rattle.gateway_files.specs.Changing.{IsChangeResult, IsChangeFault};
 ghost use Rattle.gateway_files.specs.Exporting.{Exports, ExportsAs, ExportsOneAs, ExportsSome, ExportsSomeAs};
@@ -94,8 +95,8 @@ pub fn export_on<D: Disk + Drop, F: Folder, W: Write>(
     // A spool's texts are written, unless memory, the disk, the folder or the writer refuses it.
     ensures exports { (n : ℕ) (m : Store) → IsSpool D.Disk disk n m → IsChangeResult result.1 }
 
-    // On any disk it answers by what the reads of its opening gave: for the uploads of the view that they encode.
-    ensures given { OpensOn D.Disk disk (AnswersAs
+    // On any disk it answers by what its reads gave: for the uploads of the view that they encode.
+    ensures given { ReadsBy (D.reads disk) (D.reads result.0) (AnswersAs
         (λ m. (files : Files) → F.holds folder.old files → ExportsAs false (F.holds folder.new) m (jobs_of all m) files)
         (D.size disk) result.1) }
 
@@ -152,6 +153,7 @@ pub fn export_uploads<W: Write, F: Folder, U: Uploads>(
     ensures refused { IfErr result IsChangeFault }
     ensures counts { Counts (IsErrOf result (Fault.Stop Stop.DiskFault)) (U.failures uploads.old)
         (U.failures uploads.new) }
+    ensures reads { MoreReads (U.reads uploads.old) (U.reads uploads.new) }
 {
     let jobs = plan(alloc, uploads, all)?;
     let done = do_jobs(writer, folder, uploads, &jobs)?;
@@ -194,6 +196,7 @@ fn do_jobs<W: Write, F: Folder, U: Uploads>(
     ensures refused { IfErr result IsChangeFault }
     ensures counts { Counts (IsErrOf result (Fault.Stop Stop.DiskFault)) (U.failures uploads.old)
         (U.failures uploads.new) }
+    ensures reads { MoreReads (U.reads uploads.old) (U.reads uploads.new) }
 {
     let mut done = Done {
         exported: 0,
@@ -263,6 +266,7 @@ fn do_job<'j, W: Write, F: Folder, U: Uploads>(
     ensures refused { IfErr result IsChangeFault }
     ensures counts { Counts (IsErrOf result (Fault.Stop Stop.DiskFault)) (U.failures uploads.old)
         (U.failures uploads.new) }
+    ensures reads { MoreReads (U.reads uploads.old) (U.reads uploads.new) }
 {
     match (export_job(folder, uploads, job), &job.name) {
         (Ok(outcome), _) => {
@@ -302,6 +306,7 @@ fn export_job<'j, F: Folder, U: Uploads>(
     ensures refused { IfErr result IsChangeFault }
     ensures counts { Counts (IsErrOf result (Fault.Stop Stop.DiskFault)) (U.failures uploads.old)
         (U.failures uploads.new) }
+    ensures reads { MoreReads (U.reads uploads.old) (U.reads uploads.new) }
 {
     let Some(name) = &job.name else {
         return Ok(Outcome::Incomplete);
@@ -350,6 +355,7 @@ fn write_text<F: Folder, U: Uploads>(
     ensures refused { IfErr result IsChangeFault }
     ensures counts { Counts (IsErrOf result (Fault.Stop Stop.DiskFault)) (U.failures uploads.old)
         (U.failures uploads.new) }
+    ensures reads { MoreReads (U.reads uploads.old) (U.reads uploads.new) }
 {
     let mut file = folder.begin()?;
     match copy_text(&mut file, uploads, number) {

@@ -1,6 +1,6 @@
 -- The parts of a disk whose calls cost a copy and no more.
 use Rattle.std.specs.Prelude.{ℕ, List, length}
-use Rattle.spool_disk.specs.declared.given.Given.{Given}
+use Rattle.common.specs.declared.given.Given.{Given}
 use Rattle.jobs.specs.declared.ram_disk.RamDisk.{RamDisk}
 
 -- The number of its bytes.

@@ -1,6 +1,7 @@
 //! What is told of the uploads.
 ghost use Rattle.std.specs.Prelude.{◌≡◌, ◌<◌, ◌≤◌, ◌↔◌, ◌-◌, ◌*◌, ℕ, None, length, min};
 ghost use Rattle.std.specs.Prelude.{IsErrOf, MatchOption, IfSome, option_copied};
+ghost use Rattle.common.specs.Given.{MoreReads};
 ghost use Rattle.spool_disk.specs.Disk.{Counts, IsImage, Preserves};
 ghost use Rattle.spool_disk.specs.Views.{Lasts};
 ghost use Rattle.spool_journal.specs.Image.{all_pages, text_page};
@@ -96,6 +97,7 @@ impl Catalog {
         ensures honest { D.honest disk.old ↔ D.honest disk.new }
         ensures counts { Counts (IsErrOf result (UploadError.Stop Stop.DiskFault)) (D.failures disk.old)
             (D.failures disk.new) }
+        ensures reads { MoreReads (D.reads disk.old) (D.reads disk.new) }
         ensures later { D.moment disk.old ≤ D.moment disk.new }
         ensures no_memory { IsErrOf result (UploadError.Stop Stop.NoMemory) → ⊥ }
         ensures count { (m : Store) (v : View) → HasView self.now v → Shows v m

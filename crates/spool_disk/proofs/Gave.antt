@@ -3,7 +3,7 @@ use Rattle.std.proofs.Common.{◌≡◌, ℕ, List, [], ◌∷◌, ◌++◌, len
 use Rattle.std.proofs.lemmas.List.{append_assoc, append_cancel_right}
 use Rattle.spool_disk.specs.Disk.{span}
 use Rattle.spool_disk.specs.Given.{given, AllGave, MoreReads, ReadsGave}
-use Rattle.spool_disk.specs.declared.given.Given.{Given}
+use Rattle.common.specs.declared.given.Given.{Given}
 
 -- Calls that aren't reads forget none.
 pub grew_none : {old new : List Given} → new ≡ old → MoreReads old new

@@ -1,6 +1,6 @@
 -- The parts of a disk in memory.
 use Rattle.std.specs.Prelude.{◌≡◌, ℕ, List, length, get_or, true, false}
-use Rattle.spool_disk.specs.declared.given.Given.{Given}
+use Rattle.common.specs.declared.given.Given.{Given}
 use Rattle.spool_disk.specs.declared.memory.MemoryDisk.{MemoryDisk}
 
 -- The number of its bytes.

@@ -5,7 +5,7 @@ use Rattle.spool_disk.specs.declared.positioned.FileCall.{FileCall}
 use Rattle.spool_disk.specs.declared.positioned.Made.{Made}
 use Rattle.spool_disk.specs.declared.positioned.FileCall.TheVariants.{Open, Lock, Len, ReadAt, SetLen, SyncAll}
 use Rattle.spool_disk.specs.declared.positioned.FileCall.TheVariants.{SyncFolder}
-use Rattle.spool_disk.specs.declared.given.Given.{Given}
+use Rattle.common.specs.declared.given.Given.{Given}
 use Rattle.spool_disk.specs.Given.{given}
 
 -- A call that was made, the bytes that it read or wrote, and whether it succeeded.

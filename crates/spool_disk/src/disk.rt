@@ -7,7 +7,7 @@ use common::DiskFault;
 
 /// A disk of bytes. Every call may fail; a call that failed changes nothing outside its range.
 pub trait Disk {
-    ghost use Rattle.spool_disk.specs.declared.given.Given.{Given};
+    ghost use Rattle.common.specs.declared.given.Given.{Given};
 
     /// The number of bytes. No call changes it.
     ghost size: { Self → ℕ };

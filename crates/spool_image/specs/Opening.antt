@@ -1,7 +1,6 @@
 -- Opening a disk, whatever is on it.
 use Rattle.std.specs.Prelude.{◌≡◌, ◌⊎◌, ℕ, Option, None, Some, IfOk, IfSome, Result, Ok, Err}
 use Rattle.common.specs.declared.stop.Stop.TheVariants.{NoMemory, DiskFault}
-use Rattle.spool_disk.specs.declared.disk.Disk.{Ghosts}
 use Rattle.spool_journal.specs.Image.{overlaid}
 use Rattle.spool_catalog.specs.Loads.{LoadsAs}
 use Rattle.spool_catalog.specs.Shows.{IsValid}
@@ -51,8 +50,3 @@ pub record OpensBy {D S : Type 0} (Has : S → View → Type 0) (size : ℕ) (re
     pub exact : AnswersBy size before after (open_refusal_of result)
     pub memory : IfOk result (λ s. ReadsView size before after (Has s))
     pub opened : (v : View) → IsValid v → EncodesBy size before after v → OpensAs result (λ s. Has s v)
-
--- The opening of a call that goes on after it: with the disk as it left it, this is so of what its reads gave.
-pub record OpensOn {D : Type 0} (disk : Ghosts D) (d : D) (So : (before after : ℕ → ℕ) → Type 0) : Type 0 where
-  pub opened : D
-  pub reads : ReadsBy (disk.reads d) (disk.reads opened) So

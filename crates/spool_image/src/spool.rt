@@ -183,6 +183,8 @@ impl<D: Disk> Uploads for Spool<D> {
 
     ghost failures = { λ s. D.failures s.disk };
 
+    ghost reads = { λ s. D.reads s.disk };
+
     ghost below = { λ s sure w number u represents there.
         upload_below s.disk s.catalog s.drafts.items w number u represents there };
 

@@ -19,7 +19,7 @@ ghost use Rattle.spool_pages.specs.View.{View, IsViewOf};
 ghost use Rattle.spool_pages.specs.declared.version.Version.{Version as Known};
 ghost use Rattle.spool_image.specs.LeftOnly.{AllShow, IsSpool, LeftOrShows};
 ghost use Rattle.spool_image.specs.Upgrade.{CommitOfUpgrade, IsAlreadyNew, IsLateRefusal, IsOldDamaged};
-ghost use Rattle.spool_image.specs.Opening.{OpensOn, ReadsBy};
+ghost use Rattle.spool_image.specs.Opening.{ReadsBy};
 ghost use Rattle.spool_image.specs.Upgrade.{RefusesUpgradeAs, UpgradedFrom, UpgradeRefusedFor, UpgradesBy, UpgradesOf};
 
 use crate::UpgradeError;
@@ -71,6 +71,7 @@ fn rewrite<D: Disk>(alloc: Global, disk: &mut D, catalog: &Catalog) -> Result<()
     ensures honest { D.honest disk.old ↔ D.honest disk.new }
     ensures counts { Counts (result ≡ Err (UpgradeError.Open (Fault.Stop Stop.DiskFault))) (D.failures disk.old)
         (D.failures disk.new) }
+    ensures reads { D.reads disk.new ≡ D.reads disk.old }
     ensures done { D.honest disk.old → (v : View) → HasView catalog.now v
         → Rests v (D.current disk.old) (D.unsynced disk.old)
         → OnOk result (Rests (upgraded v) (D.current disk.new) (D.unsynced disk.new)) }
@@ -123,8 +124,8 @@ pub fn upgrade<D: Disk>(alloc: Global, disk: &mut D) -> Result<(), UpgradeError>
     ensures damaged { D.honest disk.old → IsOldDamaged (D.size disk.old) (D.current disk.old)
         → RefusesUpgradeAs result (UpgradeError.Open Fault.Damaged) }
 
-    // On any disk it answers by what the reads of its opening gave.
-    ensures given { OpensOn D.Disk disk.old (UpgradesBy (D.size disk.old) result) }
+    // On any disk it answers by what its reads gave.
+    ensures given { ReadsBy (D.reads disk.old) (D.reads disk.new) (UpgradesBy (D.size disk.old) result) }
 
     // An error leaves what a read gives, in the old version.
     ensures stays { D.honest disk.old → OfView (D.size disk.old) (D.current disk.old)

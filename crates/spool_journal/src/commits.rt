@@ -18,6 +18,7 @@ fn finish<D: Disk>(disk: &mut D, items: &[(u32, [u8; PAGE])]) -> Result<(), Disk
     ensures size { D.size disk.new ≡ D.size disk.old }
     ensures honest { D.honest disk.old ↔ D.honest disk.new }
     ensures counts { Counts (IsErr result) (D.failures disk.old) (D.failures disk.new) }
+    ensures reads { D.reads disk.new ≡ D.reads disk.old }
     ensures settled { D.honest disk.old → (j : ℕ) (opened : ℕ → ℕ) → Matches items.now opened
         → Placing j opened (D.current disk.old) (D.unsynced disk.old) → Upto opened (D.current disk.old) 0
         → OnOk result (Settled j (replayed opened) (D.current disk.new) (D.unsynced disk.new)) }
@@ -44,6 +45,7 @@ fn commit_items<D: Disk>(
     ensures size { D.size disk.new ≡ D.size disk.old }
     ensures honest { D.honest disk.old ↔ D.honest disk.new }
     ensures counts { Counts (IsErr result) (D.failures disk.old) (D.failures disk.new) }
+    ensures reads { D.reads disk.new ≡ D.reads disk.old }
     ensures done { D.honest disk.old → Idle journal (D.current disk.old) (D.unsynced disk.old)
         → InArea journal items.now
         → Ascends items.now → OnOk result
@@ -72,6 +74,7 @@ pub fn commit<D: Disk>(disk: &mut D, layout: &Layout, pages: &Pages) -> Result<(
     ensures size { D.size disk.new ≡ D.size disk.old }
     ensures honest { D.honest disk.old ↔ D.honest disk.new }
     ensures counts { Counts (IsErr result) (D.failures disk.old) (D.failures disk.new) }
+    ensures reads { D.reads disk.new ≡ D.reads disk.old }
     ensures nothing { length pages.now ≡ 0 → (disk.new ≡ disk.old) × IsOk result }
     ensures ascends { Ascends pages.now }
 

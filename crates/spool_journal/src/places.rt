@@ -14,6 +14,7 @@ pub(crate) fn open_gate<D: Disk>(disk: &mut D) -> Result<(), DiskFault>
     ensures size { D.size disk.new ≡ D.size disk.old }
     ensures honest { D.honest disk.old ↔ D.honest disk.new }
     ensures counts { Counts (IsErr result) (D.failures disk.old) (D.failures disk.new) }
+    ensures reads { D.reads disk.new ≡ D.reads disk.old }
     ensures opened { D.honest disk.old → (j : ℕ) → j ≤ 385 → (pages : List (ℕ × List ℕ)) (was : ℕ → ℕ)
         → Ready j pages was (D.current disk.old) (D.unsynced disk.old) → OnOk result
         (Opened j pages was (D.current disk.new) (D.unsynced disk.new)) }
@@ -54,6 +55,7 @@ pub(crate) fn place_pages<D: Disk>(
     ensures size { D.size disk.new ≡ D.size disk.old }
     ensures honest { D.honest disk.old ↔ D.honest disk.new }
     ensures counts { Counts (IsErr result) (D.failures disk.old) (D.failures disk.new) }
+    ensures reads { D.reads disk.new ≡ D.reads disk.old }
     ensures placing { D.honest disk.old → (j : ℕ) (opened : ℕ → ℕ) → Matches items.now opened
         → Placing j opened (D.current disk.old) (D.unsynced disk.old)
         → Placing j opened (D.current disk.new) (D.unsynced disk.new) }

@@ -15,6 +15,7 @@ fn stage_pages<D: Disk>(disk: &mut D, items: &[(u32, [u8; PAGE])]) -> Result<(),
     ensures size { D.size disk.new ≡ D.size disk.old }
     ensures honest { D.honest disk.old ↔ D.honest disk.new }
     ensures counts { Counts (IsErr result) (D.failures disk.old) (D.failures disk.new) }
+    ensures reads { D.reads disk.new ≡ D.reads disk.old }
     ensures staging { D.honest disk.old → (j : ℕ) → length items.now ≤ j
         → Staging j (D.current disk.old) (D.unsynced disk.old) (D.current disk.new) (D.unsynced disk.new) }
     ensures copied { D.honest disk.old → OnOk result (Copied items.now (D.current disk.new) (length items.now)) }
@@ -61,6 +62,7 @@ fn write_head<D: Disk>(disk: &mut D, head: &[u8; PAGE]) -> Result<(), DiskFault>
     ensures size { D.size disk.new ≡ D.size disk.old }
     ensures honest { D.honest disk.old ↔ D.honest disk.new }
     ensures counts { Counts (IsErr result) (D.failures disk.old) (D.failures disk.new) }
+    ensures reads { D.reads disk.new ≡ D.reads disk.old }
     ensures staging { D.honest disk.old → OnOk result
         ((j : ℕ) → Staging j (D.current disk.old) (D.unsynced disk.old) (D.current disk.new) (D.unsynced disk.new)) }
     ensures is_synced { D.honest disk.old → OnOk result ((p : ℕ) → D.unsynced disk.new p → ⊥) }
@@ -82,6 +84,7 @@ pub(crate) fn stage<D: Disk>(disk: &mut D, items: &[(u32, [u8; PAGE])]) -> Resul
     ensures size { D.size disk.new ≡ D.size disk.old }
     ensures honest { D.honest disk.old ↔ D.honest disk.new }
     ensures counts { Counts (IsErr result) (D.failures disk.old) (D.failures disk.new) }
+    ensures reads { D.reads disk.new ≡ D.reads disk.old }
     ensures ready { D.honest disk.old → (j : ℕ) → length items.now ≤ j → InArea j items.now → Ascends items.now
         → OnOk result (Ready j items.now (D.current disk.old) (D.current disk.new) (D.unsynced disk.new)) }
     ensures lasts { D.honest disk.old → (j : ℕ) → length items.now ≤ j

@@ -61,6 +61,7 @@ pub fn terminate<D: Disk>(
     ensures honest { D.honest disk.old ↔ D.honest disk.new }
     ensures counts { Counts (IsErrOf result (UploadError.Stop Stop.DiskFault)) (D.failures disk.old)
         (D.failures disk.new) }
+    ensures reads { D.reads disk.new ≡ D.reads disk.old }
     ensures layout { catalog.new.layout ≡ catalog.old.layout }
     ensures version { catalog.new.version ≡ catalog.old.version }
 

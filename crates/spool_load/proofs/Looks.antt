@@ -8,7 +8,7 @@ use Rattle.std.proofs.lemmas.Bool.{cases_lt}
 use Rattle.std.proofs.Math.Seq.{take-append_seam}
 use Rattle.spool_disk.specs.Disk.{span}
 use Rattle.spool_disk.specs.Given.{ReadsGave, given}
-use Rattle.spool_disk.specs.declared.given.Given.{Given}
+use Rattle.common.specs.declared.given.Given.{Given}
 use Rattle.spool_disk.specs.declared.disk.Disk.{Ghosts}
 use Rattle.spool_disk.proofs.Gave.{both, first, grew_none, grew_on, none, of_one, one, rest}
 use Rattle.spool_disk.proofs.Firm.{lasts_on}

@@ -3,7 +3,7 @@ use Rattle.std.proofs.Common.{◌≡◌, ℕ, List, Option, Some, None, Result, 
 use Rattle.std.proofs.Common.{MatchResult, refl, subst, sym}
 use Rattle.std.specs.Option.{ok_or}
 use Rattle.spool_disk.specs.Given.{ReadsGave, MoreReads}
-use Rattle.spool_disk.specs.declared.given.Given.{Given}
+use Rattle.common.specs.declared.given.Given.{Given}
 use Rattle.spool_disk.proofs.Gave.{first, grew_none, grew_on, rest}
 use Rattle.spool_pages.specs.View.{View, Encodes, state_place}
 use Rattle.spool_catalog.specs.Holding.{Holding}

@@ -1,7 +1,7 @@
 -- What an opening's reads gave.
 use Rattle.std.specs.Prelude.{ℕ, List}
 use Rattle.spool_disk.specs.Given.{ReadsGave, MoreReads}
-use Rattle.spool_disk.specs.declared.given.Given.{Given}
+use Rattle.common.specs.declared.given.Given.{Given}
 
 -- The reads of an opening fall into two parts, those up to the end of the recovery and those from then on. Whatever
 -- bytes the first gave, and whatever the second, this is so of them. In neither part is a place read twice, so that

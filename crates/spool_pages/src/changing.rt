@@ -24,6 +24,7 @@ pub fn change<D: Disk>(disk: &mut D, layout: &Layout, pages: &Pages) -> Result<(
     ensures size { D.size disk.new ≡ D.size disk.old }
     ensures honest { D.honest disk.old ↔ D.honest disk.new }
     ensures counts { Counts (IsErr result) (D.failures disk.old) (D.failures disk.new) }
+    ensures reads { D.reads disk.new ≡ D.reads disk.old }
 
     // The spool is at rest with the new view.
     ensures done { D.honest disk.old → (v v' : View) → v.blocks ≡ layout.now

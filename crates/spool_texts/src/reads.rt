@@ -1,5 +1,6 @@
 //! Reading a piece of a text.
 ghost use Rattle.std.specs.Prelude.{◌≡◌, ◌≢◌, ◌<◌, ◌≤◌, ◌*◌, ◌+◌, ◌-◌, ◌↔◌, length, get_or, min, IsErr, IfOk};
+ghost use Rattle.common.specs.Given.{MoreReads};
 ghost use Rattle.spool_disk.specs.Disk.{Counts, IsImage, Preserves};
 ghost use Rattle.spool_disk.specs.Views.{Lasts};
 ghost use Rattle.spool_journal.specs.Image.{all_pages, text_page};
@@ -30,6 +31,7 @@ pub fn read_text<D: Disk>(
     ensures size { D.size disk.new ≡ D.size disk.old }
     ensures honest { D.honest disk.old ↔ D.honest disk.new }
     ensures counts { Counts (IsErr result) (D.failures disk.old) (D.failures disk.new) }
+    ensures reads { MoreReads (D.reads disk.old) (D.reads disk.new) }
     ensures later { D.moment disk.old ≤ D.moment disk.new }
     ensures count { IfOk result (λ n. n ≡ min (len - at) (length buf.old)) }
     ensures read { D.honest disk.old → IfOk result
@@ -63,6 +65,7 @@ fn read_piece<D: Disk>(
     ensures size { D.size disk.new ≡ D.size disk.old }
     ensures honest { D.honest disk.old ↔ D.honest disk.new }
     ensures counts { Counts (IsErr result) (D.failures disk.old) (D.failures disk.new) }
+    ensures reads { MoreReads (D.reads disk.old) (D.reads disk.new) }
     ensures later { D.moment disk.old ≤ D.moment disk.new }
     ensures some { IfOk result (λ n. 1 ≤ n) }
     ensures within { IfOk result (λ n. n ≤ length buf.old) }

@@ -88,6 +88,7 @@ impl Table {
 }
 
 impl Uploads for Table {
+    ghost use Rattle.std.specs.Prelude.{[]};
     ghost use Rattle.upload_rules.specs.Table.{TableRepresents};
     ghost use Rattle.upload_rules.specs.Numbers.{upload_below};
 
@@ -104,6 +105,8 @@ impl Uploads for Table {
     ghost left_only = { λ t blocks since ms. Unit {0} };
 
     ghost failures = { λ t. 0 };
+
+    ghost reads = { λ t. [] };
 
     ghost below = { λ t sure w number u represents there. upload_below t w represents number u there };
 

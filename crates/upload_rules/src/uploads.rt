@@ -1,6 +1,7 @@
 //! The trait of stores of uploads. Each result is stated for every world that the store stands for.
 ghost use Rattle.std.specs.Prelude.{◌≡◌, ◌≤◌, ◌<◌, ◌+◌, ℕ, Bool, true, List, length, Option, Some, None, IfSome};
 ghost use Rattle.std.specs.Prelude.{IsErrOf, option_copied};
+ghost use Rattle.common.specs.Given.{MoreReads};
 ghost use Rattle.common.specs.declared.stop.Stop.{Stop};
 ghost use Rattle.upload_rules.specs.Store.{Upload, Store, upload_of, find};
 ghost use Rattle.upload_rules.specs.World.{Patch, World, free_number, reached};
@@ -16,6 +17,8 @@ use enc_index::IndexSet;
 
 /// A store of uploads, with the appends that are under way.
 pub trait Uploads {
+    ghost use Rattle.common.specs.declared.given.Given.{Given};
+
     /// An append under way. It has to be spent, by `commit` or `drop_open`.
     type Draft;
 
@@ -37,6 +40,9 @@ pub trait Uploads {
 
     /// How many disk faults there were.
     ghost failures: { Self → ℕ };
+
+    /// What the successful reads of its disk gave, the latest first.
+    ghost reads: { Self → List Given };
 
     /// The record of the upload with this number.
     fn record(&self, number: u64) -> Option<&Record>
@@ -90,6 +96,7 @@ pub trait Uploads {
             (terminate_outcome w number) }
         ensures unmade { (w : World) → represents self.old true w → IsErrOf result (UploadError.Stop Stop.NoMemory)
             → Limits (moment self.old) (moment self.new) (left_only self.old) (left_only self.new) w.store w.store }
+        ensures reads { reads self.new ≡ reads self.old }
         ensures counts { Counts (IsErrOf result (UploadError.Stop Stop.DiskFault)) (failures self.old)
             (failures self.new) };
 
@@ -180,6 +187,7 @@ pub trait Uploads {
             (represents self.new sure w) }
         ensures no_memory { IsErrOf result (UploadError.Stop Stop.NoMemory) → ⊥ }
         ensures crash { Quiet (moment self.old) (moment self.new) (left_only self.old) (left_only self.new) }
+        ensures reads { MoreReads (reads self.old) (reads self.new) }
         ensures counts { Counts (IsErrOf result (UploadError.Stop Stop.DiskFault)) (failures self.old)
             (failures self.new) };
 

@@ -1,4 +1,5 @@
 use Rattle.std.proofs.Common.{◌∙◌, ◌≤◌, arith, subst}
+use Rattle.spool_disk.proofs.Gave.{grew_on}
 use Rattle.upload_rules.specs.Reading.{text_at}
 use Rattle.upload_rules.specs.Store.{upload_of}
 use Rattle.gateway_files.proofs.Deletions.{unfailed}
@@ -26,4 +27,8 @@ loop-at-preserved g c =
                 (g.W.Write.contents c.copy_piece.new.writer) (omega (arith, next)) (was.1 len)
                 (c.in_ok-at.ensures.copied sure w was.0 len),
           ),
+      grew_on is.4 c.in_ok-at.ensures.reads,
     )
+
+pub returns-in_err-at-clause-reads : goal.returns-in_err-at-clause-reads
+returns-in_err-at-clause-reads g c = grew_on c.loop-at.invariant.4 c.in_err-at.ensures.reads

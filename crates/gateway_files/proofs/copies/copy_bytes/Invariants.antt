@@ -1,4 +1,5 @@
 use Rattle.std.proofs.Common.{◌≡◌, ◌≤◌, ◌-◌, length, take, Bool}
+use Rattle.common.specs.Given.{MoreReads}
 use Rattle.upload_rules.specs.Answers.{Quiet}
 use Rattle.upload_rules.specs.Reading.{text_at}
 use Rattle.upload_rules.specs.Store.{upload_of}
@@ -16,6 +17,7 @@ invariant-loop-at g l =
     × (l.len ≡ length (text_at w.store (upload_of w.store l.number))
     → AppendsOf sure (g.W.Write.contents l.fn.writer) (g.W.Write.contents l.writer)
     (take l.at (text_at w.store (upload_of w.store l.number)))))
+    × MoreReads (g.U.Uploads.reads l.fn.uploads) (g.U.Uploads.reads l.uploads)
 
 abbrev pub decreases-loop-at : goal.decreases-loop-at
 decreases-loop-at g l = l.len - l.at

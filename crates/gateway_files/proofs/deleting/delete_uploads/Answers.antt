@@ -11,6 +11,7 @@ loop-number-init g c = (
   refl,
   λ sure w represents. begun g.U.Uploads sure w c.args.numbers.now c.args.uploads.now
       (g.W.Write.contents c.args.writer.now) represents,
+  refl,
 )
 
 pub loop-number-preserved : goal.loop-number-preserved
@@ -33,6 +34,7 @@ loop-number-preserved g c =
           (g.W.Write.contents c.delete_one.new.writer)
           c.in_ok-there.there (c.in_ok-there.ensures.represents sure at is.represents)
           (c.in_ok-there.ensures.there sure at is.represents) c.in_ok-there.ensures.line),
+      c.in_ok-there.ensures.reads ∙ c.loop-number.invariant.2,
     )
 
 pub returns-in_err-there-clause-crash : goal.returns-in_err-there-clause-crash

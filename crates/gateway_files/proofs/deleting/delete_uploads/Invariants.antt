@@ -9,3 +9,4 @@ invariant-loop-number g l =
     × ((sure : Bool) (w : World) → g.U.Uploads.represents l.fn.uploads sure w
     → Halfway g.U.Uploads sure w l.fn.uploads l.uploads l.numbers (drop l.number-index l.numbers)
     (g.W.Write.contents l.fn.writer) (g.W.Write.contents l.writer) l.all)
+    × (g.U.Uploads.reads l.uploads ≡ g.U.Uploads.reads l.fn.uploads)

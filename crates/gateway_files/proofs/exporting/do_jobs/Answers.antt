@@ -1,5 +1,6 @@
 use Rattle.std.proofs.Common.{◌∙◌, ◌||◌, ap, map, sym}
 use Rattle.std.proofs.lemmas.List.{take_all}
+use Rattle.spool_disk.proofs.Gave.{grew_on}
 use Rattle.gateway_files.specs.Exporting.{some_differ}
 use Rattle.gateway_files.specs.Planning.{job_shown}
 use Rattle.gateway_files.proofs.Deletions.{unfailed}
@@ -19,6 +20,9 @@ pub returns-in_err-outcome-clause-preserves : goal.returns-in_err-outcome-clause
 returns-in_err-outcome-clause-preserves g c files held =
     holds_both (g.F.Folder.holds c.loop-job.folder) (g.F.Folder.holds c.do_job.new.folder) files
     (c.loop-job.invariant.4 files held) c.in_err-outcome.ensures.preserves
+
+pub returns-in_err-outcome-clause-reads : goal.returns-in_err-outcome-clause-reads
+returns-in_err-outcome-clause-reads g c = grew_on c.loop-job.invariant.5 c.in_err-outcome.ensures.reads
 
 pub returns-clause-files : goal.returns-clause-files
 returns-clause-files g c sure w represents files held =
@@ -56,4 +60,5 @@ loop-job-preserved g c =
       λ files held.
           holds_both (g.F.Folder.holds c.loop-job.folder) (g.F.Folder.holds c.do_job.new.folder) files
           (is.4 files held) c.in_ok-outcome.ensures.preserves,
+      grew_on is.5 c.in_ok-outcome.ensures.reads,
     )

@@ -1,4 +1,5 @@
 use Rattle.std.proofs.Common.{◌≡◌, map, take, Bool}
+use Rattle.common.specs.Given.{MoreReads}
 use Rattle.upload_rules.specs.Answers.{Quiet}
 use Rattle.upload_rules.specs.World.{World}
 use Rattle.gateway_files.specs.Exporting.{ExportsAs, some_differ}
@@ -17,3 +18,4 @@ invariant-loop-job g l =
     → ExportsAs sure (g.F.Folder.holds l.folder) w.store (map job_shown (take l.job-index l.jobs)) files
     × (some_differ w.store files (map job_shown (take l.job-index l.jobs)) ≡ l.done.differs))
     × ((files : Files) → g.F.Folder.holds l.fn.folder files → HoldsAll (g.F.Folder.holds l.folder) files)
+    × MoreReads (g.U.Uploads.reads l.fn.uploads) (g.U.Uploads.reads l.uploads)

@@ -193,14 +193,10 @@ returns-clause-same g c honest none =
 
 pub returns-in_err-catalog-clause-given : goal.returns-in_err-catalog-clause-given
 returns-in_err-catalog-clause-given g c =
-    let e = err_from_is_err_and c.from_residual.result c.from_residual.ensures.1 in record {
-      opened = c.load_old.new.disk;
-      reads = rw (e.1, e.2) (by_after c.in_err-catalog.ensures.given (grew_none refl) (λ before after is late. is));
-    }
+    let e = err_from_is_err_and c.from_residual.result c.from_residual.ensures.1 in
+    rw (e.1, e.2) (by_after c.in_err-catalog.ensures.given (grew_none refl) (λ before after is late. is))
 
 pub returns-clause-given : goal.returns-clause-given
-returns-clause-given g c = record {
-  opened = c.load_old.new.disk;
-  reads = by_after c.in_ok-catalog.ensures.given (grew_none refl)
-      (λ before after is late. late_by _ before after c.rewrite.result c.rewrite.ensures.late is);
-}
+returns-clause-given g c =
+    by_after c.in_ok-catalog.ensures.given (grew_none c.rewrite.ensures.reads)
+    (λ before after is late. late_by _ before after c.rewrite.result c.rewrite.ensures.late is)

@@ -1,4 +1,4 @@
-use Rattle.std.proofs.Common.{◌<◌, length, arith}
+use Rattle.std.proofs.Common.{◌<◌, length, arith, ◌∙◌}
 use Rattle.spool_disk.proofs.Firm.{lasts_on, not_err, one_call}
 use Rattle.spool_journal.proofs.Steps.{no_failure}
 use Rattle.spool_journal.proofs.Gate.{opened}
@@ -27,6 +27,7 @@ loop-i-preserved g c =
     record {
       calls = one_call inv.calls c.place.ensures.size c.place.ensures.honest
           (no_failure c.place.ensures.counts (not_err _ _ c.in_ok-place.was));
+      reads = c.place.ensures.reads ∙ inv.reads;
       placing = λ honest j opened matches placing. c.place.ensures.placing (inv.calls.honest honest) j c.loop-i.i opened
           (inv.placing honest j opened matches placing) (omega (arith, lt, matches.size))
           (matches.numbers c.loop-i.i lt);

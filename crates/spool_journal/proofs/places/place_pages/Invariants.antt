@@ -8,6 +8,7 @@ use Rattle.spool_journal.proofs.places.place_pages.Given as goal
 abbrev pub invariant-loop-i : goal.invariant-loop-i
 invariant-loop-i g l = record {
   calls : NoneFailed g.D.Disk l.fn.disk l.disk;
+  reads : g.D.Disk.reads l.disk ≡ g.D.Disk.reads l.fn.disk;
   placing : g.D.Disk.honest l.fn.disk → (j : ℕ) (opened : ℕ → ℕ) → Matches l.items opened
       → Placing j opened (g.D.Disk.current l.fn.disk) (g.D.Disk.unsynced l.fn.disk)
       → Placing j opened (g.D.Disk.current l.disk) (g.D.Disk.unsynced l.disk);

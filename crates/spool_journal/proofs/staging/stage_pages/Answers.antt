@@ -1,4 +1,4 @@
-use Rattle.std.proofs.Common.{rules, refl, arith}
+use Rattle.std.proofs.Common.{rules, refl, arith, ◌∙◌}
 use Rattle.spool_disk.proofs.Firm.{lasts_call, lasts_on, not_err, one_call}
 use Rattle.spool_journal.proofs.Steps.{staging_writes, staged_before, copied_more, no_failure}
 use Rattle.spool_journal.proofs.staging.stage_pages.Goals as goal
@@ -20,6 +20,7 @@ loop-i-preserved g c =
     record {
       calls = one_call inv.calls c.write_at.ensures.size c.write_at.ensures.honest
           (no_failure c.write_at.ensures.counts (not_err _ _ c.in_ok-write_at.was));
+      reads = c.write_at.ensures.reads ∙ inv.reads;
       staging = λ honest j few. staging_writes (inv.staging honest j few)
           (c.write_at.ensures.writes (inv.calls.honest honest)) (omega arith) (search rules);
       copied = λ honest. copied_more _ _ _ (inv.copied honest)

@@ -1,4 +1,5 @@
 use Rattle.std.proofs.Common.{rules, ◌≡◌, ◌≤◌, ◌*◌, ◌+◌, length, ℕ, ◌/◌, ◌%◌, ap, arith, ◌∙◌, get_or, length-take, take}
+use Rattle.spool_disk.proofs.Gave.{grew_none, grew_one}
 use Rattle.spool_journal.specs.declared.TheConstants.{PAGE}
 use Rattle.spool_disk.specs.Disk.{span}
 use Rattle.spool_journal.specs.Image.{text_page}
@@ -21,6 +22,12 @@ read-requires g c =
       c.min-n.ensures,
       length-take c.min-n.result c.args.buf.now,
     )
+
+pub returns-in_err-read-clause-reads : goal.returns-in_err-read-clause-reads
+returns-in_err-read-clause-reads g c = grew_none c.in_err-read.ensures.none
+
+pub returns-clause-reads : goal.returns-clause-reads
+returns-clause-reads g c = grew_one c.in_ok-read.ensures.given
 
 pub returns-clause-piece : goal.returns-clause-piece
 returns-clause-piece g c honest =

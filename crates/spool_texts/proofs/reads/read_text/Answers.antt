@@ -1,9 +1,13 @@
 use Rattle.std.proofs.Common.{◌≤◌, length, ◌-◌, arith, ◌∙◌, take, drop, length-take}
 use Rattle.spool_disk.proofs.Firm.{lasts_on, lasts_more, not_err}
+use Rattle.spool_disk.proofs.Gave.{grew_on}
 use Rattle.spool_journal.specs.Image.{text_page}
 use Rattle.spool_journal.proofs.Steps.{no_failure}
 use Rattle.spool_texts.proofs.Pieces.{bytes_on, rest_on, all_read, preserves_on, image_preserves}
 use Rattle.spool_texts.proofs.reads.read_text.Goals as goal
+
+pub returns-in_err-done-clause-reads : goal.returns-in_err-done-clause-reads
+returns-in_err-done-clause-reads g c = grew_on c.loop-done.invariant.reads c.read_piece.ensures.reads
 
 pub loop-done-preserved : goal.loop-done-preserved
 loop-done-preserved g c =
@@ -17,6 +21,7 @@ loop-done-preserved g c =
       honest = λ honest. c.read_piece.ensures.honest.0 (inv.honest honest);
       back = λ honest. inv.back (c.read_piece.ensures.honest.1 honest);
       later = omega (arith, inv.later, c.read_piece.ensures.later);
+      reads = grew_on inv.reads c.read_piece.ensures.reads;
       counts = no_failure c.read_piece.ensures.counts (not_err _ _ c.in_ok-done.was) ∙ inv.counts;
       preserves = λ honest. preserves_on (inv.preserves honest) (c.read_piece.ensures.preserves (inv.honest honest));
       lasts = λ honest. lasts_on (inv.lasts honest)

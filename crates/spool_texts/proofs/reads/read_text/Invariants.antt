@@ -1,4 +1,5 @@
 use Rattle.std.proofs.Common.{◌-◌, ◌≡◌, ◌≤◌, ◌+◌, get_or, ℕ, ◌<◌}
+use Rattle.common.specs.Given.{MoreReads}
 use Rattle.spool_disk.specs.Disk.{IsImage, Preserves}
 use Rattle.spool_disk.specs.Views.{Lasts}
 use Rattle.spool_journal.specs.Image.{text_page}
@@ -11,6 +12,7 @@ invariant-loop-done g l = record {
   honest : g.D.Disk.honest l.fn.disk → g.D.Disk.honest l.disk;
   back : g.D.Disk.honest l.disk → g.D.Disk.honest l.fn.disk;
   later : g.D.Disk.moment l.fn.disk ≤ g.D.Disk.moment l.disk;
+  reads : MoreReads (g.D.Disk.reads l.fn.disk) (g.D.Disk.reads l.disk);
   counts : g.D.Disk.failures l.disk ≡ g.D.Disk.failures l.fn.disk;
   preserves : g.D.Disk.honest l.fn.disk → Preserves (g.D.Disk.current l.fn.disk) (g.D.Disk.current l.disk)
       (g.D.Disk.unsynced l.fn.disk)

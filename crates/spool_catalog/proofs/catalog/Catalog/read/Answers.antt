@@ -1,4 +1,5 @@
 use Rattle.std.proofs.Common.{◌≡◌, ◌∙◌, ◌-◌, Option, ℕ, ap, length, min, refl, subst, sym}
+use Rattle.spool_disk.proofs.Gave.{grew_none}
 use Rattle.upload_rules.specs.Answers.{IsLate}
 use Rattle.upload_rules.specs.declared.errors.UploadRefusal.{UploadRefusal}
 use Rattle.upload_rules.specs.Store.{text_of, upload_of}
@@ -41,3 +42,6 @@ returns-in-Err-clause-answer g c honest m v catalog shows encodes =
     let text = c.in-Some.ensures.text v m (g.D.Disk.current c.args.disk.now) catalog shows encodes recorded.upload recorded.there in
     let there = text_there m (upload_of m c.args.number) recorded.upload _ recorded.there text in
     subst (λ (o : Option UploadRefusal). IsLate o) (sym there.0) tt
+
+pub returns-in_default-clause-reads : goal.returns-in_default-clause-reads
+returns-in_default-clause-reads g c = grew_none refl

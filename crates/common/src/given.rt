@@ -1,8 +1,8 @@
-//! What the reads of a disk gave, for clauses.
+//! What a read of a disk gave, for clauses.
 ghost use Rattle.std.specs.Prelude.{◌≡◌};
-ghost use Rattle.spool_disk.specs.Given.{given};
+ghost use Rattle.common.specs.Given.{given};
 
-use common::Trace;
+use crate::trace::Trace;
 
 /// What a read gave that succeeded. Only clauses read it.
 #[derive(Drop)]
@@ -14,7 +14,7 @@ pub struct Given {
 }
 
 impl Given {
-    ghost use Rattle.spool_disk.specs.Given.{given};
+    ghost use Rattle.common.specs.Given.{given};
 
     /// A read that gave these bytes from the place on.
     pub fn new(at: u64, bytes: &[u8]) -> Given
