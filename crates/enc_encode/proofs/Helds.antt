@@ -33,7 +33,8 @@ module _ {Z : Type 0} where
   nothing_appended out = record { items = sym (append-nil out.items); capacity = omega arith }
 
   -- all is held still, or nothing is
-  pub all_held : (out : Vec ℕ Z) (held bytes still_held : List ℕ) → still_held ≡ held ++ bytes → Passed out held bytes out still_held
+  pub all_held : (out : Vec ℕ Z) (held bytes still_held : List ℕ) → still_held ≡ held ++ bytes
+      → Passed out held bytes out still_held
   all_held out held bytes still_held e = record { prefix = []; parts = sym e; appended = nothing_appended out }
 
   -- more that is held led_by the rest
@@ -47,9 +48,11 @@ module _ {Z : Type 0} where
   }
 
   -- a code led_by another
-  pub held_after : (a code : Coded) (old : Vec ℕ Z) (held : List ℕ) (mid : Vec ℕ Z) (still_held : List ℕ) (new : Vec ℕ Z)
+  pub held_after : (a code : Coded) (old : Vec ℕ Z) (held : List ℕ) (mid : Vec ℕ Z) (still_held : List ℕ)
+      (new : Vec ℕ Z)
       (last : List ℕ) (r : Result ShiftState EncodeError) →
-      Passed old held a.bytes mid still_held → HoldsCode code mid still_held new last r → HoldsCode (led_by a.bytes code) old held new last r
+      Passed old held a.bytes mid still_held → HoldsCode code mid still_held new last r
+      → HoldsCode (led_by a.bytes code) old held new last r
   held_after a code old held mid still_held new last (Ok next) p q = (
     q.0,
     q.1,
@@ -87,7 +90,8 @@ module _ {Z : Type 0} where
 module _ (t : Tables) (e : EncoderState) {Z : Type 0} where
   pub held_then : (x y : List ℕ) (old : Vec ℕ Z) (held : List ℕ) (mid : Vec ℕ Z) (still_held : List ℕ) (new : Vec ℕ Z)
       (last : List ℕ) (s : ShiftState) (r : Result ShiftState EncodeError) →
-      HoldsCode (code_from t e x) old held mid still_held (Ok s) → HoldsCode (coded (encoder t e.to) e.mode (shift_of s) y) mid still_held new
+      HoldsCode (code_from t e x) old held mid still_held (Ok s)
+      → HoldsCode (coded (encoder t e.to) e.mode (shift_of s) y) mid still_held new
       last r → HoldsCode (code_from t e (x ++ y)) old held new last r
   held_then x y old held mid still_held new last s r p q =
       let a = code_from t e x in
@@ -107,9 +111,11 @@ twice_held t e to s c b between more next same again wrote old held mid still_he
     let z = shift_of between in
     let code : Coded = record { bytes = code_bytes more; state = shift_of next; fault = None } in
     let first : Coded = record { bytes = code_bytes b; state = z; fault = None } in
-    let twice = coded_twice t e.to e.mode (shift_of s) c (code_bytes b) z (encode.Wrote (code_bytes more) (shift_of next))
+    let twice = coded_twice t e.to e.mode (shift_of s) c (code_bytes b) z
+    (encode.Wrote (code_bytes more) (shift_of next))
     (rw same at again) (rw same at wrote) in
-    subst (λ x. HoldsCode x old held new last r) (sym twice) (held_after first code old held mid still_held new last r p q)
+    subst (λ x. HoldsCode x old held new last r) (sym twice)
+    (held_after first code old held mid still_held new last r p q)
 
 -- the bytes before a reference, and the reference
 pub reference_code : (t : Tables) (e : EncoderState) (to : Encoding) (s : ShiftState) (c : ℕ) (b : Bytes)
@@ -132,7 +138,12 @@ held_error code old new still_held (Unencodable c) p = p
 -- the rest that is held is appended, or a part of it
 pub flushed : {Z : Type 0} (code : Coded) (old mid new : Vec ℕ Z) (still_held : List ℕ) (s : ShiftState)
     → HoldsCode code old [] mid still_held (Ok s) → Appended mid still_held new → Gave code old new (Ok s)
-flushed code old mid new still_held s p q = (p.0, p.1, subst (λ z. Appended old z new) (sym p.2.parts) (both p.2.appended q))
+flushed code old mid new still_held s p q = (
+  p.0,
+  p.1,
+  subst (λ z. Appended old z new) (sym p.2.parts)
+      (both p.2.appended q),
+)
 
 pub unflushed : {Z : Type 0} (code : Coded) (old mid new : Vec ℕ Z) (still_held : List ℕ) (s : ShiftState)
     → HoldsCode code old [] mid still_held (Ok s) → Stopped mid still_held new → Gave code old new (Err NoMemory)

@@ -15,7 +15,8 @@ use Rattle.enc_encode.proofs.Twos.{two_begin}
 pointer_few : (at : List ℕ) (c p : ℕ) → FewPointers at → found_pointer at c ≡ Some p → p < 128
 pointer_few at c p few is = subst (λ o. IfSome o (λ p. p < 128)) is (few c)
 
-single_by : (at : List ℕ) (c p b : ℕ) → 128 ≤ c → found_pointer at c ≡ Some p → b ≡ p + 0x80 → IsSingleByte at c (b ∷ [])
+single_by : (at : List ℕ) (c p b : ℕ) → 128 ≤ c → found_pointer at c ≡ Some p → b ≡ p + 0x80
+    → IsSingleByte at c (b ∷ [])
 single_by at c p b outside is own = inr (outside, p, is, ap (λ z. z ∷ []) own)
 
 -- a letter's byte is the one that the encoding has

@@ -113,7 +113,8 @@ module _ (t : Tables) (e : EncoderState) {Z : Type 0} where
   -- one character
   pub char_held : (text rest : List ℕ) (c : ℕ) (s : ShiftState) (old : Vec ℕ Z) (held : List ℕ) (new : Vec ℕ Z)
       (still_held : List ℕ) (r : Result ShiftState EncodeError) →
-      IsUtf8 text → text ≡ encode c ++ rest → HoldsCode (coded (encoder t e.to) e.mode (shift_of s) (c ∷ [])) old held new
+      IsUtf8 text → text ≡ encode c ++ rest → HoldsCode (coded (encoder t e.to) e.mode (shift_of s) (c ∷ [])) old held
+      new
       still_held r →
       HeldPrefix (code_from t (shifted e (shift_of s))) text rest old held new still_held r
   char_held text rest c s old held new still_held r u parts k =
@@ -122,7 +123,8 @@ module _ (t : Tables) (e : EncoderState) {Z : Type 0} where
         prefix = encode c;
         parts = parts;
         own = own;
-        code = subst (λ z. HoldsCode (code_from t (shifted e (shift_of s)) z) old held new still_held r) (sym (char_one c own)) k;
+        code = subst (λ z. HoldsCode (code_from t (shifted e (shift_of s)) z) old held new still_held r)
+            (sym (char_one c own)) k;
       }
 
   -- characters whose bytes are known
@@ -145,7 +147,8 @@ module _ (t : Tables) (e : EncoderState) {Z : Type 0} where
       }
 
   -- no character yet
-  pub prefix_none : (text : List ℕ) (s : ShiftState) (out : Vec ℕ Z) (still_held : List ℕ) → shift_of s ≡ e.shift → still_held ≡ []
+  pub prefix_none : (text : List ℕ) (s : ShiftState) (out : Vec ℕ Z) (still_held : List ℕ) → shift_of s ≡ e.shift
+      → still_held ≡ []
       → HeldPrefix (code_from t e) text text out [] out still_held (Ok s)
   prefix_none text s out still_held h none = record {
     prefix = [];

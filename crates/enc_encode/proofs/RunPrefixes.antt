@@ -140,7 +140,8 @@ all_ascii gives as_is (c ∷ cs) a = (
 )
 
 -- one prefix after another
-pub run_both : (gives : ℕ → List ℕ → Type 0) (text rest left held still_held new : List ℕ) → RunPrefix gives text rest held
+pub run_both : (gives : ℕ → List ℕ → Type 0) (text rest left held still_held new : List ℕ)
+    → RunPrefix gives text rest held
     still_held
     → RunPrefix gives rest left still_held new → RunPrefix gives text left held new
 run_both gives text rest left held still_held new p q = record {

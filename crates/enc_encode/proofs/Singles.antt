@@ -39,7 +39,8 @@ singles_are t e at is same s c bytes (inr h) =
 -- the table that was found, if any
 pub singles_found : (t : Tables) (e : Encoding) (r : Option (Bor (List ℕ))) → encoder t e ≡ single_encoder (t.single e)
     →
-    MatchOption r ((c : ℕ) → pointer (t.single e) c ≡ None) (λ p. (c : ℕ) → found_pointer p.now c ≡ pointer (t.single e) c) →
+    MatchOption r ((c : ℕ) → pointer (t.single e) c ≡ None) (λ p. (c : ℕ)
+    → found_pointer p.now c ≡ pointer (t.single e) c) →
     IfSome r (λ p. AreSingles (encoder t e) p.now)
 singles_found t e None is m = tt
 singles_found t e (Some p) is m = singles_are t e p.now is m

@@ -14,18 +14,21 @@ use Rattle.enc_encode.specs.declared.error.EncodeError.TheVariants.{NoMemory, Un
 use Rattle.enc_encode.specs.declared.shift.ShiftState.{ShiftState}
 
 -- of those that were held and some more, a prefix was appended, and the rest is held
-pub record Passed {Z : Type 0} (old : Vec ℕ Z) (held bytes : List ℕ) (new : Vec ℕ Z) (still_held : List ℕ) : Type 0 where
-  pub prefix : List ℕ
-  pub parts : held ++ bytes ≡ prefix ++ still_held
-  pub appended : Appended old prefix new
+pub record Passed {Z : Type 0} (old : Vec ℕ Z) (held bytes : List ℕ) (new : Vec ℕ Z) (still_held : List ℕ) : Type 0
+  where
+    pub prefix : List ℕ
+    pub parts : held ++ bytes ≡ prefix ++ still_held
+    pub appended : Appended old prefix new
 
 -- a code that goes after bytes that are held: it is passed on; or memory is wanted; or all before the first fault is
 -- appended
-abbrev pub HoldsCode : {Z : Type 0} → Coded → Vec ℕ Z → List ℕ → Vec ℕ Z → List ℕ → Result ShiftState EncodeError → Type 0
+abbrev pub HoldsCode : {Z : Type 0} → Coded → Vec ℕ Z → List ℕ → Vec ℕ Z → List ℕ → Result ShiftState EncodeError
+    → Type 0
 HoldsCode code old held new still_held (Ok next) =
     (code.fault ≡ None) × (shift_of next ≡ code.state) × Passed old held code.bytes new still_held
 HoldsCode code old held new still_held (Err NoMemory) = Stopped old (held ++ code.bytes) new
-HoldsCode code old held new still_held (Err (Unencodable c)) = (code.fault ≡ Some c) × Appended old (held ++ code.bytes) new
+HoldsCode code old held new still_held (Err (Unencodable c)) =
+    (code.fault ≡ Some c) × Appended old (held ++ code.bytes) new
 
 -- the code of a text's start went after bytes that are held, and the rest is left
 pub record HeldPrefix {Z : Type 0} (code_of : List ℕ → Coded) (text rest : List ℕ) (old : Vec ℕ Z) (held : List ℕ)

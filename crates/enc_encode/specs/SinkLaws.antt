@@ -26,7 +26,8 @@ room_after old mid x y e c h =
     length-append old.items x in let i : length mid.items ≡ length (old.items ++ x) = ap length e in
     omega (arith, l, m, i, c, h)
 
-room_joined : (old : Vec ℕ Global) (r : Coded) (m : Shift → Coded) → NoRoom old r.bytes → NoRoom old (joined_code r m).bytes
+room_joined : (old : Vec ℕ Global) (r : Coded) (m : Shift → Coded) → NoRoom old r.bytes
+    → NoRoom old (joined_code r m).bytes
 room_joined old r m p = go r.fault refl
   where
     go : (z : Option ℕ) → r.fault ≡ z → NoRoom old (joined_code r m).bytes

@@ -281,7 +281,8 @@ impl Encoder {
         out: &mut Vec<u8>,
     ) -> Result<ShiftState, EncodeError>
         requires { IsLoopOf LOOP self.now.to }
-        ensures { HoldsCode (coded (encoder (tables set.now) self.now.to) self.now.mode (shift_of shift) (c ∷ [])) out.old
+        ensures { HoldsCode (coded (encoder (tables set.now) self.now.to) self.now.mode (shift_of shift) (c ∷ []))
+            out.old
             held.old out.new held.new result }
     {
         let to = encoding_of::<LOOP>(self.to);

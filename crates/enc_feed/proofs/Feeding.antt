@@ -5,7 +5,8 @@ use Rattle.std.proofs.Common.{take-append-drop}
 use Rattle.std.proofs.lemmas.List.{take_more}
 use Rattle.enc_model.specs.declared.Answer.{Answer}
 use Rattle.enc_model.specs.declared.Answer.TheVariants.{Finished}
-use Rattle.enc_model.specs.Stream.{HandlerStep, Handler, DecoderRun, points_of, text_then, steps, all_bytes, quick, end_to, run_to_end, IsCalm}
+use Rattle.enc_model.specs.Stream.{HandlerStep, Handler, DecoderRun, points_of, text_then, steps, all_bytes, quick}
+use Rattle.enc_model.specs.Stream.{end_to, run_to_end, IsCalm}
 use Rattle.enc_feed.specs.Sink.{Given, IsSink}
 use Rattle.enc_model.proofs.Steps.{steps_none, steps_one, steps_append, steps_end}
 
@@ -26,24 +27,30 @@ module _ {S : Type 0} (h : Handler S) where
   end_case : (k : ℕ) (t : HandlerStep S) (a : Answer) → (a ≡ Finished → ⊥) →
       (elim a as (λ _. DecoderRun S) [
         | Finished ↦ record { text = []; state = t.state }
-        | _ ↦ let r = all_bytes (quick h) t.state t.restored in text_then (points_of t.answer ++ r.text) (end_to k h r.state)
+        | _ ↦ let r = all_bytes (quick h) t.state t.restored in text_then (points_of t.answer ++ r.text)
+            (end_to k h r.state)
       ])
-      ≡ (let r = all_bytes (quick h) t.state t.restored in text_then (points_of t.answer ++ r.text) (end_to k h r.state))
+      ≡ (let r = all_bytes (quick h) t.state t.restored in text_then (points_of t.answer ++ r.text)
+      (end_to k h r.state))
   end_case k t Finished n = absurd (n refl)
   end_case k t _ n = refl
 
   -- an answer at the end that isn't the last
   end_is : (d k : ℕ) (s : S) (answer : Answer) (r : List ℕ) (next : S) → d ≡ suc k → (answer ≡ Finished → ⊥) →
       answer ≡ (h s None).answer → r ≡ (h s None).restored → next ≡ (h s None).state →
-      end_to d h s ≡ (let run = all_bytes (quick h) next r in text_then (points_of answer ++ run.text) (end_to k h run.state))
+      end_to d h s ≡ (let run = all_bytes (quick h) next r in text_then (points_of answer ++ run.text)
+      (end_to k h run.state))
   end_is d k s answer r next ed n ea er en =
       let t = h s None in
       ap (λ z. end_to z h s) ed
       ∙ end_case k t t.answer (λ f. n (ea ∙ f))
-      ∙ ap (λ z. let run = all_bytes (quick h) t.state z in text_then (points_of t.answer ++ run.text) (end_to k h run.state))
+      ∙ ap (λ z. let run = all_bytes (quick h) t.state z in text_then (points_of t.answer ++ run.text)
+      (end_to k h run.state))
       (sym er)
-      ∙ ap (λ z. let run = all_bytes (quick h) z r in text_then (points_of t.answer ++ run.text) (end_to k h run.state)) (sym en)
-      ∙ ap (λ z. let run = all_bytes (quick h) next r in text_then (points_of z ++ run.text) (end_to k h run.state)) (sym ea)
+      ∙ ap (λ z. let run = all_bytes (quick h) z r in text_then (points_of t.answer ++ run.text)
+      (end_to k h run.state)) (sym en)
+      ∙ ap (λ z. let run = all_bytes (quick h) next r in text_then (points_of z ++ run.text) (end_to k h run.state))
+      (sym ea)
 
   -- what was given up to there, and what comes then
   pub end_given : {A X E : Type 0} (takes : A → List ℕ → A → Type 0) (refuses : A → List ℕ → E → A → Type 0)
@@ -108,7 +115,8 @@ module _ {A E : Type 0} (takes : A → List ℕ → A → Type 0) (refuses : A �
         let u = h s (Some b) in
         let g2 = subst (λ z. Given takes refuses m (all_bytes (quick h) z r).text c res) en g in
         let g3 = subst (λ z. Given takes refuses m (all_bytes (quick h) u.state z).text c res) er g2 in
-        let n = given_then takes refuses sink a m c (points_of u.answer) (all_bytes (quick h) u.state u.restored).text res
+        let n = given_then takes refuses sink a m c (points_of u.answer) (all_bytes (quick h) u.state u.restored).text
+        res
         (subst (λ z. takes a (points_of z) m) ea t) g3 in
         subst (λ run. Given takes refuses a run.text c res) (sym (steps_one h calm s b)) n
 

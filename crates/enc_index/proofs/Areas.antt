@@ -16,7 +16,8 @@ use Rattle.enc_index.specs.Sets.{IsIndex, IsIndexSet}
 use Rattle.enc_index.proofs.Lookups.{code_of_none}
 use Rattle.enc_index.proofs.Reading.{none}
 use Rattle.std.specs.Int.{to_be_bytes, w32}
-use Rattle.enc_index.specs.Area.{nth_file, flag, spot_of, entry_of, entry_at, area_byte, IsAreaOf, word_of, scalar_in_entry}
+use Rattle.enc_index.specs.Area.{nth_file, flag, spot_of, entry_of, entry_at, area_byte, IsAreaOf, word_of}
+use Rattle.enc_index.specs.Area.{scalar_in_entry}
 use Rattle.enc_index.specs.Area.{IsFileIn}
 use Rattle.enc_index.specs.Compared.{HasFiles, HasMargins}
 

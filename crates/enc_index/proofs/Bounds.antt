@@ -81,7 +81,8 @@ set_includes [] place index valid is k = is k
 set_includes (first ∷ single) zero index valid is zero = valid
 set_includes (first ∷ single) zero index valid is (suc k) = is (suc k)
 set_includes (first ∷ single) (suc place) index valid is zero = is zero
-set_includes (first ∷ single) (suc place) index valid is (suc k) = set_includes single place index valid (λ n. is (suc n)) k
+set_includes (first ∷ single) (suc place) index valid is (suc k) = set_includes single place index valid
+    (λ n. is (suc n)) k
 
 -- a set into which an index of a single-byte encoding was put
 pub put_single : (x : IndexSet) (place : ℕ) (index : Index) → IsIndexSet x → IsIndex 128 index

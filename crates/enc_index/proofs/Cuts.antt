@@ -18,7 +18,8 @@ module _ (mark : ℕ) (bytes : List ℕ) (i : ℕ) (h : i < length bytes) where
       (drop (i + 1) bytes)
   before_next e = rw (drop_more bytes i 0 h) (grind (arith, nat_tests, e))
 
-  pub after_next : (get_or bytes i 0 ≡ mark → ⊥) → rest_if_any mark (drop i bytes) ≡ rest_if_any mark (drop (i + 1) bytes)
+  pub after_next : (get_or bytes i 0 ≡ mark → ⊥) → rest_if_any mark (drop i bytes) ≡ rest_if_any mark
+      (drop (i + 1) bytes)
   unfolding rest_if_any
   after_next e = rw (drop_more bytes i 0 h) (grind (arith, nat_tests, e))
 

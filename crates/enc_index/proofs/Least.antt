@@ -41,14 +41,16 @@ module _ (includes : ℕ → Bool) (entries : List (Option ℕ)) (i j : ℕ) (ne
   pub past_none : slice_index_or entries i None ≡ None → (c : ℕ) → from i c ≡ from j c
   past_none e c = rw (from_none entries i h e, next) refl
 
-  skipped : (d c : ℕ) (rest : Index) → includes i ≡ false → pointer_where includes ((i, d) ∷ rest) c ≡ pointer_where includes
+  skipped : (d c : ℕ) (rest : Index) → includes i ≡ false → pointer_where includes ((i, d) ∷ rest) c ≡ pointer_where
+      includes
       rest c
   unfolding pointer_where
   skipped d c rest k = rw k
       (elim (d == c) as (λ b. cond (b && false) (least i (pointer_where includes rest c))
       (pointer_where includes rest c) ≡ pointer_where includes rest c) [ true ↦ refl | false ↦ refl ])
 
-  pub past_unusable : (d : ℕ) → slice_index_or entries i None ≡ Some d → includes i ≡ false → (c : ℕ) → from i c ≡ from j c
+  pub past_unusable : (d : ℕ) → slice_index_or entries i None ≡ Some d → includes i ≡ false → (c : ℕ)
+      → from i c ≡ from j c
   past_unusable d e k c = rw (from_some entries i d h e, next) (skipped d c _ k)
 
   taken : (d c : ℕ) (rest : Index) → includes i ≡ true → least i (pointer_where includes rest c) ≡ Some i

@@ -40,7 +40,8 @@ pub after_shorter : (mark : ℕ) (bytes rest : List ℕ) → rest_if_any mark by
 unfolding rest_if_any
 after_shorter mark [] rest e = absurd cc
 after_shorter mark (b ∷ bytes) rest e =
-    elim (b == mark) as (λ t. cond t (Some bytes) (rest_if_any mark bytes) ≡ Some rest → length rest < suc (length bytes)) [
+    elim (b == mark) as (λ t. cond t (Some bytes) (rest_if_any mark bytes) ≡ Some rest
+    → length rest < suc (length bytes)) [
       | true ↦ λ h. (let same : bytes ≡ rest = cc in omega (arith, ap length same))
       | false ↦ λ h. (let less = after_shorter mark bytes rest h in omega arith)
     ] e

@@ -30,7 +30,8 @@ pub at_first : (bound n : ℕ) (entries : List (Option ℕ)) (lines : List (List
     with_lines (length entries) n (pairs_from 0 entries) lines ≡ with_lines bound n [] lines
 at_first bound n entries lines e = rw (e, length-replicate bound none, no_pairs_at 0 bound) refl
 
-pub scalars_at_first : (bound : ℕ) (entries : List (Option ℕ)) → entries ≡ replicate bound None → AreScalarEntries entries
+pub scalars_at_first : (bound : ℕ) (entries : List (Option ℕ)) → entries ≡ replicate bound None
+    → AreScalarEntries entries
 scalars_at_first bound entries e k = rw (e, no_code bound k) (tt)
 
 pub read_refused : (kind : Kind) (bytes : List ℕ) (e : ReadError) → with_lines (pointers_of kind) 1 []
@@ -47,7 +48,8 @@ unfolding pairs_of_file
 read_done kind bytes index h = h
 
 -- the pairs of a table ascend
-pairs_ascend : (low q bound : ℕ) (entries : List (Option ℕ)) → low ≤ q → bound ≡ q + length entries → AreScalarEntries entries
+pairs_ascend : (low q bound : ℕ) (entries : List (Option ℕ)) → low ≤ q → bound ≡ q + length entries
+    → AreScalarEntries entries
     → ascends low bound (pairs_from q entries) ≡ true
 unfolding ascends pairs_from
 pairs_ascend low q bound [] l e s = refl

@@ -18,7 +18,8 @@ small = codes "# test" ++ 0x0A ∷ 0x0A ∷ [] ++ line (codes "  0") (codes "0x3
     (codes "FF0D") ++ line (codes "61") (codes "FF0D")
 
 accepted : pairs_of_file Jis0208 small ≡ Ok ((0, 0x3000) ∷ (60, 0xFF0D) ∷ (61, 0xFF0D) ∷ [])
-unfolding line small rest_if_any pieces without_crs number_onward without_spaces pair_of code inserted with_line with_lines
+unfolding line small rest_if_any pieces without_crs number_onward without_spaces pair_of code inserted with_line
+    with_lines
     pairs_of_file
 accepted = refl
 
@@ -35,14 +36,16 @@ refused : (pairs_of_file Jis0208 (small ++ line (codes "60") (codes "3001")) ≡
     × (pairs_of_file Jis0208 (codes "x") ≡ Err (Line 1))
     × (pairs_of_file Jis0208 (line (codes "0000001") (codes "3001")) ≡ Err (Line 1))
     × (pairs_of_file Jis0208 (line (codes "0") (codes "0x")) ≡ Err (Line 1))
-unfolding line small rest_if_any pieces without_crs number_onward without_spaces pair_of code inserted with_line with_lines
+unfolding line small rest_if_any pieces without_crs number_onward without_spaces pair_of code inserted with_line
+    with_lines
     pairs_of_file
 refused = (refl, refl, refl, refl, refl, refl, refl)
 
 -- CR LF, pointers out of order, and a third field
 crlf : pairs_of_file Katakana (codes "2" ++ 0x09 ∷ codes "30f2" ++ 0x09 ∷ codes "x" ++ 0x0D ∷ 0x0A ∷ 0x0D ∷ 0x0A ∷ codes
     "0" ++ 0x09 ∷ codes "3002" ++ 0x0D ∷ 0x0A ∷ []) ≡ Ok ((0, 0x3002) ∷ (2, 0x30F2) ∷ [])
-unfolding line rest_if_any pieces without_crs number_onward without_spaces pair_of code inserted with_line with_lines pairs_of_file
+unfolding line rest_if_any pieces without_crs number_onward without_spaces pair_of code inserted with_line with_lines
+    pairs_of_file
 crlf = refl
 
 -- AREAS

@@ -21,7 +21,8 @@ found_pointer pointers c = entry (slice_index_or pointers c 0xFFFF)
 
 -- The table gives each code point's least pointer among those that pass the test.
 abbrev pub GivesLeast : (ℕ → Bool) → List (Option ℕ) → List ℕ → Type 0
-GivesLeast includes entries pointers = (c : ℕ) → found_pointer pointers c ≡ pointer_where includes (pairs_from 0 entries) c
+GivesLeast includes entries pointers =
+    (c : ℕ) → found_pointer pointers c ≡ pointer_where includes (pairs_from 0 entries) c
 
 -- The other tables agree with the entries.
 pub record AreAgreed (entries in_utf8 : List (Option ℕ)) (bytes_in_utf8 pointers sjis_pointers : List ℕ) : Type 0 where

@@ -64,11 +64,13 @@ is_dropped (b ∷ line) = b == 0x23
 -- The number goes on with these digits.
 unfoldable pub number_onward : ℕ → ℕ → List ℕ → Option ℕ
 number_onward base n [] = Some n
-number_onward base n (b ∷ digits) = if nat_lt (digit_value b) base then number_onward base (n * base + digit_value b) digits else None
+number_onward base n (b ∷ digits) =
+    if nat_lt (digit_value b) base then number_onward base (n * base + digit_value b) digits else None
 
 -- A number in this base of one or more digits, at most `most`.
 abbrev pub number_in_base : ℕ → ℕ → List ℕ → Option ℕ
-number_in_base base most digits = if nat_le 1 (length digits) && nat_le (length digits) most then number_onward base 0 digits else None
+number_in_base base most digits =
+    if nat_le 1 (length digits) && nat_le (length digits) most then number_onward base 0 digits else None
 
 -- The field without spaces at its start.
 unfoldable pub without_spaces : List ℕ → List ℕ

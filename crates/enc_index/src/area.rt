@@ -5,7 +5,8 @@ ghost use Rattle.std.specs.Prelude.{option_copied, slice_index, slice_index_or};
 ghost use Rattle.enc_model.specs.Index.{Index};
 ghost use Rattle.enc_model.specs.Indexes.{IndexSet};
 ghost use Rattle.enc_index.specs.Sets.{IsIndex, IsIndexSet};
-ghost use Rattle.enc_index.specs.Area.{spot_of, entry_of, entry_at, area_byte, IsAreaOf, GivesSet, word_of, scalar_in_entry};
+ghost use Rattle.enc_index.specs.Area.{spot_of, entry_of, entry_at, area_byte, IsAreaOf, GivesSet, word_of};
+ghost use Rattle.enc_index.specs.Area.{scalar_in_entry};
 ghost use Rattle.enc_index.specs.Area.{IsFileIn, nth_file};
 ghost use Rattle.enc_index.specs.Compared.{HasEntries, HasFlags, HasZeros, HasFiles, HasMargins};
 

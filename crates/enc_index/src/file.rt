@@ -4,7 +4,8 @@ ghost use Rattle.std.specs.Prelude.{◌≡◌, ◌+◌, ◌<◌, ◌≤◌, ◌^
 ghost use Rattle.std.specs.Prelude.{MatchResult, option_copied};
 ghost use Rattle.enc_index.specs.Entries.{pairs_from, AreScalarEntries};
 ghost use Rattle.common.specs.Splits.{before};
-ghost use Rattle.enc_index.specs.Files.{lines_after, rest_if_any, without_cr, is_dropped, number_in_base, without_spaces};
+ghost use Rattle.enc_index.specs.Files.{lines_after, rest_if_any, without_cr, is_dropped, number_in_base};
+ghost use Rattle.enc_index.specs.Files.{without_spaces};
 ghost use Rattle.enc_index.specs.Files.{without_0x, pair_of, with_pair, with_line, with_lines, lines_of};
 
 use crate::kind::ReadError;

@@ -3,7 +3,8 @@ use Rattle.std.proofs.Common.{ℕ, zero, suc, ◌≤◌, ◌≡◌, true, List, 
 use Rattle.std.proofs.Common.{append-nil}
 use Rattle.enc_model.specs.declared.Answer.{Answer}
 use Rattle.enc_model.specs.declared.Answer.TheVariants.{Finished}
-use Rattle.enc_model.specs.Stream.{HandlerStep, Handler, DecoderRun, points_of, text_then, steps, all_bytes, byte_run, quick, end_to, run_to_end}
+use Rattle.enc_model.specs.Stream.{HandlerStep, Handler, DecoderRun, points_of, text_then, steps, all_bytes}
+use Rattle.enc_model.specs.Stream.{byte_run, quick, end_to, run_to_end}
 use Rattle.enc_model.specs.Stream.{IsQuiet, EndsWithin, IsCalm}
 use Rattle.enc_model.proofs.Steps.{after_after, steps_are, steps_none, steps_cons, steps_end}
 use Rattle.enc_laws.specs.Equations.{IsByAnswers}
@@ -24,7 +25,8 @@ module _ {S : Type 0} (h : Handler S) where
         (all_bytes (quick h) t.state t.restored).state
   ]
 
-  deeper_case : (d : ℕ) (t : HandlerStep S) (a : Answer) → ((s : S) → EndsWithin d h s → end_to d h s ≡ end_to (suc d) h s) →
+  deeper_case : (d : ℕ) (t : HandlerStep S) (a : Answer) → ((s : S) → EndsWithin d h s
+      → end_to d h s ≡ end_to (suc d) h s) →
       EndsFrom d t a → first_of (end_to d h) t a ≡ first_of (end_to (suc d) h) t a
   deeper_case d t Finished ih e = refl
   deeper_case d t _ ih e = let r =
@@ -42,7 +44,8 @@ module _ {S : Type 0} (h : Handler S) where
 
   after_quiet : IsCalm h → (s : S) (r : List ℕ) → IsQuiet h s r →
       steps h true s r ≡ text_then (all_bytes (quick h) s r).text (run_to_end h (all_bytes (quick h) s r).state)
-  after_quiet calm s r q = steps_are h calm true s r ∙ ap (λ z. text_then z.text (run_to_end h z.state)) (quiet_bytes r s q)
+  after_quiet calm s r q = steps_are h calm true s r ∙ ap (λ z. text_then z.text (run_to_end h z.state))
+      (quiet_bytes r s q)
 
   end_case : IsCalm h → (t : HandlerStep S) (a : Answer) → EndsFrom 3 t a →
       ◌≡◌ {A = DecoderRun S} (first_of (end_to 3 h) t a) (elim a as (λ _. DecoderRun S) [

@@ -192,8 +192,16 @@ module _ (bound : ℕ) where
         let below : pair.0 < bound = grind (arith, nat_tests, test) in
         let scalar : is_scalar pair.1 ≡ true = (and_parts (nat_lt pair.0 bound) (is_scalar pair.1) test).1 in
         code_reads pair counts gives (below, scalar) (code index pair.0) refl
-    range_reads pair counts gives false test =
-        (counts, (refl, pair, gives, λ range. let below = range.0 in let scalar = range.1 in out pair below scalar test))
+    range_reads pair counts gives false test = (
+      counts,
+      (
+        refl,
+        pair,
+        gives,
+        λ range. let below = range.0 in let scalar = range.1 in out pair below scalar
+            test,
+      ),
+    )
       where
         out : (pair : ℕ × ℕ) → pair.0 < bound → is_scalar pair.1 ≡ true
             → (nat_lt pair.0 bound && is_scalar pair.1) ≡ false → ⊥

@@ -99,7 +99,8 @@ end_valid None None = record { state = record { byte = tt; lead = tt }; answer =
 end_valid None (Some u) = record { state = record { byte = tt; lead = tt }; answer = tt; restored = tt }
 end_valid (Some a) lead = record { state = record { byte = tt; lead = tt }; answer = tt; restored = tt }
 
-pub utf16_reads : (big : Bool) (s : Utf16) (b : ℕ) → IsUtf16State s → b < 0x100 → IsValid IsUtf16State (utf16 big s (Some b))
+pub utf16_reads : (big : Bool) (s : Utf16) (b : ℕ) → IsUtf16State s → b < 0x100
+    → IsValid IsUtf16State (utf16 big s (Some b))
 unfolding utf16
 utf16_reads big s b g l = byte_valid big s.byte s.lead b g.byte g.lead l
 

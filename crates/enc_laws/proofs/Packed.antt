@@ -21,7 +21,8 @@ use Rattle.enc_model.specs.Encode.{Shift, InAscii, InRoman, InJis}
 use Rattle.enc_model.specs.Decode.{Decoding, OfUtf8, OfUtf16, OfShiftJis, OfEucJp, OfIso2022, OfSingle, undecided}
 use Rattle.enc_model.specs.Transcode.{Transcoder, Phase, Before, During, Over}
 use Rattle.enc_unicode.specs.Utf8State.{utf8_after}
-use Rattle.enc_stream.specs.StateBytes.{IsOwn, IsSingleByteEncoding, IsPhaseOf, IsReached, IsReachedIn, IsValidState, decoded_encoding}
+use Rattle.enc_stream.specs.StateBytes.{IsOwn, IsSingleByteEncoding, IsPhaseOf, IsReached, IsReachedIn, IsValidState}
+use Rattle.enc_stream.specs.StateBytes.{decoded_encoding}
 use Rattle.enc_stream.specs.StateBytes.{encoding_number, mode_number, phase_number, shift_number, charset_number}
 use Rattle.enc_stream.specs.StateBytes.{flag_number, place_number, place_lead, utf16_bytes, counted, decoder_bytes}
 use Rattle.enc_stream.specs.StateBytes.{phase_bytes, padded, state_bytes}
@@ -149,7 +150,8 @@ single_back _ bytes i = refl
 
 decoding_back : (d : Decoding) (rest : List ℕ) → IsOwn d → IsReached d → decoding_at (decoded_encoding d)
     (padded 11 (decoder_bytes d) ++ rest) ≡ d
-decoding_back (OfUtf8 s) rest o r = ap (λ z. OfUtf8 (utf8_after z)) (bytes_back s.partial rest r.1) ∙ ap OfUtf8 (sym r.0)
+decoding_back (OfUtf8 s) rest o r = ap (λ z. OfUtf8 (utf8_after z)) (bytes_back s.partial rest r.1)
+    ∙ ap OfUtf8 (sym r.0)
 decoding_back (OfUtf16 true s) rest o r = ap (OfUtf16 true) (utf16_back s.byte s.lead rest)
 decoding_back (OfUtf16 false s) rest o r = ap (OfUtf16 false) (utf16_back s.byte s.lead rest)
 decoding_back (OfShiftJis lead) rest o r = refl
@@ -208,5 +210,6 @@ state_back s valid =
     ) refl
 
 -- Valid states with the same bytes are the same.
-pub same_state : (s later : Transcoder) → IsValidState s → IsValidState later → state_bytes later ≡ state_bytes s → later ≡ s
+pub same_state : (s later : Transcoder) → IsValidState s → IsValidState later → state_bytes later ≡ state_bytes s
+    → later ≡ s
 same_state s later here there same = sym (state_back later there) ∙ ap state_at same ∙ state_back s here

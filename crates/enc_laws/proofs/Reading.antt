@@ -4,7 +4,8 @@ use Rattle.std.proofs.Common.{length, drop, refl, sym, ◌∙◌, ap, arith, if�
 use Rattle.std.proofs.lemmas.Bool.Decides.{nat_tests}
 use Rattle.enc_model.specs.Index.{within}
 use Rattle.enc_model.specs.declared.Answer.TheVariants.{Point, Error, Nothing, Finished}
-use Rattle.enc_model.specs.Stream.{HandlerStep, DecoderRun, points_of, text_then, steps, steps_within, all_bytes, quick, end_to}
+use Rattle.enc_model.specs.Stream.{HandlerStep, DecoderRun, points_of, text_then, steps, steps_within, all_bytes}
+use Rattle.enc_model.specs.Stream.{quick, end_to}
 use Rattle.enc_model.specs.Utf8.{Utf8, utf8, utf8_start}
 use Rattle.enc_model.proofs.Calm.{utf8_calm}
 use Rattle.enc_model.proofs.Steps.{steps_cons, steps_none, steps_end}
@@ -64,7 +65,8 @@ end_open s k n =
     ap (λ run. run.text) (steps_end utf8 utf8_calm s)
     ∙ ap (λ t. (elim t.answer as (λ _. DecoderRun Utf8) [
       | Finished ↦ record { text = []; state = t.state }
-      | _ ↦ let r = all_bytes (quick utf8) t.state t.restored in text_then (points_of t.answer ++ r.text) (end_to 3 utf8 r.state)
+      | _ ↦ let r = all_bytes (quick utf8) t.state t.restored in text_then (points_of t.answer ++ r.text)
+          (end_to 3 utf8 r.state)
     ]).text) (none_open s k n)
 
 pub end_start : (ended : Bool) → (steps utf8 ended utf8_start []).text ≡ []
@@ -145,7 +147,8 @@ tail_stopped (r ∷ ranges) s ended [] d rest w f b = absurd cc
 tail_stopped (r ∷ []) s ended (c ∷ bytes) d rest w f b = go (within r.0 r.1 c) refl
   where
     go : (x : Bool) → within r.0 r.1 c ≡ x →
-        steps utf8 ended s (c ∷ bytes) ≡ text_then (0xFFFD ∷ []) (steps utf8 ended utf8_start (beyond (r ∷ []) (c ∷ bytes)))
+        steps utf8 ended s (c ∷ bytes) ≡ text_then (0xFFFD ∷ [])
+        (steps utf8 ended utf8_start (beyond (r ∷ []) (c ∷ bytes)))
     go true e = absurd (let g = fills_on r [] c bytes e in cc)
     go false e =
         read_stops r [] s c bytes w ended e
@@ -163,7 +166,8 @@ tail_stopped (r ∷ q ∷ ranges) s ended (c ∷ bytes) d rest w f b =
     go true e ih =
         next_read r q ranges s c w ended bytes e
         ∙ ih (sym (fills_on r (q ∷ ranges) c bytes e) ∙ f) (sym (beyond_on r (q ∷ ranges) s c bytes w e) ∙ b)
-        ∙ ap (λ t. text_then (0xFFFD ∷ []) (steps utf8 ended utf8_start t)) (sym (beyond_on r (q ∷ ranges) s c bytes w e))
+        ∙ ap (λ t. text_then (0xFFFD ∷ []) (steps utf8 ended utf8_start t))
+        (sym (beyond_on r (q ∷ ranges) s c bytes w e))
     go false e ih =
         read_stops r (q ∷ ranges) s c bytes w ended e
         ∙ ap (λ t. text_then (0xFFFD ∷ []) (steps utf8 ended utf8_start t))

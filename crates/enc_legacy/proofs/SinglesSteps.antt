@@ -59,7 +59,8 @@ byte_given : (t : Tables) (e : Encoding) (b : ℕ) → byte_run (single_in t) e 
   state = e;
 }
 unfolding single_in
-byte_given t e b = ap (λ z. record { text = z; state = e }) (char_points (nat_lt b 0x80) b (code (t.single e) (b - 0x80)))
+byte_given t e b = ap (λ z. record { text = z; state = e }) (char_points (nat_lt b 0x80) b
+    (code (t.single e) (b - 0x80)))
 
 -- where a table has at each byte what it stands for
 pub single_chars : (t : Tables) (e : Encoding) (chars bytes : List ℕ)

@@ -293,7 +293,8 @@ run_cleared i at place output flag s bytes text old new own here is took =
     rw (← own, stays, is) (took, refl)
 
 -- a run in ASCII, which clears the flag
-pub iso_prefix : (i : Index) (output : Charset) (flag : Bool) (rest : List ℕ) (n : ℕ) → n ≡ prefix_len is_plain_2022 rest
+pub iso_prefix : (i : Index) (output : Charset) (flag : Bool) (rest : List ℕ) (n : ℕ)
+    → n ≡ prefix_len is_plain_2022 rest
     → 0 < n →
     All (λ b. b < 128) (take n rest)
     × (steps (iso2022 i) false (record { place = In Ascii; output = output; flag = flag }) (take n rest)

@@ -12,14 +12,16 @@ use Rattle.enc_model.specs.Encode.{plain_code, code_of, IsWrote, IsNoRestore, Is
 led_by_led_by : (x y : List ℕ) (r : Coded) → led_by x (led_by y r) ≡ led_by (x ++ y) r
 led_by_led_by x y r = simp append_assoc
 
-pub joined_after : (x : List ℕ) (r : Coded) (m : Shift → Coded) → joined_code (led_by x r) m ≡ led_by x (joined_code r m)
+pub joined_after : (x : List ℕ) (r : Coded) (m : Shift → Coded)
+    → joined_code (led_by x r) m ≡ led_by x (joined_code r m)
 joined_after x r m =
     elim r.fault as (λ z.
     elim z as (λ _. Coded) [ None ↦ led_by (x ++ r.bytes) (m r.state) | Some d ↦ led_by x r ]
     ≡ led_by x (elim z as (λ _. Coded) [ None ↦ led_by r.bytes (m r.state) | Some d ↦ r ]))
     [ None ↦ sym (led_by_led_by x r.bytes (m r.state)) | Some d ↦ refl ]
 
-joined_joined : (r : Coded) (m n : Shift → Coded) → joined_code (joined_code r m) n ≡ joined_code r (λ s. joined_code (m s) n)
+joined_joined : (r : Coded) (m n : Shift → Coded) → joined_code (joined_code r m) n ≡ joined_code r
+    (λ s. joined_code (m s) n)
 joined_joined r m n = go r.fault refl
   where
     go : (z : Option ℕ) → r.fault ≡ z → joined_code (joined_code r m) n ≡ joined_code r (λ s. joined_code (m s) n)
@@ -147,7 +149,8 @@ module _ (f : Encoder) (steady : IsSteadyEncoder f) (mode : Mode) where
       (code_within Html (λ next z. record { bytes = []; state = next; fault = None }) (settled f c w))
       (λ next. all_codes (plain_code f) next r)).state cs ≡ x) →
       went mode (coded_within (suc i) f mode) c (r ++ cs) w
-      ≡ led_by (joined_code (code_within Html (λ next z. record { bytes = []; state = next; fault = None }) (settled f c w))
+      ≡ led_by (joined_code (code_within Html (λ next z. record { bytes = []; state = next; fault = None })
+      (settled f c w))
       (λ next. all_codes (plain_code f) next r)).bytes x
   unfolding coded_within
   plain_case c r cs (Wrote b s) i x w l ih h =

@@ -4,7 +4,8 @@ use Rattle.std.proofs.Common.{length, refl, sym, ◌∙◌, ap, arith, append_as
 use Rattle.std.proofs.lemmas.List.Elements.{All-head, All-tail}
 use Rattle.enc_model.specs.declared.Answer.{Answer}
 use Rattle.enc_model.specs.declared.Answer.TheVariants.{Point, Finished}
-use Rattle.enc_model.specs.Stream.{HandlerStep, Handler, DecoderRun, points_of, text_then, steps_within, steps, all_bytes, byte_run, quick}
+use Rattle.enc_model.specs.Stream.{HandlerStep, Handler, DecoderRun, points_of, text_then, steps_within, steps}
+use Rattle.enc_model.specs.Stream.{all_bytes, byte_run, quick}
 use Rattle.enc_model.specs.Stream.{end_to, run_to_end, ending, IsQuiet, EndsWithin, IsCalm}
 
 pub after_after : {S : Type 0} (x y : List ℕ) (r : DecoderRun S) → text_then x (text_then y r) ≡ text_then (x ++ y) r
@@ -51,7 +52,8 @@ module _ {S : Type 0} (h : Handler S) where
       ])
       (elim a as (λ _. DecoderRun S) [
         | Finished ↦ record { text = []; state = t.state }
-        | _ ↦ let r = all_bytes (quick h) t.state t.restored in text_then (points_of t.answer ++ r.text) (end_to d h r.state)
+        | _ ↦ let r = all_bytes (quick h) t.state t.restored in text_then (points_of t.answer ++ r.text)
+            (end_to d h r.state)
       ])
   end_case d k t Finished ih e l = refl
   end_case d k t _ ih e l =

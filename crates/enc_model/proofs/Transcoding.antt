@@ -6,7 +6,8 @@ use Rattle.enc_model.specs.declared.Mode.{Mode}
 use Rattle.enc_model.specs.Encode.{Tables, Shift, InAscii, Encoder, Coded, led_by, coded, coded_within, encoder}
 use Rattle.enc_model.specs.Encode.{IsSteadyEncoder}
 use Rattle.enc_model.specs.Decode.{Decoded, Held, Reading, decoded, decoded_text, advance}
-use Rattle.enc_model.specs.Transcode.{Coder, Took, Refused, IsReason, phase_of, Transcoder, fed_text, added, so_far, IsStateAt}
+use Rattle.enc_model.specs.Transcode.{Coder, Took, Refused, IsReason, phase_of, Transcoder, fed_text, added, so_far}
+use Rattle.enc_model.specs.Transcode.{IsStateAt}
 use Rattle.enc_model.specs.Transcode.{stepped}
 use Rattle.enc_model.proofs.Coding.{coded_append}
 use Rattle.enc_model.proofs.Steady.{encoder_steady}
@@ -66,7 +67,8 @@ module _ (t : Tables) (s : Transcoder) (b c : List ℕ) (here : IsStateAt t s b)
   -- Without a fault the next state is where the bytes and the piece end.
   pub at_next : (added t s c).fault ≡ None → IsStateAt t (stepped t s c) (b ++ c)
   at_next ok = record {
-    phase = ap (λ p. (fed_text t s.from p c).phase) here.phase ∙ sym (fed_advance t s.from (decoded t s.from b false) c).0
+    phase = ap (λ p. (fed_text t s.from p c).phase) here.phase
+        ∙ sym (fed_advance t s.from (decoded t s.from b false) c).0
         ∙ ap phase_of (advance_more t s.from b c);
     fault = fault_added ∙ ok;
     shift = sym (ap (λ z. z.state) whole);

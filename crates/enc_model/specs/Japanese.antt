@@ -28,7 +28,11 @@ point_or_error None = Error
 unfoldable pub single : Index → Handler Single
 single index s None = record { state = s; answer = Finished; restored = [] }
 single index s (Some b) =
-    record { state = s; answer = if nat_lt b 0x80 then Point b else point_or_error (code index (b - 0x80)); restored = [] }
+    record {
+      state = s;
+      answer = if nat_lt b 0x80 then Point b else point_or_error (code index (b - 0x80));
+      restored = [];
+    }
 
 -- Shift_JIS. The state is the lead byte, or 0.
 

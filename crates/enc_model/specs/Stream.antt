@@ -77,7 +77,8 @@ end_to (suc d) h s =
     let t = h s None in
     elim t.answer [
       | Finished ↦ record { text = []; state = t.state }
-      | _ ↦ let r = all_bytes (quick h) t.state t.restored in text_then (points_of t.answer ++ r.text) (end_to d h r.state)
+      | _ ↦ let r = all_bytes (quick h) t.state t.restored in text_then (points_of t.answer ++ r.text)
+          (end_to d h r.state)
     ]
 
 -- The run over the end.

@@ -45,7 +45,13 @@ utf8_next s b =
     let point = s.point * 64 + (b - 0x80) in
     if s.needed == 1 then record { state = utf8_start; answer = Point point; restored = [] }
     else record {
-      state = record { needed = s.needed - 1; lower = 0x80; upper = 0xBF; point = point; partial = s.partial ++ b ∷ [] };
+      state = record {
+        needed = s.needed - 1;
+        lower = 0x80;
+        upper = 0xBF;
+        point = point;
+        partial = s.partial ++ b ∷ [];
+      };
       answer = Nothing;
       restored = [];
     }

@@ -62,7 +62,8 @@ pub packed : (s : Transcoder) (from to mode phase shift : ℕ) (partial : List �
     from ≡ encoding_number s.from → to ≡ encoding_number s.to → mode ≡ mode_number s.mode → phase ≡ phase_number s.phase
     → shift ≡ shift_number s.shift →
     partial ≡ padded 5 (phase_bytes s.phase) →
-    from ∷ to ∷ mode ∷ phase ∷ get_or partial 0 0 ∷ get_or partial 1 0 ∷ get_or partial 2 0 ∷ get_or partial 3 0 ∷ get_or partial 4
+    from ∷ to ∷ mode ∷ phase ∷ get_or partial 0 0 ∷ get_or partial 1 0 ∷ get_or partial 2 0 ∷ get_or partial 3 0
+    ∷ get_or partial 4
     0 ∷ 0 ∷ 0 ∷ 0 ∷ 0 ∷ 0 ∷ 0 ∷ 0
     ∷ shift ∷ 0 ∷ 0 ∷ 0 ∷ 0 ∷ 0 ∷ 0 ∷ 0 ∷ 0 ∷ 0 ∷ 0 ∷ 0 ∷ 0 ∷ 0 ∷ 0 ∷ 0 ∷ []
     ≡ state_bytes s
@@ -87,7 +88,8 @@ module _ (s : Transcoder) (bytes : List ℕ) (is : state_bytes s ≡ bytes) wher
   shift_there = sym (after 12 (phase_bytes s.phase) (padded 16 (shift_number s.shift ∷ [])) 0)
       ∙ ap (λ z. get_or z 16 0) is
 
-  pub unfinished_there : padded 5 (phase_bytes s.phase) ≡ get_or bytes 4 0 ∷ get_or bytes 5 0 ∷ get_or bytes 6 0 ∷ get_or
+  pub unfinished_there : padded 5 (phase_bytes s.phase) ≡ get_or bytes 4 0 ∷ get_or bytes 5 0 ∷ get_or bytes 6 0
+      ∷ get_or
       bytes 7 0 ∷ get_or bytes 8 0 ∷ []
   unfinished_there =
       five (phase_bytes s.phase) (padded 16 (shift_number s.shift ∷ []))

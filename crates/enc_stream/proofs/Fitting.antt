@@ -54,7 +54,8 @@ sniffed_in_effect from b = go (begins bom8 b) (begins bom_be b) (begins bom_le b
     go false false true = inr (inr (inr refl))
     go false false false = inl refl
 
-during_fits : (t : Tables) (from : Encoding) (s : Decoding) (piece : List ℕ) → IsOwn s → IsInEffect from (decoded_encoding s)
+during_fits : (t : Tables) (from : Encoding) (s : Decoding) (piece : List ℕ) → IsOwn s
+    → IsInEffect from (decoded_encoding s)
     →
     IsPhaseOf from (During (decoding t false s piece).state)
 during_fits t from s piece own effect =

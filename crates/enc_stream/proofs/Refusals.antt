@@ -9,7 +9,8 @@ use Rattle.enc_model.specs.Indexes.{tables}
 use Rattle.enc_stream.specs.declared.error.TranscodeError.{TranscodeError}
 use Rattle.enc_stream.specs.declared.error.TranscodeError.TheVariants.{NoMemory, Unencodable, Spent}
 use Rattle.enc_stream.specs.Errors.{error_of}
-use Rattle.enc_stream.specs.TranscoderState.{TranscoderState, spent_by, StopsFor, IsPartWritten, IsAllWritten, RefusedAs}
+use Rattle.enc_stream.specs.TranscoderState.{TranscoderState, spent_by, StopsFor, IsPartWritten, IsAllWritten}
+use Rattle.enc_stream.specs.TranscoderState.{RefusedAs}
 
 -- what a sink took
 pub sink_wrote : (a b : SinkState) (x : List ℕ) → SinkTook a x b →
@@ -37,7 +38,8 @@ sink_stopped a b x e p = record {
   items = record { prefix = p.refused.prefix; rest = p.refused.rest; parts = p.refused.parts; out = p.refused.out };
 }
 
-pub stopped_answers : {Z : Type 0} (e : TranscodeError) (code : Coded) (old new : Vec ℕ Z) (before after : TranscoderState)
+pub stopped_answers : {Z : Type 0} (e : TranscodeError) (code : Coded) (old new : Vec ℕ Z)
+    (before after : TranscoderState)
     → IsPartWritten e code old new → after ≡ spent_by before →
     RefusedAs e code old new before after
 stopped_answers NoMemory code old new before after p s = (p, s)

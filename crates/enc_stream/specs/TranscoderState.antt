@@ -64,6 +64,7 @@ pub record IsPartWritten {Z : Type 0} (e : TranscodeError) (code : Coded) (old n
   pub items : GrownByPrefix old.items code.bytes new.items
 
 -- The result of a refused call: `Spent` changes nothing, the other errors spend the transcoder.
-abbrev pub RefusedAs : {Z : Type 0} → TranscodeError → Coded → Vec ℕ Z → Vec ℕ Z → TranscoderState → TranscoderState → Type 0
+abbrev pub RefusedAs : {Z : Type 0} → TranscodeError → Coded → Vec ℕ Z → Vec ℕ Z → TranscoderState → TranscoderState
+    → Type 0
 RefusedAs Spent to_come old new before after = (new.items ≡ old.items) × (after ≡ before)
 RefusedAs e to_come old new before after = IsPartWritten e to_come old new × (after ≡ spent_by before)

@@ -10,7 +10,8 @@ ghost use Rattle.enc_encode.specs.State.{EncoderState};
 ghost use Rattle.enc_stream.specs.Progress.{progress_of};
 ghost use Rattle.enc_stream.specs.Stage.{phase_at};
 ghost use Rattle.enc_stream.specs.TranscoderState.{is_done, start, stepped_on, ended_state, IsOutput, RefusedAs};
-ghost use Rattle.enc_stream.specs.StateBytes.{IsShiftIn, IsValidState, encoding_number, mode_number, shift_number, transcoder_state};
+ghost use Rattle.enc_stream.specs.StateBytes.{IsShiftIn, IsValidState, encoding_number, mode_number, shift_number};
+ghost use Rattle.enc_stream.specs.StateBytes.{transcoder_state};
 ghost use Rattle.enc_stream.specs.StateBytes.{state_bytes};
 
 use crate::error::TranscodeError;
@@ -289,7 +290,8 @@ impl Transcoder {
             × ((before : List ℕ) → out.old.items ≡ before ++ (so_far (tables set.now) self.old.transcoder b).bytes
             → out.new.items ≡ before ++ (so_far (tables set.now) self.old.transcoder (b ++ piece.now)).bytes)) }
         ensures refused { IfErr result
-            (λ e. RefusedAs e (added (tables set.now) self.old.transcoder piece.now) out.old out.new self.old self.new) }
+            (λ e. RefusedAs e (added (tables set.now) self.old.transcoder piece.now) out.old out.new self.old
+            self.new) }
     {
         if self.is_done() {
             return Err(TranscodeError::Spent);

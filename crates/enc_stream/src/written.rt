@@ -60,7 +60,8 @@ fn transcode_end(
         IfOk result (λ next. IsAllWritten code out.old out.new × (next ≡ shifted encoder code.state)) }
     ensures capacity { OnOk result (vec_capacity out.old ≤ vec_capacity out.new) }
     ensures stopped { IfErr result
-        (λ e. IsPartWritten e (code_from (tables set.now) encoder (fed_end (tables set.now) from (phase_at stage))) out.old
+        (λ e. IsPartWritten e (code_from (tables set.now) encoder (fed_end (tables set.now) from (phase_at stage)))
+        out.old
         out.new) }
 {
     let alloc = *out.allocator();

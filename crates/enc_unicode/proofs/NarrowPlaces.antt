@@ -66,7 +66,8 @@ sizes_masks (u ∷ units) small =
 
 -- the pack of eight units
 pub row_for : (units : List ℕ) (a : ℕ) → length units ≡ 8 → Each1 (λ u. u < 2048) units
-    → a ≡ mask_l (map (λ u. ltb u 128) units) → a < 256 → selected_units a (get_or NARROW_PACKS a []) ≡ narrow_row_of units
+    → a ≡ mask_l (map (λ u. ltb u 128) units) → a < 256 → selected_units a (get_or NARROW_PACKS a []) ≡ narrow_row_of
+    units
 row_for units a long small ea la =
     row_at a la ∙ ap (λ x. narrow_places 0 (sizes_in 8 x)) ea
     ∙ ap (narrow_places 0) (subst (λ n. sizes_in n (mask_l (map (λ u. ltb u 128) units)) ≡ sizes units) long

@@ -127,7 +127,8 @@ one_unit : (bytes : List ℕ) (p u : ℕ) → u < 65536 → get_or bytes p 0 ≡
     map (λ j. get_or bytes j 0) (range_with_len p (utf8_size u)) ≡ encode u
 one_unit bytes p u small first second third =
     elim (cases_lt u 2048) [
-      | inl l ↦ short_unit bytes p u (utf8_word u) l (λ h. grind (arith, nat_tests, h)) (λ h. grind (arith, nat_tests, h, l))
+      | inl l ↦ short_unit bytes p u (utf8_word u) l (λ h. grind (arith, nat_tests, h))
+          (λ h. grind (arith, nat_tests, h, l))
           first second
       | inr g ↦
           let n : utf8_size u ≡ 3 = grind (arith, nat_tests, g) in
@@ -191,7 +192,8 @@ picks_written text row bytes code from n wide below few room is =
 
 -- four units after the first so many bytes
 pub four_written : (units row bytes code : List ℕ) (from : ℕ) → length units ≡ 4 → Each1 (λ u. u < 65536) units →
-    length row ≡ 16 → Each1 (λ j. j < 16) row → bytes ≡ word_bytes (map utf8_word units) → selected_units row ≡ row_of units
+    length row ≡ 16 → Each1 (λ j. j < 16) row → bytes ≡ word_bytes (map utf8_word units)
+    → selected_units row ≡ row_of units
     → get_or row 15 0 ≤ 12 → from + 16 ≤ length code →
     take (from + get_or row 15 0) (put_chunk from code (swz_l w8 16 bytes 0 row)) ≡ take from code ++ encodes units
 four_written units row bytes code from long small wide below are is few room =

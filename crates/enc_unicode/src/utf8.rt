@@ -101,7 +101,13 @@ impl Utf8State {
     fn needs(needed: u8, lower: u8, upper: u8, point: u32, lead: u8, current: u8) -> Self
         requires valid { IsUtf8State needed lower upper point current }
         requires after { IsUnfinishedState
-            (record { needed = needed; lower = lower; upper = upper; point = point; partial = take current (lead ∷ []) }) }
+            (record {
+              needed = needed;
+              lower = lower;
+              upper = upper;
+              point = point;
+              partial = take current (lead ∷ []);
+            }) }
         requires few { current ≤ 1 }
         ensures { result ≡ record
             { needed = needed; lower = lower; upper = upper; point = point; partial = take current (lead ∷ []) } }

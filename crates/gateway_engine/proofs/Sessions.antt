@@ -93,7 +93,8 @@ module _ {U B : Type 0} (u : Ghosts U B) (g : Gateway U B) (sure : Bool) (st : S
   at : (s : State) → SessionRepresents u sure places g.store s → is_down g ≡ false → GatewayRepresents u g sure s
   at s session up = record { session = session; up = up }
 
-  at_same : (s : State) → s ≡ st → SessionRepresents u sure places g.store st → is_down g ≡ false → GatewayRepresents u g sure s
+  at_same : (s : State) → s ≡ st → SessionRepresents u sure places g.store st → is_down g ≡ false
+      → GatewayRepresents u g sure s
   at_same s same session up = at s (subst (λ x. SessionRepresents u sure places g.store x) (sym same) session) up
 
   pub result_gives : (result : Result Answer SessionError) (old new : List ℕ) → FallsBy (is_down g) result
@@ -105,19 +106,27 @@ module _ {U B : Type 0} (u : Ghosts U B) (g : Gateway U B) (sure : Bool) (st : S
   result_gives (Err (Stop NoMemory)) old new falls stays t =
       let up = still_up {T = Answer} (Err (Stop NoMemory)) falls (λ f. absurd (cc)) in
       ([], record { answer = t.0.outcome; now_represents = at _ t.0.represents up }, t.1)
-  result_gives (Err (Stop DiskFault)) old new falls stays t = ([], record { answer = t.0; now_represents = tt {0} }, t.1)
+  result_gives (Err (Stop DiskFault)) old new falls stays t =
+      ([], record { answer = t.0; now_represents = tt {0} }, t.1)
   result_gives (Err TooMany) old new falls stays t =
-      let up = still_up {T = Answer} (Err TooMany) falls (λ f. absurd (cc)) in
-      ([], record { answer = t.0.outcome; now_represents = at_same _ (stays TooMany t.0.outcome) t.0.represents up }, t.1)
+      let up = still_up {T = Answer} (Err TooMany) falls (λ f. absurd (cc)) in (
+        [],
+        record { answer = t.0.outcome; now_represents = at_same _ (stays TooMany t.0.outcome) t.0.represents up },
+        t.1,
+      )
   result_gives (Err Closed) old new falls stays t =
-      let up = still_up {T = Answer} (Err Closed) falls (λ f. absurd (cc)) in
-      ([], record { answer = t.0.outcome; now_represents = at_same _ (stays Closed t.0.outcome) t.0.represents up }, t.1)
+      let up = still_up {T = Answer} (Err Closed) falls (λ f. absurd (cc)) in (
+        [],
+        record { answer = t.0.outcome; now_represents = at_same _ (stays Closed t.0.outcome) t.0.represents up },
+        t.1,
+      )
   result_gives (Err Down) old new falls stays t =
       let up = still_up {T = Answer} (Err Down) falls (λ f. absurd (cc)) in
       ([], record { answer = t.0.outcome; now_represents = at_same _ (stays Down t.0.outcome) t.0.represents up }, t.1)
 
   pub ends_does : (result : Result (Unit {0}) SessionError) → FallsBy (is_down g) result
-      → RefusedStays st (step st e Served) → results.Ends u sure places g.store result st e → Does represents result st e
+      → RefusedStays st (step st e Served) → results.Ends u sure places g.store result st e
+      → Does represents result st e
   ends_does (Ok x) falls stays t =
       record { answer = t.outcome; now_represents = at _ t.represents (still_up (Ok x) falls (λ f. absurd (cc))) }
   ends_does (Err (Stop NoMemory)) falls stays t =

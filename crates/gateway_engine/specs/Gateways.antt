@@ -43,6 +43,7 @@ abbrev pub size_in : {D B : Type 0} {disk : disks.Ghosts D} → Gateway (Spool D
 size_in g = block_count_of (store_of g)
 
 -- the disk, opened or handed back
-abbrev pub gateway_disk_after : {D B : Type 0} {disk : disks.Ghosts D} → Result (Gateway (Spool D disk) B) (D × OpenFault) → D
+abbrev pub gateway_disk_after : {D B : Type 0} {disk : disks.Ghosts D}
+    → Result (Gateway (Spool D disk) B) (D × OpenFault) → D
 gateway_disk_after (Ok g) = disk_in g
 gateway_disk_after (Err e) = e.0

@@ -117,7 +117,8 @@ pub incomplete_is : (x : IndexSet) (r : Record) (entry : ℕ × Upload) → Repr
     → incomplete_record r ≡ incomplete_one entry
 incomplete_is x r entry t = rw (t.number_is, t.accepted, t.declared) refl
 
-pub none_represented : (x : IndexSet) (o : Option (ℕ × Upload)) (r : Option Record) → r ≡ None → RepresentsOf x o r → o ≡ None
+pub none_represented : (x : IndexSet) (o : Option (ℕ × Upload)) (r : Option Record) → r ≡ None → RepresentsOf x o r
+    → o ≡ None
 none_represented x None r e t = refl
 none_represented x (Some y) None e t = absurd t
 none_represented x (Some y) (Some r) e t = absurd (cc)
@@ -133,7 +134,8 @@ module _ (x : IndexSet) (f : ℕ × Upload → List ℕ) (whole out : List ℕ) 
     (before : out ++ flat_map f (after n xs) ≡ whole) where
   pub reported_none : r ≡ None → out ≡ whole
   reported_none e =
-      reported_all f whole out xs n (none_represented x (above n xs) (option_copied r) (ap (λ o. option_copied o) e) t) before
+      reported_all f whole out xs n (none_represented x (above n xs) (option_copied r) (ap (λ o. option_copied o) e)
+      t) before
 
   pub reported_next : (of : Record → List ℕ)
       → ((r : Record) (entry : ℕ × Upload) → Represents x entry.0 r entry.1 → of r ≡ f entry)

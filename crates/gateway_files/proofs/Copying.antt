@@ -16,7 +16,8 @@ use Rattle.gateway_files.specs.Transcoding.{CopiesOn, EndsOn, IsConverted}
 use Rattle.gateway_files.specs.declared.transcoding.Conversion.{Conversion}
 
 -- so many bytes were read, and their text so far was written
-pub record Copied (t : Tables) (c : Conversion) (s : TranscoderState) (left left' prefix held : Option (List ℕ)) : Type 0 where
+pub record Copied (t : Tables) (c : Conversion) (s : TranscoderState) (left left' prefix held : Option (List ℕ)) :
+    Type 0 where
   pub bytes : List ℕ
   pub from : s.transcoder.from ≡ c.from
   pub to : s.transcoder.to ≡ c.to
@@ -45,7 +46,8 @@ copied_none t c s left prefix is =
           (Appends-nil prefix);
     })
 
-pub copied_more : (t : Tables) (c : Conversion) (s s' : TranscoderState) (left mid left' prefix on held : Option (List ℕ))
+pub copied_more : (t : Tables) (c : Conversion) (s s' : TranscoderState)
+    (left mid left' prefix on held : Option (List ℕ))
     → Copied t c s left mid prefix on → CopiesOn t s s' mid left' on held → Copied t c s' left left' prefix held
 copied_more t c s s' left mid left' prefix on held is more =
     let a = s.transcoder in
@@ -71,14 +73,16 @@ stored_with : (t : Tables) (c : Conversion) (s : TranscoderState) (bytes : List 
 stored_with t c s bytes prefix held from to mode is = rw (← from, ← to, ← mode) is
 
 known : (t : Tables) (c : Conversion) (left left' prefix held : Option (List ℕ)) (bytes : List ℕ)
-    → Consumes left left' bytes → IsAtEnd left' → IsConverted t c (Some bytes) prefix held → IsConverted t c left prefix held
+    → Consumes left left' bytes → IsAtEnd left' → IsConverted t c (Some bytes) prefix held
+    → IsConverted t c left prefix held
 known t c None left' prefix held bytes read end is = tt
 known t c (Some x) None prefix held bytes read end is = absurd read
 known t c (Some x) (Some y) prefix held bytes read end is =
     rw (read ∙ ap (λ z. bytes ++ z) end ∙ append-nil bytes) is
 
 -- nothing was read, and nothing written
-pub copied_still : (t : Tables) (c : Conversion) (s s' : TranscoderState) (left mid left' prefix on held : Option (List ℕ))
+pub copied_still : (t : Tables) (c : Conversion) (s s' : TranscoderState)
+    (left mid left' prefix on held : Option (List ℕ))
     → Copied t c s left mid prefix on → s' ≡ s → Consumes mid left' [] → held ≡ on
     → Copied t c s' left left' prefix held
 copied_still t c s s' left mid left' prefix on held is same none unchanged =
@@ -106,7 +110,8 @@ ended t c s left left' prefix on held is end ends =
     ))
 
 -- all was read, and the end taken
-pub copied_all : {E : Type 0} (t : Tables) (c : Conversion) (s : TranscoderState) (left left' prefix on held : Option (List ℕ))
+pub copied_all : {E : Type 0} (t : Tables) (c : Conversion) (s : TranscoderState)
+    (left left' prefix on held : Option (List ℕ))
     (result : Result (Unit {0}) E) → Copied t c s left left' prefix on → IsAtEnd left'
     → OnOk result (EndsOn t s on held)
     → OnOk result (IsConverted t c left prefix held)

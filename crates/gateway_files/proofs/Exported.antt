@@ -163,7 +163,8 @@ new_preserves None files name text none = λ other held here. elim (true_or_fals
   | inr differs ↦ ap (λ (b : Bool). if b then Some text else files other) differs ∙ here
 ]
 
-as_preserves : (files : Files) (name : Option (List ℕ)) (text : List ℕ) → PreservesFiles files (exported_as files name text)
+as_preserves : (files : Files) (name : Option (List ℕ)) (text : List ℕ)
+    → PreservesFiles files (exported_as files name text)
 as_preserves files None text = λ other held here. here
 as_preserves files (Some name) text = new_preserves (files name) files name text refl
 

@@ -31,7 +31,8 @@ planned_all x all whole jobs xs n r e t before =
     (ap (λ o. option_copied o) e) t))) ∙ before
 
 -- a record says of its job what its upload says
-job_is : (x : IndexSet) (all : Bool) (jobs : List Job) (r : Record) (entry : ℕ × Upload) → Represents x entry.0 r entry.1
+job_is : (x : IndexSet) (all : Bool) (jobs : List Job) (r : Record) (entry : ℕ × Upload)
+    → Represents x entry.0 r entry.1
     → with_job all jobs r.number (is_length r.declared r.accepted) r.metadata.bytes.items
     ≡ with_job all jobs entry.0 (is_complete entry.1) entry.1.metadata
 job_is x all jobs r entry t = rw (t.number_is, t.accepted, t.declared, t.metadata) refl

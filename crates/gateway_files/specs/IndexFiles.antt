@@ -44,7 +44,8 @@ abbrev pub IsReadFault : List ℕ → Kind → Option (List ℕ) → Fault → T
 IsReadFault name kind there (faults.Stop NoMemory) = Unit {0}
 IsReadFault name kind there faults.Io = Unit {0}
 IsReadFault name kind there (faults.Index file lines.NoMemory) = file.now ≡ name
-IsReadFault name kind (Some bytes) (faults.Index file error) = (file.now ≡ name) × (pairs_of_file kind bytes ≡ Err error)
+IsReadFault name kind (Some bytes) (faults.Index file error) =
+    (file.now ≡ name) × (pairs_of_file kind bytes ≡ Err error)
 IsReadFault name kind there fault = ⊥
 
 -- with what the files of these names have, each as an index of its kind

@@ -38,12 +38,13 @@ transcode_fault (errors.Unencodable c) = Unencodable (Some c)
 transcode_fault errors.Spent = Unencodable None
 
 -- ONE PIECE was read, and what it adds to the text was written
-pub record CopiesOn (t : Tables) (before after : TranscoderState) (left left' prefix held : Option (List ℕ)) : Type 0 where
-  pub piece : List ℕ
-  pub read : Consumes left left' piece
-  pub next : after ≡ stepped_on t before piece
-  pub fault : (added t before.transcoder piece).fault ≡ None
-  pub wrote : Appends prefix held (added t before.transcoder piece).bytes
+pub record CopiesOn (t : Tables) (before after : TranscoderState) (left left' prefix held : Option (List ℕ)) : Type 0
+  where
+    pub piece : List ℕ
+    pub read : Consumes left left' piece
+    pub next : after ≡ stepped_on t before piece
+    pub fault : (added t before.transcoder piece).fault ≡ None
+    pub wrote : Appends prefix held (added t before.transcoder piece).bytes
 
 -- and what the end adds
 pub record EndsOn (t : Tables) (s : TranscoderState) (prefix held : Option (List ℕ)) : Type 0 where

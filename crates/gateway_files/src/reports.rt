@@ -1,7 +1,8 @@
 //! What the program prints of what it did.
 ghost use Rattle.std.specs.Prelude.{◌≡◌, OnOk, count_by};
 ghost use Rattle.std.specs.Io.KnownBytes.{Appends};
-ghost use Rattle.gateway_files.specs.Reports.{formatted_line, free_line, is_read, losses_line, losses_line_of, open_line};
+ghost use Rattle.gateway_files.specs.Reports.{formatted_line, free_line, is_read, losses_line, losses_line_of};
+ghost use Rattle.gateway_files.specs.Reports.{open_line};
 ghost use Rattle.gateway_files.specs.Reports.{read_lines, served_line, up_line, upgraded_line};
 
 use crate::index_files::IndexFile;

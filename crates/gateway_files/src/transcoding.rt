@@ -123,7 +123,8 @@ pub fn text_on<R: Read, W: Write>(
     writer: &mut W,
 ) -> Result<(), Fault>
     requires { IsOutput conversion.to }
-    ensures stored { OnOk result (IsConverted (tables set.now) conversion (R.remaining reader.old) (W.contents writer.old)
+    ensures stored { OnOk result (IsConverted (tables set.now) conversion (R.remaining reader.old)
+        (W.contents writer.old)
         (W.contents writer.new)) }
     ensures whole { OnOk result (IsAtEnd (R.remaining reader.new)) }
     ensures refused { IfErr result IsTextFault }

@@ -72,7 +72,8 @@ work_left disk n given back before left (Run run) (Upgrade reported) is have = a
 work_left disk n given back before left (Upgrade error) (Run reported) is have = absurd is
 
 pub round_left : {D C : Type 0} (disk : Ghosts D) (chosen : C → D → D → Type 0) (n : ℕ) (given back after : D)
-    (before left next : List Store) (work reported : Work) (end : End C) → IsWork disk n given back before left work reported
+    (before left next : List Store) (work reported : Work) (end : End C)
+    → IsWork disk n given back before left work reported
     → IsEnd disk chosen end back after left next → HaveAllBytes before → HaveAllBytes next
 round_left disk chosen n given back after before left next work reported (Crash how) is crash have =
     subst HaveAllBytes (sym crash.alone)

@@ -40,7 +40,8 @@ use Rattle.gateway_engine.specs.Ran.{CountsEither, HasFailed, HasRefused}
 use Rattle.gateway_engine.specs.RanOn.{AllShowOne, EndedOn, HasRunOn}
 use Rattle.gateway_rounds.specs.declared.faults.RunFault.{RunFault}
 use Rattle.gateway_rounds.specs.declared.faults.RunFault.TheVariants.{Open, Script}
-use Rattle.gateway_rounds.specs.Rounds.{OpensWith, Crashes, IsRunFault, left_by_run, left_by_upgrade, IsWholeRun, RunEndsAs}
+use Rattle.gateway_rounds.specs.Rounds.{OpensWith, Crashes, IsRunFault, left_by_run, left_by_upgrade, IsWholeRun}
+use Rattle.gateway_rounds.specs.Rounds.{RunEndsAs}
 use Rattle.gateway_rounds.specs.Rounds.{PassesRun, UpgradeEnds, UpgradeLeaves}
 
 -- WHAT WAS WRITTEN
@@ -416,7 +417,8 @@ counts_reported e x a b counts = record {
 }
 
 -- what it leaves, by whether the disk failed
-pub left_reported : {D : Type 0} (disk : Ghosts D) (back : D) (n : ℕ) (m : Store) (before : List Store) (e : UpgradeError)
+pub left_reported : {D : Type 0} (disk : Ghosts D) (back : D) (n : ℕ) (m : Store) (before : List Store)
+    (e : UpgradeError)
     → ((e ≡ upgrades.Open (opens.Stop DiskFault) → ⊥) → AllShow disk back n m) → AllShowOne disk back n before
     → (left : List Store) × AllShowOne disk back n left × (left ≡ left_by_upgrade (Some e) m before)
 left_reported disk back n m before upgrades.AlreadyNew shows still =

@@ -124,7 +124,8 @@ pub record IsUpgrade {D : Type 0} (disk : Ghosts D) (n : ℕ) (given back : D) (
   pub opened : OpensWith disk given n before store
   pub same : left ≡ left_by_upgrade reported store before
   pub leaves : (image : ℕ → ℕ) → IsImage (disk.current back) (disk.unsynced back) image → UpgradeLeaves reported image
-  pub counts : Counts (reported ≡ Some (upgrades.Open (opens.Stop DiskFault))) (disk.failures given) (disk.failures back)
+  pub counts : Counts (reported ≡ Some (upgrades.Open (opens.Stop DiskFault))) (disk.failures given)
+      (disk.failures back)
 
 -- THE END OF A ROUND
 
@@ -150,7 +151,8 @@ IsEnd disk chosen Nothing back after left next = (after ≡ back) × (next ≡ l
 -- what is done as it was told
 abbrev pub IsWork : {D : Type 0} → Ghosts D → ℕ → D → D → List Store → List Store → Work → Work → Type 0
 IsWork disk n given back before left (Run run) (Run reported) = IsRun disk n given back before left run reported
-IsWork disk n given back before left (Upgrade error) (Upgrade reported) = IsUpgrade disk n given back before left reported
+IsWork disk n given back before left (Upgrade error) (Upgrade reported) =
+    IsUpgrade disk n given back before left reported
 IsWork disk n given back before left (Run run) (Upgrade reported) = ⊥
 IsWork disk n given back before left (Upgrade error) (Run reported) = ⊥
 

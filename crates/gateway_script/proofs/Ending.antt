@@ -14,14 +14,16 @@ use Rattle.tus_session.specs.Connections.{Does, mark_of}
 use Rattle.tus_session.specs.Images.{shown_by}
 use Rattle.gateway_script.specs.Script as script
 use Rattle.gateway_script.specs.Script.{Run, call, Order, obeyed, order_in, is_long, is_bad, cut_next, cut_from}
-use Rattle.gateway_script.specs.Script.{run_lines, script_lines, onto_line, ended_as, finished_run, Ran, Faulted, AtLine}
+use Rattle.gateway_script.specs.Script.{run_lines, script_lines, onto_line, ended_as, finished_run, Ran, Faulted}
+use Rattle.gateway_script.specs.Script.{AtLine}
 use Rattle.gateway_script.specs.declared.faults.CallFault.{CallFault}
 use Rattle.gateway_script.specs.declared.faults.CallFault.TheVariants as faults
 use Rattle.gateway_script.specs.declared.faults.ScriptFault.{ScriptFault}
 use Rattle.gateway_script.specs.declared.faults.ScriptFault.TheVariants as runs
 use Rattle.common.specs.Splits.{rest_after}
 use Rattle.gateway_script.specs.Faults.{script_fault}
-use Rattle.gateway_script.specs.Runs.{RunView, with_marks, IsRunAt, Reaches, Leads, run_past, script_past, StopsAt, Went}
+use Rattle.gateway_script.specs.Runs.{RunView, with_marks, IsRunAt, Reaches, Leads, run_past, script_past, StopsAt}
+use Rattle.gateway_script.specs.Runs.{Went}
 use Rattle.gateway_script.specs.Runs.{Refuses, CutOne, LinesEnd, LineRan}
 use Rattle.gateway_script.proofs.Turns.{Falling, done_went, refused_went}
 use Rattle.gateway_script.proofs.Reaching.{reach_both, reach_none, stops_after}
@@ -123,7 +125,8 @@ unfolding run_lines
 line_goes number start line lines r up good = rw up (rw (good, run_lines) refl)
 
 -- a line that is none ends the run
-pub line_bad : {C : Type 0} (v : RunView C) (number start : ℕ) (line : List ℕ) (lines : List (List ℕ)) (r : Run) → IsRunAt v r
+pub line_bad : {C : Type 0} (v : RunView C) (number start : ℕ) (line : List ℕ) (lines : List (List ℕ)) (r : Run)
+    → IsRunAt v r
     → (is_long start line || is_bad (order_in line)) ≡ true
     → LinesEnd v (Err (runs.Script number)) (run_lines number start (line ∷ lines)) r
 unfolding run_lines
@@ -268,7 +271,8 @@ line_fails v fault number start bytes r some p =
     subst (λ l. LinesEnd v (Err fault) (run_lines number start l) r) (sym (lines_split bytes some)) p
 
 -- on to the lines after one that ran
-pub lines_on : {C : Type 0} (v : RunView C) (number start : ℕ) (rest line : List ℕ) (f : Run → script.Result) (r s : Run)
+pub lines_on : {C : Type 0} (v : RunView C) (number start : ℕ) (rest line : List ℕ) (f : Run
+    → script.Result) (r s : Run)
     → (rest ≡ [] → ⊥) → line ≡ take_through 10 rest → Reaches f r (run_lines number start (script_lines rest)) s
     → LineRan v (Ok (tt {0})) number start line (script_lines (rest_after 10 rest)) s
     → (t : Run) × Reaches f r (run_lines (number + 1) (start + length line) (script_lines (drop (length line) rest))) t

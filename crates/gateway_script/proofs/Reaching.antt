@@ -12,7 +12,8 @@ use Rattle.gateway_script.specs.Script.{Run, Flow, flow, call, mores, mores_afte
 use Rattle.gateway_script.specs.Script.{give_within}
 use Rattle.gateway_script.specs.declared.faults.CallFault.{CallFault}
 use Rattle.gateway_script.specs.declared.faults.CallFault.TheVariants as faults
-use Rattle.gateway_script.specs.Runs.{RunView, with_marks, Calls, Called, IsRunAt, IsBrokenOff, Reaches, Leads, LeadsOn, StopsAt}
+use Rattle.gateway_script.specs.Runs.{RunView, with_marks, Calls, Called, IsRunAt, IsBrokenOff, Reaches, Leads}
+use Rattle.gateway_script.specs.Runs.{LeadsOn, StopsAt}
 use Rattle.gateway_script.specs.Runs.{run_past, flow_past, Flowed, Went, GivenOnce, settles}
 
 pub reach_both : {X : Type 0} (f g h : Run → X) (r s t : Run) → Reaches f r g s → Reaches g s h t → Reaches f r h t
@@ -73,7 +74,8 @@ more_answers v (Some a) n k r c =
     let p = reach_more k n r c.0 (Gave c.1 a.taken a.closes a.more) c.2 in
     (c.0, (p.0, λ rest. p.1 rest ∙ settled (mores k n) c.1 a.taken a.closes a.more (with_marks c.0 rest)), c.3)
 
-more_stops : {C : Type 0} (v : RunView C) (fault : CallFault) (n k : ℕ) (r s : Run) (o : Outcome) → Calls r n (More n) s o
+more_stops : {C : Type 0} (v : RunView C) (fault : CallFault) (n k : ℕ) (r s : Run) (o : Outcome)
+    → Calls r n (More n) s o
     → IsBrokenOff v fault s → StopsAt v fault flow_past (mores (suc k) n) r
 more_stops v fault n k r s o c at = (
   s,
@@ -186,7 +188,8 @@ came_stops v fault k n bytes r s o some c at = (
   at,
 )
 
-pub came_fails : {C : Type 0} (v : RunView C) (fault : CallFault) (k n : ℕ) (bytes : List ℕ) (r : Run) → (bytes ≡ [] → ⊥)
+pub came_fails : {C : Type 0} (v : RunView C) (fault : CallFault) (k n : ℕ) (bytes : List ℕ) (r : Run)
+    → (bytes ≡ [] → ⊥)
     → Called v (Err fault) n (Came n bytes) r → GivenOnce v (Err fault) k n bytes r
 came_fails v (faults.Stop stops.DiskFault) k n bytes r some c =
     (c.0, came_reaches k n bytes r c.0 (Refused (errors.Stop stops.DiskFault)) some c.1, c.2)

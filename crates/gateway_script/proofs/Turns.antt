@@ -13,7 +13,8 @@ use Rattle.gateway_script.specs.declared.faults.CallFault.{CallFault}
 use Rattle.gateway_script.specs.declared.faults.CallFault.TheVariants as faults
 use Rattle.gateway_script.specs.Outputs.{AppendsPart, LastOutput, WritesAs}
 use Rattle.gateway_script.specs.Script.{Run, call, is_fault, written}
-use Rattle.gateway_script.specs.Runs.{RunView, with_marks, after_call, Calls, Called, IsRunAt, IsDown, IsBrokenOff, Leads}
+use Rattle.gateway_script.specs.Runs.{RunView, with_marks, after_call, Calls, Called, IsRunAt, IsDown, IsBrokenOff}
+use Rattle.gateway_script.specs.Runs.{Leads}
 use Rattle.gateway_script.specs.Runs.{run_past, Went, Refuses, WritesGiven}
 use Rattle.gateway_script.proofs.Outputs.{appends_both, appends_nothing}
 use Rattle.gateway_script.proofs.Passing.{passes_by, first_same}
@@ -63,7 +64,8 @@ Lands v (Ok x) s = IsRunAt v s
 Lands v (Err (faults.Stop stops.DiskFault)) s = IsDown v s
 Lands v (Err fault) s = IsBrokenOff v fault s
 
-went_lands : {C : Type 0} (v : RunView C) (r : Run) (n : ℕ) (e : Event) (m : Mark) (result : Result (Unit {0}) CallFault)
+went_lands : {C : Type 0} (v : RunView C) (r : Run) (n : ℕ) (e : Event) (m : Mark)
+    (result : Result (Unit {0}) CallFault)
     → Lands v result (after_call r n e m) → Went v result (λ x. (call x n e).run) r
 went_lands v r n e m result lands =
     let passes = passes_by run_past (λ x. (call x n e).run) (λ x. x) r (after_call r n e m) (leads r n e m)
@@ -75,7 +77,8 @@ went_lands v r n e m result lands =
       | Err faults.Io ↦ λ lands. (after_call r n e m, passes, lands)
     ] lands
 
-module _ {C : Type 0} (v : RunView C) (now : C) (held : Option (List ℕ)) (r : Run) (e : Event) (m : Mark) (at : IsRunAt v r)
+module _ {C : Type 0} (v : RunView C) (now : C) (held : Option (List ℕ)) (r : Run) (e : Event) (m : Mark)
+    (at : IsRunAt v r)
     (leaves : Leaves v now r.state.world.store (shown_by r.state e m)) where
   landed : (o : Outcome) (last : List ℕ) (result : Result (Unit {0}) CallFault)
       → v.u.represents now v.sure (step r.state e m).state → (step r.state e m).outcome ≡ o → is_fault o ≡ false
@@ -146,9 +149,11 @@ done_went v now r e at leaves does =
     went_lands (current_after v now v.held) r (conn_in e) e Served (Ok (tt {0})) (landed v now v.held r e Served at
     leaves Done [] (Ok (tt {0})) does.now_represents does.answer refl refl (appends_nothing v.held))
 
-pub refused_went : {C : Type 0} (v : RunView C) (now : C) (held : Option (List ℕ)) (r : Run) (e : Event) (f : SessionError)
+pub refused_went : {C : Type 0} (v : RunView C) (now : C) (held : Option (List ℕ)) (r : Run) (e : Event)
+    (f : SessionError)
     (result : Result (Unit {0}) CallFault)
-    → IsRunAt v r → AreOnDisk v r → Leaves v now r.state.world.store (shown_by r.state e (mark_of {T = Unit {0}} (Err f)))
+    → IsRunAt v r → AreOnDisk v r → Leaves v now r.state.world.store
+    (shown_by r.state e (mark_of {T = Unit {0}} (Err f)))
     → Does (v.u.represents now v.sure) (Err f) r.state e → Falling v now f
     → Refuses v.held held result (conn_in e) f
     → Went (current_after v now held) result (λ x. (call x (conn_in e) e).run) r
@@ -180,7 +185,13 @@ module _ {C : Type 0} (v : RunView C) (now : C) (held : Option (List ℕ)) (r : 
       → Called (current_after v now held) (answered_as (Some a) result) (conn_in e) e r) [
         | Ok x ↦ λ wrote_given. (s, gives.0, c, lands (Ok x) wrote_given)
         | Err (faults.Stop stops.DiskFault) ↦ λ wrote_given. absurd wrote_given
-        | Err (faults.Stop stops.NoMemory) ↦ λ wrote_given. (s, o, c, lands (Err (faults.Stop stops.NoMemory)) wrote_given)
+        | Err (faults.Stop stops.NoMemory) ↦ λ wrote_given. (
+          s,
+          o,
+          c,
+          lands (Err (faults.Stop stops.NoMemory))
+              wrote_given,
+        )
         | Err faults.Io ↦ λ wrote_given. (s, o, c, lands (Err faults.Io) wrote_given)
       ] wrote_given
 
@@ -194,7 +205,8 @@ module _ {C : Type 0} (v : RunView C) (now : C) (held : Option (List ℕ)) (r : 
       let s = after_call r (conn_in e) e m in
       let c = calls r (conn_in e) e m (Refused f) gives.1.answer in
       let lands = λ (result : Result (Unit {0}) CallFault) (refuses : Refuses v.held held result (conn_in e) f).
-      refused_at v now held r e m at leaves Answer f gives.1.answer gives.1.now_represents result durable fell refuses in
+      refused_at v now held r e m at leaves Answer f gives.1.answer gives.1.now_represents result durable fell
+      refuses in
       elim result as (λ result. Refuses v.held held result (conn_in e) f
       → Called (current_after v now held) (answered_as None result) (conn_in e) e r) [
         | Ok x ↦ λ refuses. (s, f, c, lands (Ok x) refuses)

@@ -53,7 +53,8 @@ module _ {C : Type 0} (c : Ghosts C) (sure : Bool) (before old now : C) (st : St
   represents_still (Err (errors.Stop stops.DiskFault)) ok after_is = absurd (ok refl)
 
   module _ (On Down : List Marked → Type 0) where
-    pub served : {T U : Type 0} (answer : Result T SessionError) (reported : Result U DiskFault) → GoesOn answer reported
+    pub served : {T U : Type 0} (answer : Result T SessionError) (reported : Result U DiskFault)
+        → GoesOn answer reported
         → IsAfterCall answer → Leaves answer
         → Falls (c.down old) (c.down now) answer → ((Faults answer → ⊥) → On ((e, mark_of answer) ∷ past))
         → (Faults answer → Down ((e, mark_of answer) ∷ past)) → ServesPart c sure before now st reported On Down
@@ -81,7 +82,8 @@ module _ {C : Type 0} (c : Ghosts C) (sure : Bool) (before old now : C) (st : St
 
 -- what holds of the events after a part of serving, from what it says of them
 pub followed : {C T : Type 0} (c : Ghosts C) (sure : Bool) (before now : C) (st : State)
-    (On Down On' Down' : List Marked → Type 0) (reported : Result T DiskFault) → ServesPart c sure before now st reported On Down
+    (On Down On' Down' : List Marked → Type 0) (reported : Result T DiskFault)
+    → ServesPart c sure before now st reported On Down
     → ((past : List Marked) → On past → On' past) → ((past : List Marked) → Down past → Down' past)
     → ServesPart c sure before now st reported On' Down'
 followed c sure before now st On Down On' Down' (Ok x) s on down = (s.0, s.1, on s.0 s.2)
@@ -92,7 +94,8 @@ pub alone_after : {C T : Type 0} (c : Ghosts C) (sure : Bool) (before now : C) (
     (past mid : List Marked)
     (On Down : List Marked → Type 0) (reported : Result T DiskFault) → Alone sure st n past mid
     → ServesPart c sure before now st reported (λ p. Alone sure st n mid p × On p) (λ p. Alone sure st n mid p × Down p)
-    → ServesPart c sure before now st reported (λ p. Alone sure st n past p × On p) (λ p. Alone sure st n past p × Down p)
+    → ServesPart c sure before now st reported (λ p. Alone sure st n past p × On p) (λ p. Alone sure st n past p
+    × Down p)
 alone_after c sure before now st n past mid On Down reported first s =
     followed c sure before now st (λ p. Alone sure st n mid p × On p) (λ p. Alone sure st n mid p × Down p)
     (λ p. Alone sure st n past p × On p) (λ p. Alone sure st n past p × Down p) reported s

@@ -30,7 +30,8 @@ use Rattle.gateway_serve.proofs.Freed.{loosely, others_stay, unreported_place}
 module _ {S : Type 0} (sure : Bool) (st : State) (past now : List Marked) (k : ℕ)
     (talks : (cs : List Conversation) → AreTalks sure st past k cs → AreTalks sure st now k cs)
     (conns : (history st now).conns k ≡ (history st past).conns k) where
-  place_unchanged : (p : Place S) (ended : List Seen) → PlaceJoins sure p ended st past k → PlaceJoins sure p ended st now k
+  place_unchanged : (p : Place S) (ended : List Seen) → PlaceJoins sure p ended st past k
+      → PlaceJoins sure p ended st now k
   place_unchanged Free ended is = (is.0, talks is.0 is.1, is.2, conns ∙ is.3)
   place_unchanged (Open l) ended is =
       moved sure ended st past k (joint_of l) (joint_of l) now is.latest is (talks (is.latest ∷ is.others) is.talks)

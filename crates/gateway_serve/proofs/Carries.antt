@@ -32,11 +32,13 @@ module _ {S : Type 0} (remaining contents : S → Option (List ℕ)) where
       (Was.Read (length bytes)) (latest_of new) e f (last ∙ ap Was.Read (sym count))
       (read (stream_of old) (stream_of new) (bytes_come old) (went_of old) bytes (latest_of old) k does)
 
-  pub not_read_stays : (old new : Socket S) (kind : ErrorKind) → bytes_come new ≡ bytes_come old → went_of new ≡ went_of old
+  pub not_read_stays : (old new : Socket S) (kind : ErrorKind) → bytes_come new ≡ bytes_come old
+      → went_of new ≡ went_of old
       → latest_of new ≡ Was.Failed kind → Keeps (remaining (stream_of old)) (remaining (stream_of new))
       → StaysOf remaining contents old new
   not_read_stays old new kind e f last does = λ accepted k.
-      carried_by accepted (stream_of new) (bytes_come old) (bytes_come new) (went_of old) (went_of new) (Was.Failed kind)
+      carried_by accepted (stream_of new) (bytes_come old) (bytes_come new) (went_of old) (went_of new)
+      (Was.Failed kind)
       (latest_of new) e f last
       (not_read (stream_of old) (stream_of new) (bytes_come old) (went_of old) (latest_of old) kind k does)
 
@@ -54,7 +56,8 @@ module _ {S : Type 0} (remaining contents : S → Option (List ℕ)) where
       → Keeps (contents (stream_of old)) (contents (stream_of new))
       → StaysOf remaining contents old new
   not_written_stays old new kind e f last does = λ accepted k.
-      carried_by accepted (stream_of new) (bytes_come old) (bytes_come new) (went_of old) (went_of new) (Was.Failed kind)
+      carried_by accepted (stream_of new) (bytes_come old) (bytes_come new) (went_of old) (went_of new)
+      (Was.Failed kind)
       (latest_of new) e f last
       (not_written (stream_of old) (stream_of new) (bytes_come old) (went_of old) (latest_of old) kind k does)
 

@@ -65,11 +65,13 @@ module _ (sure : Bool) (ended : List Seen) (st : State) (past : List Marked) (n 
   -- the conversation goes on by so many bytes
   longer_joins : (e : Event) (m : Mark) (j : Joint) (took gave input output : List ℕ) (closed : Bool)
       (is : Joins sure j ended st past n)
-      → AreTalks sure st ((e, m) ∷ past) n (longer_conversation is.latest took gave ∷ is.others) → j.input ≡ took ++ input
+      → AreTalks sure st ((e, m) ∷ past) n (longer_conversation is.latest took gave ∷ is.others)
+      → j.input ≡ took ++ input
       → output ≡ j.output ++ gave → (closed ≡ true → (history st ((e, m) ∷ past)).conns n ≡ None)
       → Joins sure (with_input j input output closed) ended st ((e, m) ∷ past) n
   longer_joins e m j took gave input output closed is talks taken given shut =
-      moved j (with_input j input output closed) ((e, m) ∷ past) (longer_conversation is.latest took gave) is talks is.disconnected
+      moved j (with_input j input output closed) ((e, m) ∷ past) (longer_conversation is.latest took gave) is talks
+      is.disconnected
       (is.taken ∙ (ap (λ l. is.latest.took ++ l) taken ∙ sym (append_assoc is.latest.took took input)))
       (shorter took input j.input taken is.few)
       (ap (λ l. j.went ++ l) given ∙ (sym (append_assoc j.went j.output gave) ∙ ap (λ l. l ++ gave) is.given)) shut

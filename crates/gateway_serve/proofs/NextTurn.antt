@@ -19,7 +19,8 @@ none_asked before passes none = record {
 }
 
 -- the listener was asked, and none waited
-given_one : (gave : Bool) (since : List Bool) (n : ℕ) → count_given since ≡ n → count_given (gave ∷ since) ≡ n + one_if gave
+given_one : (gave : Bool) (since : List Bool) (n : ℕ) → count_given since ≡ n
+    → count_given (gave ∷ since) ≡ n + one_if gave
 unfolding count_given
 given_one gave since n e = grind arith
 

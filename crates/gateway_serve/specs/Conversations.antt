@@ -27,7 +27,8 @@ latest f (c ∷ cs) = f c ∷ cs
 -- what an event and its outcome make of the conversations of its connection
 abbrev pub goes_on : Event → Outcome → List Conversation → List Conversation
 goes_on (Opened n) Done cs = new_conversation ∷ cs
-goes_on (Came n piece) (Gave bytes taken closes more) cs = latest (λ c. longer_conversation c (take taken piece) bytes) cs
+goes_on (Came n piece) (Gave bytes taken closes more) cs =
+    latest (λ c. longer_conversation c (take taken piece) bytes) cs
 goes_on (More n) (Gave bytes taken closes more) cs = latest (λ c. longer_conversation c [] bytes) cs
 goes_on (Ended n) outcome cs = latest hung_up cs
 goes_on e outcome cs = cs

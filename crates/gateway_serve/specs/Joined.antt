@@ -97,7 +97,8 @@ abbrev pub read : List ℕ → Joint → Joint
 read bytes j = record { came = j.came ++ bytes; went = j.went; input = bytes; output = j.output; closed = j.closed }
 
 abbrev pub ReadsPiece : Joint → Joint → Type 0
-ReadsPiece old new = (new ≡ old) ⊎ ((old.input ≡ []) × ((bytes : List ℕ) × (new ≡ read bytes old) × (length bytes ≤ PIECE)))
+ReadsPiece old new =
+    (new ≡ old) ⊎ ((old.input ≡ []) × ((bytes : List ℕ) × (new ≡ read bytes old) × (length bytes ≤ PIECE)))
 
 -- what follows an answer, once all is written. After a refusal the connection is closed, and nothing was taken
 abbrev pub stage_by : Answer → Stage
@@ -207,7 +208,8 @@ StaysJoined {C} c old new result places places' ended ended' =
     → ServesPart c sure before new st result (AllJoin sure places' ended' st) (AllFell sure places' ended' st)
 
 -- after it all connections are ended, unless the disk failed
-abbrev pub AllEnded : {C S T : Type 0} → Ghosts C → C → C → Result T DiskFault → List (Place S) → List (Place S) → List Seen
+abbrev pub AllEnded : {C S T : Type 0} → Ghosts C → C → C → Result T DiskFault → List (Place S) → List (Place S)
+    → List Seen
     → List Seen → Type 0
 AllEnded {C} c old new result places places' ended ended' =
     (sure : Bool) (before : C) (st : State) (past : List Marked) → WentOn c sure before old st past

@@ -1,6 +1,7 @@
 //! What serving sees of a request: whether its head came, and how fast its body comes.
 ghost use Rattle.std.specs.Prelude.{◌≡◌, None, true, false};
-ghost use Rattle.gateway_serve.specs.Requests.{with_bytes, at_in, request_or_new, has_come, head_after, looked, measured_anew};
+ghost use Rattle.gateway_serve.specs.Requests.{with_bytes, at_in, request_or_new, has_come, head_after, looked};
+ghost use Rattle.gateway_serve.specs.Requests.{measured_anew};
 ghost use Rattle.gateway_serve.specs.Requests.{measured_from};
 
 use crate::stays::At;

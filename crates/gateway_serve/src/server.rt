@@ -7,7 +7,8 @@ ghost use Rattle.gateway_serve.specs.Joined.{StaysJoined, AllEnded, LetsGo, IsFr
 ghost use Rattle.gateway_serve.specs.Longest.{IsLongest};
 ghost use Rattle.gateway_serve.specs.Reasons.{AllReasoned, StayReasoned, EndsReasoned, IsLeftReasoned};
 ghost use Rattle.gateway_serve.specs.Streams.{AllHave, AllHad, AllPreserve};
-ghost use Rattle.gateway_serve.specs.Turns.{HasRoom, IsUnvisited, HasNoPlace, NoneIsFree, RestStays, closed_of, door_of};
+ghost use Rattle.gateway_serve.specs.Turns.{HasRoom, IsUnvisited, HasNoPlace, NoneIsFree, RestStays, closed_of};
+ghost use Rattle.gateway_serve.specs.Turns.{door_of};
 
 use crate::acceptors::Acceptor;
 use crate::doors::Door;
@@ -126,7 +127,8 @@ impl<S: Read + Write + Drop> Server<S> {
         ensures reasons { StayReasoned (ended_of self.old) (ended_of self.new) }
         ensures streams { AllPreserve S.remaining S.contents (places_of self.old) (places_of self.new)
             (ended_of self.old) (ended_of self.new) }
-        ensures serves { StaysJoined C.Connections gateway.old gateway.new result (places_of self.old) (places_of self.new)
+        ensures serves { StaysJoined C.Connections gateway.old gateway.new result (places_of self.old)
+            (places_of self.new)
             (ended_of self.old) (ended_of self.new) }
         ensures counts { Counts (IsErr result) (C.failures gateway.old) (C.failures gateway.new) }
         ensures clients { (before : List Bool) (turns : ℕ)
@@ -180,7 +182,8 @@ impl<S: Read + Write + Drop> Server<S> {
         ensures reasons { StayReasoned (ended_of self.old) (ended_of self.new) }
         ensures streams { AllPreserve S.remaining S.contents (places_of self.old) (places_of self.new)
             (ended_of self.old) (ended_of self.new) }
-        ensures serves { StaysJoined C.Connections gateway.old gateway.new result (places_of self.old) (places_of self.new)
+        ensures serves { StaysJoined C.Connections gateway.old gateway.new result (places_of self.old)
+            (places_of self.new)
             (ended_of self.old) (ended_of self.new) }
         ensures counts { Counts (IsErr result) (C.failures gateway.old) (C.failures gateway.new) }
         ensures clients { (before answers : List Bool) (turns : ℕ) → LetsInBy before answers turns (door_of self.old)

@@ -49,4 +49,5 @@ written_chunk new old at n inside room =
 -- what lies after is the old list's
 pub rest_unchanged : (new old : List ℕ) (at n : ℕ) → at ≤ length new → at ≤ n
     → drop n (take at new ++ drop at old) ≡ drop n old
-rest_unchanged new old at n inside further = drop-append-drop at old (take at new) n further (length-take-le at new inside)
+rest_unchanged new old at n inside further = drop-append-drop at old (take at new) n further
+    (length-take-le at new inside)

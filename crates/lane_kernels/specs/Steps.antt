@@ -30,7 +30,8 @@ scalar_of_pair (Some lead) trail = Some (0x10000 + (lead - 0xD800) * 0x400 + (tr
 
 -- The scalar that the unit completes.
 abbrev pub unit_scalar : Option ℕ → ℕ → Option ℕ
-unit_scalar carried unit = if is_lead unit then None else if is_trail unit then scalar_of_pair carried unit else Some unit
+unit_scalar carried unit =
+    if is_lead unit then None else if is_trail unit then scalar_of_pair carried unit else Some unit
 
 -- The scalars of units after a carried lead or none: one for each pair, and one for each unit that isn't a surrogate.
 abbrev pub scalars_of : Option ℕ → List ℕ → List ℕ

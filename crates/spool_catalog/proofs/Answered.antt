@@ -34,7 +34,8 @@ use Rattle.spool_catalog.proofs.numbers.Ordered.{one_slot as ordered_slot}
 pub none_valid : (x : IndexSet) (n : ℕ) (o : Option Upload) → o ≡ None → RepresentsValidOf x n o None
 none_valid x n o e = subst (λ (p : Option Upload). RepresentsValidOf x n p None) (sym e) tt
 
-pub some_valid : (x : IndexSet) (n : ℕ) (o : Option Upload) (u : Upload) (r : Record) → o ≡ Some u → RepresentsValid x n r u
+pub some_valid : (x : IndexSet) (n : ℕ) (o : Option Upload) (u : Upload) (r : Record) → o ≡ Some u
+    → RepresentsValid x n r u
     → RepresentsValidOf x n o (Some r)
 some_valid x n o u r e k = subst (λ (p : Option Upload). RepresentsValidOf x n p (Some r)) (sym e) k
 
@@ -100,8 +101,12 @@ module _ {h : Holding} {v : View} {m : Store} (catalog : HasView h v) (shows : S
 
     pub found : {r : Record} → slot_record_of r ≡ q → IsUnpacked r
         → (u : Upload) × (upload_of m n ≡ Some u) × RepresentsValid m.indexes n r u
-    found {r = r} slot_record unpacked =
-        (recorded.upload, upload_is, valid_record m.indexes q (v.texts s) recorded.upload recorded.represents r slot_record unpacked n number)
+    found {r = r} slot_record unpacked = (
+      recorded.upload,
+      upload_is,
+      valid_record m.indexes q (v.texts s) recorded.upload recorded.represents r
+          slot_record unpacked n number,
+    )
 
     -- and the text on its blocks is its upload's
     pub text_recorded : (bytes : ℕ → ℕ) → Encodes bytes v → (u : Upload) → upload_of m n ≡ Some u

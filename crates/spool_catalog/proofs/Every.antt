@@ -1,6 +1,7 @@
 -- Each valid view shows uploads: those that go on from what its slots have.
 use Rattle.std.proofs.Common.{◌≡◌, ℕ, zero, suc, ◌+◌, ◌*◌, ◌/◌, ◌<◌, ◌≤◌, ◌==◌, Bool, true, false, List, [], ◌∷◌, ◌++◌}
-use Rattle.std.proofs.Common.{Option, Some, None, length, map, get_or, take, slice_index, refl, sym, ◌∙◌, ap, subst, arith}
+use Rattle.std.proofs.Common.{Option, Some, None, length, map, get_or, take, slice_index, refl, sym, ◌∙◌, ap, subst}
+use Rattle.std.proofs.Common.{arith}
 use Rattle.std.proofs.Common.{append-nil, inl, inr, length-append, length-take}
 use Rattle.std.proofs.lemmas.Bool.{cases_eq, eq-eqb, ne_eqb}
 use Rattle.std.proofs.lemmas.Option.{same_Some}
@@ -9,7 +10,8 @@ use Rattle.enc_model.specs.declared.Encoding.{Encoding}
 use Rattle.enc_model.specs.declared.Encoding.TheVariants as encodings
 use Rattle.enc_model.specs.declared.Mode.TheVariants.{Html}
 use Rattle.enc_model.specs.Encode.{Tables, Shift, InAscii, Encoder, Coded, coded, encoder, ended_coded, led_by}
-use Rattle.enc_model.specs.Decode.{Decoding, OfUtf8, OfUtf16, OfShiftJis, OfEucJp, OfIso2022, OfSingle, decoded, decoding}
+use Rattle.enc_model.specs.Decode.{Decoding, OfUtf8, OfUtf16, OfShiftJis, OfEucJp, OfIso2022, OfSingle, decoded}
+use Rattle.enc_model.specs.Decode.{decoding}
 use Rattle.enc_model.specs.Decode.{run_as, undecided}
 use Rattle.enc_model.specs.Indexes.{IndexSet, tables}
 use Rattle.enc_model.specs.Japanese.{euc_jp, iso2022, shift_jis, single}
@@ -109,7 +111,8 @@ module _ (x : IndexSet) (r : SlotRecord) (text : List ℕ) (has : HasState r) (s
       → text_with x u [] true ≡ record { bytes = text; state = InAscii; fault = None }
   unfolding fed_text fed_end
   ended_text over ascii =
-      ap (λ (p : Phase). led_by text (ended_coded (coded f t.mode t.shift (let z = fed_text (tables x) t.from p [] in z.text ++
+      ap (λ (p : Phase). led_by text (ended_coded (coded f t.mode t.shift
+      (let z = fed_text (tables x) t.from p [] in z.text ++
       fed_end (tables x) t.from z.phase)))) over
       ∙ ap (λ (s : Shift). led_by text (ended_coded (coded f t.mode s []))) ascii
       ∙ ap (λ (z : Coded). led_by text (ended_coded z)) (coded_none f t.mode InAscii)
@@ -136,7 +139,8 @@ module _ (x : IndexSet) (r : SlotRecord) (text : List ℕ) (has : HasState r) (s
       }
 
   open_recorded : is_length r.declared r.accepted ≡ false → IsRecordOf x r text u
-  open_recorded is = recorded_as false is (ap (λ (z : Coded). z.bytes) open_text) (ap (λ (z : Coded). z.fault) open_text)
+  open_recorded is = recorded_as false is (ap (λ (z : Coded). z.bytes) open_text)
+      (ap (λ (z : Coded). z.fault) open_text)
       open_state
 
   by_phase : (p : Phase) → t.phase ≡ p → FitsPhase p r.accepted r.declared → IsShiftIn p t.to t.shift
@@ -256,7 +260,8 @@ module _ (h : Holding) (v : View) (has_view : HasView h v) (valid : IsValid v) (
         record {
           upload = upload_at s;
           there = find_here upload_at h.order r.number s listed.place has_view.ordered.rises listed.below listed.here;
-          represents = subst (λ (o : Option SlotRecord). RepresentsAt s o (upload_at s)) there (recorded_by s (slot_at v s) refl);
+          represents = subst (λ (o : Option SlotRecord). RepresentsAt s o (upload_at s)) there
+              (recorded_by s (slot_at v s) refl);
         }
 
     pub each_shows : (m : Store) × Shows v m

@@ -58,11 +58,13 @@ module _ (x : IndexSet) (n : ℕ) (r : Record) (new : New) (valid_record : Repre
     state_size = ap length state_is ∙ state_length (transcoder_with x (new_upload new) [] (is_complete (new_upload
         new)));
     state = recorded_state x (slot_record_of r) [] (new_upload new) represents_new;
-    metadata_size = subst (λ (bytes : List ℕ). length bytes ≤ MOST_METADATA) (sym valid_record.represents.metadata) well.short;
+    metadata_size = subst (λ (bytes : List ℕ). length bytes ≤ MOST_METADATA) (sym valid_record.represents.metadata)
+        well.short;
     printable = rw (← valid_record.represents.metadata) at well.printable;
   }
 
-pub new_record : (x : IndexSet) (n : ℕ) (r : Record) (new : New) → ((y : IndexSet) → RepresentsValid y n r (new_upload new))
+pub new_record : (x : IndexSet) (n : ℕ) (r : Record) (new : New)
+    → ((y : IndexSet) → RepresentsValid y n r (new_upload new))
     → IsValidNew new → IsNewRecord n new (slot_record_of r)
 new_record x n r new valid_record well = record {
   number_is = (valid_record x).represents.number_is;

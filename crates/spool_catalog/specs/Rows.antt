@@ -15,7 +15,8 @@ pub record HandsOver (old : List Row) (slot first : ℕ) (list : List ℕ) (new 
   pub listed : (i : ℕ) → i < length list → Owns new (get_or list i 0) slot (first + i)
   pub freed : (b k : ℕ) → ((i : ℕ) → i < length list → get_or list i 0 ≢ b) → first ≤ k → Owns old b slot k
       → get_or new b None ≡ None
-  pub preserved : (b : ℕ) → ((i : ℕ) → i < length list → get_or list i 0 ≢ b) → ((k : ℕ) → first ≤ k → Owns old b slot k → ⊥)
+  pub preserved : (b : ℕ) → ((i : ℕ) → i < length list → get_or list i 0 ≢ b)
+      → ((k : ℕ) → first ≤ k → Owns old b slot k → ⊥)
       → get_or new b None ≡ get_or old b None
 
 -- the slot's blocks are nobody's, and every other row is as it was

@@ -50,14 +50,16 @@ all_both bytes [] earlier all others = others
 all_both bytes (g ∷ later) earlier all others = (all.0, all_both bytes later earlier all.1 others)
 
 -- It doesn't matter how the reads since are named.
-all_added : {bytes : ℕ → ℕ} {old new : List Given} (grew : MoreReads old new) → ReadsGave bytes old new → AllGave bytes grew.added
+all_added : {bytes : ℕ → ℕ} {old new : List Given} (grew : MoreReads old new) → ReadsGave bytes old new
+    → AllGave bytes grew.added
 all_added {bytes = bytes} {old = old} grew gave =
     subst (AllGave bytes)
     (append_cancel_right gave.since.added grew.added old (sym gave.since.grown ∙ grew.grown))
     gave.all
 
 -- What all the reads gave, the earlier ones gave.
-pub first : {bytes : ℕ → ℕ} {a b c : List Given} → MoreReads a b → MoreReads b c → ReadsGave bytes a c → ReadsGave bytes a b
+pub first : {bytes : ℕ → ℕ} {a b c : List Given} → MoreReads a b → MoreReads b c → ReadsGave bytes a c
+    → ReadsGave bytes a b
 unfolding grew_on
 first {bytes = bytes} f g gave = record {
   since = f;
@@ -65,7 +67,8 @@ first {bytes = bytes} f g gave = record {
 }
 
 -- What all the reads gave, the later ones gave.
-pub rest : {bytes : ℕ → ℕ} {a b c : List Given} → MoreReads a b → MoreReads b c → ReadsGave bytes a c → ReadsGave bytes b c
+pub rest : {bytes : ℕ → ℕ} {a b c : List Given} → MoreReads a b → MoreReads b c → ReadsGave bytes a c
+    → ReadsGave bytes b c
 unfolding grew_on
 rest {bytes = bytes} f g gave = record {
   since = g;

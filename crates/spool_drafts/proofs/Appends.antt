@@ -78,7 +78,8 @@ module _ {x : IndexSet} {p : Patch} {d : SpoolDraft} (held : Holds x p d) {piece
   longer_fault none =
       let state_after = subst (IsStateAfter x p.began (p.body ++ piece)) none reads.state_after in
       went_on p.short Unencodable state_after
-      (sym (need_fault x longer false (ap (λ r. is_there r.fault) (patch_text_is x longer false) ∙ state_after still))) tt
+      (sym (need_fault x longer false (ap (λ r. is_there r.fault) (patch_text_is x longer false)
+      ∙ state_after still))) tt
 
   module _ (t : TranscoderState) (some : next ≡ Some t) where
     reads_on : ReadsOn x p.began p.body piece (Some t) added
@@ -118,7 +119,8 @@ module _ {x : IndexSet} {p : Patch} {d : SpoolDraft} (held : Holds x p d) {piece
           let holds = stored.1 in
           let needs = need_more d.committed_len _ (length added) old holds new.blocks same
           (λ some. listed some ∙ ap (λ (k : ℕ). (k + 4095) / PAGE) grown) in
-          went_on p.short (Text t new) reads_on.state_after (needs ∙ wanted ∙ sym (need_roomy x longer false stored.0)) (
+          went_on p.short (Text t new) reads_on.state_after (needs ∙ wanted
+          ∙ sym (need_roomy x longer false stored.0)) (
             stored.0,
             subst (HoldsLen d.committed_len new) size record {
               some = omega (arith, holds.some);

@@ -84,7 +84,8 @@ module _ (x : IndexSet) (u : Upload) (n count : ℕ) (declare : Option ℕ) wher
         (patch_text x first false).bytes,
   )
 
-  pub open_still : (r : Record) → RepresentsValid x n r u → is_length r.declared r.accepted ≡ false → is_complete u ≡ false
+  pub open_still : (r : Record) → RepresentsValid x n r u → is_length r.declared r.accepted ≡ false
+      → is_complete u ≡ false
   open_still r valid_record still =
       sym (ap (λ (known : Option ℕ). is_length known r.accepted) valid_record.represents.declared
       ∙ ap (is_length u.declared) valid_record.represents.accepted) ∙ still

@@ -14,8 +14,10 @@ ghost use Rattle.upload_rules.specs.Store.{Upload, text_of, is_complete};
 ghost use Rattle.upload_rules.specs.World.{Patch};
 ghost use Rattle.upload_rules.specs.declared.errors.UploadRefusal.{UploadRefusal as Refusal};
 ghost use Rattle.spool_drafts.specs.Effect.{Effect};
-ghost use Rattle.spool_drafts.specs.Drafts.{Holds, Carries, EndsAs, EndsAfter, IsBegun, IsAfter, IsLonger, IsTailPlaced};
-ghost use Rattle.spool_drafts.specs.Drafts.{PreservesTail, with_piece, open_text, upload_number_of, offset_of, appended_count, list_of};
+ghost use Rattle.spool_drafts.specs.Drafts.{Holds, Carries, EndsAs, EndsAfter, IsBegun, IsAfter, IsLonger};
+ghost use Rattle.spool_drafts.specs.Drafts.{IsTailPlaced};
+ghost use Rattle.spool_drafts.specs.Drafts.{PreservesTail, with_piece, open_text, upload_number_of, offset_of};
+ghost use Rattle.spool_drafts.specs.Drafts.{appended_count, list_of};
 ghost use Rattle.spool_drafts.specs.Drafts.{declare_of, committed_len_of, forgetting_tail, transcoder_of, tail_of};
 
 use crate::progress::Progress;
@@ -73,7 +75,8 @@ impl SpoolDraft {
         requires few { length list.now ≤ MOST_BLOCKS }
         ensures begun { (x : Indexes) (n : ℕ) (u : Upload) → RepresentsValid x n upload.now u
             → IsBegun x n offset count declare u result }
-        ensures content { (x : Indexes) (n : ℕ) (u : Upload) (current : ℕ → ℕ) (first : ℕ) → RepresentsValid x n upload.now u
+        ensures content { (x : Indexes) (n : ℕ) (u : Upload) (current : ℕ → ℕ) (first : ℕ)
+            → RepresentsValid x n upload.now u
             → text_on current first list.now upload.now.text_len ≡ text_of x u
             → IfOk result (λ d. Carries x current first (first_patch n count declare u) d) }
         ensures none { IfOk result (λ d. list_of d ≡ []) }
@@ -83,7 +86,8 @@ impl SpoolDraft {
             × (get_or (tail_of d) i 0 ≡ get_or list.now (upload.now.text_len / PAGE) 0)) }
         ensures placed { (blocks : ℕ) → AllBelow blocks list.now → IfOk result (λ d. IsTailPlaced blocks d) }
         ensures named { IfOk result
-            (λ d. (upload_number_of d ≡ upload.now.number) × (offset_of d ≡ upload.now.accepted) × (declare_of d ≡ declare)) }
+            (λ d. (upload_number_of d ≡ upload.now.number) × (offset_of d ≡ upload.now.accepted)
+            × (declare_of d ≡ declare)) }
         ensures after { IfOk result (IsAfter upload.now.text_len upload.now.state) }
     {
         upload.admits(offset, count, declare)?;
@@ -174,7 +178,8 @@ impl SpoolDraft {
             → (self.new ≡ self.old) × (disk.new ≡ disk.old) × (blocks.new ≡ blocks.old) × IsOk result }
 
         // The draft's fields, blocks and writes, whatever the result.
-        ensures same { (upload_number_of self.new ≡ upload_number_of self.old) × (offset_of self.new ≡ offset_of self.old)
+        ensures same { (upload_number_of self.new ≡ upload_number_of self.old)
+            × (offset_of self.new ≡ offset_of self.old)
             × (declare_of self.new ≡ declare_of self.old) × (committed_len_of self.new ≡ committed_len_of self.old)
             × PreservesTail self.old self.new }
         ensures after { (len : ℕ) (state : List ℕ) → IsAfter len state self.old → IsAfter len state self.new }
@@ -276,7 +281,8 @@ impl SpoolDraft {
             (D.failures disk.new) }
 
         // The draft's fields, blocks and writes, whatever the result.
-        ensures same { (upload_number_of self.new ≡ upload_number_of self.old) × (offset_of self.new ≡ offset_of self.old)
+        ensures same { (upload_number_of self.new ≡ upload_number_of self.old)
+            × (offset_of self.new ≡ offset_of self.old)
             × (appended_count self.new ≡ appended_count self.old) × (declare_of self.new ≡ declare_of self.old)
             × (committed_len_of self.new ≡ committed_len_of self.old)
             × PreservesTail self.old self.new }
@@ -341,7 +347,8 @@ impl SpoolDraft {
         ensures forgets { self.new ≡ forgetting_tail self.old }
         ensures tail { tail_of self.new ≡ [] }
         ensures nothing { tail_of self.old ≡ [] → self.new ≡ self.old }
-        ensures same { (upload_number_of self.new ≡ upload_number_of self.old) × (offset_of self.new ≡ offset_of self.old)
+        ensures same { (upload_number_of self.new ≡ upload_number_of self.old)
+            × (offset_of self.new ≡ offset_of self.old)
             × (appended_count self.new ≡ appended_count self.old) × (declare_of self.new ≡ declare_of self.old)
             × (committed_len_of self.new ≡ committed_len_of self.old) × (list_of self.new ≡ list_of self.old)
             × (transcoder_of self.new ≡ transcoder_of self.old) }

@@ -111,7 +111,8 @@ impl Progress {
         completes: bool,
     ) -> Result<([u8; 32], Vec<u8>), UploadError>
         ensures finished { (u : Upload) (bytes : List ℕ) → is_complete u ≡ false
-            → IsStateAfter indexes.now u bytes (transcoder_in self.now) → FinishesAs indexes.now u bytes completes result }
+            → IsStateAfter indexes.now u bytes (transcoder_in self.now)
+            → FinishesAs indexes.now u bytes completes result }
         ensures same { (state : List ℕ) → IsState state → IsStateOf state (transcoder_in self.now)
             → IfOk result (λ end. SameEncodings state end.0) }
         ensures growing { IsOk result → IsGrowing (transcoder_in self.now) }

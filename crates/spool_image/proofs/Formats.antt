@@ -28,7 +28,8 @@ prefix_unchanged current unsynced = record { same = λ p lt is_synced. refl; uns
 module _ {current current' : ℕ → ℕ} {unsynced unsynced' : ℕ → Type 0} where
   -- after page 0 anything may be written
   pub prefix_written : {at : ℕ} {bytes : List ℕ} {done : Type 0} → PAGE ≤ at
-      → Writes at bytes done current current' unsynced unsynced' → PreservesFirstPage current current' unsynced unsynced'
+      → Writes at bytes done current current' unsynced unsynced'
+      → PreservesFirstPage current current' unsynced unsynced'
   prefix_written from writes = record {
     same = λ p lt is_synced. writes.outside p (λ within. omega (arith, within.from, from, lt));
     unsyncs = λ p lt l. ⊎_elim (λ was. was) (λ within. absurd (omega (arith, within.from, from, lt)))

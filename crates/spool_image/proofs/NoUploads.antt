@@ -118,7 +118,8 @@ module _ (n : ℕ) (x : IndexSet) (image : ℕ → ℕ) (fresh : IsFresh n x ima
   unfolding fresh_view
   fresh_is = record {
     form = λ ajar. absurd (gate_shut ajar);
-    encodes = encodes_same (overlaid image) image (fresh_view n x) (λ p outside. shut_view image p gate_shut) fresh_encodes;
+    encodes = encodes_same (overlaid image) image (fresh_view n x) (λ p outside. shut_view image p gate_shut)
+        fresh_encodes;
   }
 
   pub fresh_shows : LEAST_BLOCKS ≤ n → n ≤ MOST_BLOCKS → IsIndexSet x → ImageShows n image (no_uploads x)

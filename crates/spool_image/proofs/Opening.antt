@@ -10,7 +10,8 @@ use Rattle.spool_load.specs.Loaded.{OpenedFrom, ReadsView}
 use Rattle.spool_load.specs.Refusals.{RefusedBy}
 use Rattle.spool_pages.specs.View.{View}
 use Rattle.spool_image.specs.Opening.{AnswersBy}
-use Rattle.spool_image.proofs.Refused.{opened_encodes, refused_damaged, refused_no_spool, refused_version, view_is_known}
+use Rattle.spool_image.proofs.Refused.{opened_encodes, refused_damaged, refused_no_spool, refused_version}
+use Rattle.spool_image.proofs.Refused.{view_is_known}
 use Rattle.spool_image.proofs.Refused.{view_is_spool, view_is_whole}
 
 module _ (size : ℕ) (before after : ℕ → ℕ) where

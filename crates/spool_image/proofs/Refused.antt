@@ -20,7 +20,8 @@ use Rattle.spool_load.proofs.Opens.{view_encodes_blocks}
 use Rattle.spool_load.proofs.Refused.{known_version_at, encodes_one, version_one, version_at}
 
 -- the error is this fault, `NoMemory` or `DiskFault`, if each other error would be this fault
-recorded_as : (e fault : OpenFault) → (e ≡ NotASpool → e ≡ fault) → (e ≡ Version → e ≡ fault) → (e ≡ Damaged → e ≡ fault)
+recorded_as : (e fault : OpenFault) → (e ≡ NotASpool → e ≡ fault) → (e ≡ Version → e ≡ fault)
+    → (e ≡ Damaged → e ≡ fault)
     → (e ≡ fault) ⊎ (e ≡ Stop NoMemory) ⊎ (e ≡ Stop DiskFault)
 recorded_as NotASpool fault no_spool version damaged = inl (no_spool refl)
 recorded_as Version fault no_spool version damaged = inl (version refl)

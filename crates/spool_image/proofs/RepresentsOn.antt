@@ -87,7 +87,8 @@ none_reserved n b = elim (cases_lt b n) [
 ]
 
 none_represents : {sure : Type 0} (x : IndexSet) (current : ℕ → ℕ) (first : ℕ) (h : Holding) (m : Store) (v : View)
-    → HasViewAlone h v → Shows v m → DraftsRepresent sure x current first h.slots h.blocks (at_rest m (Some v.blocks)) []
+    → HasViewAlone h v → Shows v m → DraftsRepresent sure x current first h.slots h.blocks (at_rest m (Some v.blocks))
+    []
 none_represents x current first h m v has_view shows = record {
   each = λ d. tt;
   apart = tt;
@@ -144,7 +145,8 @@ module _ {sure : Type 0} (current current' : ℕ → ℕ) (first : ℕ) (slots s
       → DraftsRepresent sure w.store.indexes current' first slots' h (created w new) drafts
   drafts_still h drafts represent = record {
     each = λ d. held_on (DraftRepresents sure w.store.indexes current first slots h.rows w.store)
-        (DraftRepresents sure w.store.indexes current' first slots' h.rows (created_store w.store new)) (find d w.patches)
+        (DraftRepresents sure w.store.indexes current' first slots' h.rows (created_store w.store new))
+        (find d w.patches)
         (draft_at drafts d)
         (λ p o there. draft_still h.rows p o) (represent.each d);
     apart = represent.apart;
@@ -165,7 +167,8 @@ represents_created {sure = sure} disk d d' h h' drafts w new s layout blocks use
   stored = stored;
   represents =
       let S : ℕ → Held → Type 0 =
-      λ n held. DraftsRepresent (sure ≡ true) w.store.indexes (disk.current d') (text_page n) h'.slots held (created w new)
+      λ n held. DraftsRepresent (sure ≡ true) w.store.indexes (disk.current d') (text_page n) h'.slots held
+      (created w new)
       drafts in
       subst (λ (n : ℕ). S n h'.blocks) (sym layout) (subst (S h.layout) (sym blocks)
       (drafts_still (disk.current d) (disk.current d')

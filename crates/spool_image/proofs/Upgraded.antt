@@ -171,7 +171,8 @@ module _ (size : ℕ) (before after : ℕ → ℕ) where
   late_by {T = T} (Err e) late view = refused_late {T = T} (Err e) late
 
   -- what was found of version 1 and read is upgraded
-  pub upgrades_by : {T : Type 0} (found : Found) (catalog : Holding) → found.version ≡ One → catalog.version ≡ found.version
+  pub upgrades_by : {T : Type 0} (found : Found) (catalog : Holding) → found.version ≡ One
+      → catalog.version ≡ found.version
       → LoadsBy size before after (Ok catalog) → (done : T) → UpgradesBy size (Ok done) before after
   upgrades_by found catalog old same is done =
       view_more (λ v has_view. sym has_view.0.version ∙ same ∙ old) is.answer

@@ -85,7 +85,8 @@ impl<D: Disk> Spool<D> {
         ensures refused { D.honest disk → IfErr result (λ e. RefusedFor (D.size disk) (D.current disk) e.1) }
 
         // On any disk the answer follows from the bytes that the reads gave, in the same way.
-        ensures given { ReadsBy (D.reads disk) (D.reads (disk_after result)) (OpensBy SpoolHasView (D.size disk) result) }
+        ensures given { ReadsBy (D.reads disk) (D.reads (disk_after result))
+            (OpensBy SpoolHasView (D.size disk) result) }
 
         // Each reason leads to its error, unless memory or the disk refuses. No two reasons hold, and none of a valid
         // spool.

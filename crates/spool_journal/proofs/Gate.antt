@@ -4,7 +4,8 @@ use Rattle.std.proofs.Common.{length, refl, sym, ◌∙◌, ap, arith, ⊎_elim}
 use Rattle.std.proofs.lemmas.Bool.{cases_eq}
 use Rattle.spool_journal.specs.declared.TheConstants.{PAGE}
 use Rattle.spool_disk.specs.Disk.{span, In, IsImage, Writes, Syncs}
-use Rattle.spool_journal.specs.Image.{byte_of, count, journal_number, content, over, replayed, overlaid, laid, InJournal}
+use Rattle.spool_journal.specs.Image.{byte_of, count, journal_number, content, over, replayed, overlaid, laid}
+use Rattle.spool_journal.specs.Image.{InJournal}
 use Rattle.spool_journal.specs.Image.{Outside, InForm, page_number, page_byte}
 use Rattle.spool_journal.specs.Phases.{Idle, ReadsAs, IsBefore, Ready, Opened, Hit, Placing, Upto, PagesPlaced, Settled}
 use Rattle.spool_journal.proofs.Over.{over_hit, over_pass, over_none, over_same, yes, no}
@@ -32,7 +33,8 @@ module _ {j : ℕ} {a b : ℕ → ℕ} where
   same_content same k x below lt = same.same (PAGE * (3 + k) + x) (grind arith)
 
   -- b's journal is in form; so is a's, and replayed it gives what b's gives where the two agree elsewhere
-  pub form_on : j ≤ 385 → 1 ≤ j → SameJournal j a b → InForm j (count b) (journal_number b) → InForm j (count a) (journal_number a)
+  pub form_on : j ≤ 385 → 1 ≤ j → SameJournal j a b → InForm j (count b) (journal_number b)
+      → InForm j (count a) (journal_number a)
   form_on few some same form =
       form_same j (count b) (count a) (journal_number b) (journal_number a) (sym (same_count some same))
       (λ k lt. sym (same_number few some same k (omega (arith, lt, form.few)))) form
@@ -71,7 +73,8 @@ laid_over : {j : ℕ} {pages : List (ℕ × List ℕ)} {was current image : ℕ 
 laid_over {pages = pages} {was = was} {current = current} few ready same p outside =
     replay_on few (journal_apart same) ready.form p (λ _. same p (gateless _ p outside))
     ∙ ap (λ (n : ℕ). over (journal_number current) (content current) current n p) ready.matches.size
-    ∙ over_same (journal_number current) (page_number pages) (content current) (page_byte pages) current was (length pages) p
+    ∙ over_same (journal_number current) (page_number pages) (content current) (page_byte pages) current was
+    (length pages) p
     ready.matches.numbers ready.matches.contents (λ _. ready.same p (outside_journal _ p outside))
 
 module _ {j : ℕ} {opened current image : ℕ → ℕ} {unsynced : ℕ → Type 0} where

@@ -5,7 +5,8 @@ use Rattle.std.proofs.lemmas.Bool.{cases_eq}
 use Rattle.spool_journal.specs.declared.TheConstants.{PAGE}
 use Rattle.common.specs.declared.limits.TheConstants.{MOST_BLOCKS}
 use Rattle.spool_disk.specs.Disk.{span, IsImage, Preserves}
-use Rattle.spool_journal.specs.Image.{word, byte_of, journal_pages, all_pages, count, journal_number, content, over, overlaid}
+use Rattle.spool_journal.specs.Image.{word, byte_of, journal_pages, all_pages, count, journal_number, content, over}
+use Rattle.spool_journal.specs.Image.{overlaid}
 use Rattle.spool_journal.specs.Image.{text_page, laid, replayed, InForm, InArea, Ascends, page_number}
 use Rattle.spool_journal.specs.Phases.{IsBefore, ReadsAs, Placing, Upto, Settled, Still, HeadOf}
 use Rattle.spool_disk.specs.Views.{Lasts}
@@ -95,13 +96,15 @@ head_number bytes head here k below =
     (omega (arith, lt, below)) ∙ ap bytes e)
 
 pub head_form : (j : ℕ) (bytes : ℕ → ℕ) (head : List ℕ) → j ≤ 385 → HeadOf bytes head
-    → InForm j (word (byte_of head) 0) (λ k. word (byte_of head) (4 + 4 * k)) → InForm j (count bytes) (journal_number bytes)
+    → InForm j (word (byte_of head) 0) (λ k. word (byte_of head) (4 + 4 * k))
+    → InForm j (count bytes) (journal_number bytes)
 head_form j bytes head few here form =
     form_same j (word (byte_of head) 0) (count bytes) (λ k. word (byte_of head) (4 + 4 * k)) (journal_number bytes)
     (head_count bytes head here) (λ k lt. head_number bytes head here k (omega (arith, few, lt, form.few))) form
 
 pub form_head : (j : ℕ) (bytes : ℕ → ℕ) (head : List ℕ) → j ≤ 385 → HeadOf bytes head
-    → InForm j (count bytes) (journal_number bytes) → InForm j (word (byte_of head) 0) (λ k. word (byte_of head) (4 + 4 * k))
+    → InForm j (count bytes) (journal_number bytes) → InForm j (word (byte_of head) 0)
+    (λ k. word (byte_of head) (4 + 4 * k))
 form_head j bytes head few here form =
     form_same j (count bytes) (word (byte_of head) 0) (journal_number bytes) (λ k. word (byte_of head) (4 + 4 * k))
     (sym (head_count bytes head here))

@@ -3,7 +3,8 @@ ghost use Rattle.std.specs.Prelude.{◌≡◌, ◌⊎◌, ◌≤◌, ◌<◌, �
 ghost use Rattle.spool_disk.specs.Disk.{Counts};
 ghost use Rattle.spool_disk.specs.Views.{Lasts};
 ghost use Rattle.spool_journal.specs.Image.{count, journal_number, content, replayed, laid, byte_of, page_number};
-ghost use Rattle.spool_journal.specs.Phases.{IsBefore, ReadsAs, Ready, Opened, Matches, Placing, Upto, PagesPlaced, Settled};
+ghost use Rattle.spool_journal.specs.Phases.{IsBefore, ReadsAs, Ready, Opened, Matches, Placing, Upto, PagesPlaced};
+ghost use Rattle.spool_journal.specs.Phases.{Settled};
 
 use crate::{GATE, PAGE};
 use spool_disk::{Disk, DiskFault};
@@ -34,13 +35,15 @@ pub(crate) fn place<D: Disk>(disk: &mut D, page: u32, bytes: &[u8; PAGE]) -> Res
     ensures counts { Counts (IsErr result) (D.failures disk.old) (D.failures disk.new) }
     ensures reads { D.reads disk.new ≡ D.reads disk.old }
     ensures placing { D.honest disk.old → (j i : ℕ) (opened : ℕ → ℕ) → Placing j opened (D.current disk.old)
-        (D.unsynced disk.old) → i < count opened → journal_number opened i ≡ page → Placing j opened (D.current disk.new)
+        (D.unsynced disk.old) → i < count opened → journal_number opened i ≡ page
+        → Placing j opened (D.current disk.new)
         (D.unsynced disk.new) }
     ensures upto { D.honest disk.old → (i : ℕ) (opened : ℕ → ℕ) → Upto opened (D.current disk.old) i
         → journal_number opened i ≡ page → ((x : ℕ) → x < PAGE → content opened i x ≡ byte_of bytes.now x)
         → OnOk result (Upto opened (D.current disk.new) (i + 1)) }
     ensures lasts { D.honest disk.old → (j i : ℕ) → j ≤ 385 → (opened : ℕ → ℕ)
-        → Placing j opened (D.current disk.old) (D.unsynced disk.old) → i < count opened → journal_number opened i ≡ page
+        → Placing j opened (D.current disk.old) (D.unsynced disk.old) → i < count opened
+        → journal_number opened i ≡ page
         → Lasts D.Disk disk.old disk.new (λ image. ReadsAs j image (replayed opened)) }
 {
     disk.write_at(PAGE as u64 * page as u64, bytes)

@@ -68,7 +68,8 @@ fn write_head<D: Disk>(disk: &mut D, head: &[u8; PAGE]) -> Result<(), DiskFault>
     ensures is_synced { D.honest disk.old → OnOk result ((p : ℕ) → D.unsynced disk.new p → ⊥) }
     ensures head { D.honest disk.old → OnOk result
         ((i : ℕ) → i < PAGE → D.current disk.new (8192 + i) ≡ byte_of head.now i) }
-    ensures unchanged { D.honest disk.old → OnOk result ((p : ℕ) → 12288 ≤ p → D.current disk.new p ≡ D.current disk.old p) }
+    ensures unchanged { D.honest disk.old → OnOk result ((p : ℕ) → 12288 ≤ p
+        → D.current disk.new p ≡ D.current disk.old p) }
     ensures lasts { D.honest disk.old → (j : ℕ) → Idle j (D.current disk.old) (D.unsynced disk.old)
         → Lasts D.Disk disk.old disk.new (IsBefore j (D.current disk.old) (D.unsynced disk.old)) }
 {

@@ -47,7 +47,8 @@ module _ (f : ℕ → ℕ) (at : ℕ) where
       pairs o p (omega (arith, slot))
       (one_number f (at + 4) o.1 p.1 fits.1 fits'.1 (ordinal_at f at o.0 o.1 s) (ordinal_at f at p.0 p.1 s'))
 
-module _ (f : ℕ → ℕ) (v v' : View) (valid : IsValid v) (valid' : IsValid v') (encodes : Encodes f v) (encodes' : Encodes f v') where
+module _ (f : ℕ → ℕ) (v v' : View) (valid : IsValid v) (valid' : IsValid v') (encodes : Encodes f v)
+    (encodes' : Encodes f v') where
   number_at : (n : ℕ) → AreAt f 0 PAGE (first_page n) → AreAt f 8 4 (to_be_bytes w32 n)
   unfolding first_page
   number_at n represents =
@@ -79,7 +80,8 @@ shows_aside {current = current} v own n image m valid size rests unowned is k sh
       view = v';
       blocks = shown.blocks;
       is = rests_aside own image (sym blocks ∙ size) (rests_other v v' valid shown.shows.valid rests.is.encodes rests
-          shown.is) (λ i lt. sym (same_row (overlaid current) v v' valid shown.shows.valid rests.is.encodes shown.is.encodes
+          shown.is) (λ i lt. sym (same_row (overlaid current) v v' valid shown.shows.valid rests.is.encodes
+          shown.is.encodes
           (get_or own i 0)) ∙ unowned i lt) is;
       shows = shown.shows;
     }

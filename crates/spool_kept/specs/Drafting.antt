@@ -9,7 +9,8 @@ use Rattle.spool_journal.specs.Image.{text_page}
 use Rattle.spool_texts.specs.Drafts.{IsReserved}
 use Rattle.spool_texts.specs.Written.{NoneOf}
 use Rattle.spool_room.specs.Holdings.{IsInSome}
-use Rattle.spool_drafts.specs.Drafts.{Holds, Carries, IsBegun, IsAfter, IsTailPlaced, list_of, upload_number_of, offset_of}
+use Rattle.spool_drafts.specs.Drafts.{Holds, Carries, IsBegun, IsAfter, IsTailPlaced, list_of, upload_number_of}
+use Rattle.spool_drafts.specs.Drafts.{offset_of}
 use Rattle.spool_drafts.specs.Drafts.{tail_of}
 use Rattle.spool_drafts.specs.declared.draft.SpoolDraft.{SpoolDraft}
 use Rattle.upload_rules.specs.Apart.{IsApart}
@@ -76,7 +77,8 @@ IsStillOpen m p =
 
 -- The draft is the patch's, and its bytes are where the disk is sure to hold what was written. Once another draft made
 -- the upload longer or complete, only its need matters: it can't put anything after the upload's text.
-pub record DraftRepresents (sure : Type 0) (x : IndexSet) (current : ℕ → ℕ) (first : ℕ) (slots : List (Option SlotRecord))
+pub record DraftRepresents (sure : Type 0) (x : IndexSet) (current : ℕ → ℕ) (first : ℕ)
+    (slots : List (Option SlotRecord))
     (rows : List Row) (m : Store) (p : Patch) (o : SpoolDraft) : Type 0 where
   pub holds : Holds x p o
   pub below : p.number < m.next
@@ -84,7 +86,8 @@ pub record DraftRepresents (sure : Type 0) (x : IndexSet) (current : ℕ → ℕ
   pub tail : IsStillOpen m p → IsOwnedBy slots rows p.number (tail_of o)
 
 -- each patch has its draft, and the drafts reserve all blocks that are reserved
-pub record DraftsRepresent (sure : Type 0) (x : IndexSet) (current : ℕ → ℕ) (first : ℕ) (slots : List (Option SlotRecord))
+pub record DraftsRepresent (sure : Type 0) (x : IndexSet) (current : ℕ → ℕ) (first : ℕ)
+    (slots : List (Option SlotRecord))
     (h : Held) (w : World) (drafts : List (Option SpoolDraft)) : Type 0 where
   pub each : (d : ℕ) → DraftOf (DraftRepresents sure x current first slots h.rows w.store) (find d w.patches)
       (draft_at drafts d)
@@ -98,7 +101,8 @@ pub record DraftsRepresent (sure : Type 0) (x : IndexSet) (current : ℕ → ℕ
 pub record StandsFor {D : Type 0} (sure : Bool) (disk : Ghosts D) (d : D) (h : Holding)
     (drafts : List (Option SpoolDraft)) (w : World) : Type 0 where
   pub stored : Stored sure disk d h w.store
-  pub represents : DraftsRepresent (sure ≡ true) w.store.indexes (disk.current d) (text_page h.layout) h.slots h.blocks w drafts
+  pub represents : DraftsRepresent (sure ≡ true) w.store.indexes (disk.current d) (text_page h.layout) h.slots
+      h.blocks w drafts
 
 -- WHAT A DRAFT BEGINS AFTER
 

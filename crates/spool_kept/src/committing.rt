@@ -113,14 +113,16 @@ fn ended<D: Disk>(
         disk.new catalog.old.blocks catalog.new.blocks }
     ensures only { D.honest disk.old → PreservesDisk D.Disk disk.old disk.new }
     ensures may { IfOk result (λ e. MayExtend catalog.new e.0 (list_of draft.new)) }
-    ensures more { IfOk result (λ e. (r : SlotRecord) → get_or catalog.new.slots e.0.slot None ≡ Some r → Advances r e.0) }
+    ensures more { IfOk result (λ e. (r : SlotRecord) → get_or catalog.new.slots e.0.slot None ≡ Some r
+        → Advances r e.0) }
     ensures refusal { (e : Refusal) → IsErrOf result (UploadError.Refused e)
         → (e ≡ UploadRefusal.Unencodable) ⊎ (e ≡ UploadRefusal.Full) }
     ensures answer { (sure : Bool) (drafts : List (Option Draft)) (number : ℕ) (w : World) (p : Patch)
         → IsCommit sure D.Disk disk.old catalog.old drafts number draft.old w p
         → Answers (commit_refusal w number p) result
         (λ e. (e.0.accepted ≡ reached p)
-        × IsPending sure D.Disk disk.new catalog.new w.store p.number p.declare p.body e.0 (list_of draft.new) e.1.items)
+        × IsPending sure D.Disk disk.new catalog.new w.store p.number p.declare p.body e.0 (list_of draft.new)
+        e.1.items)
         (Unit {0}) }
     ensures stored { (sure : Bool) (drafts : List (Option Draft)) (number : ℕ) (w : World) (p : Patch)
         → IsCommit sure D.Disk disk.old catalog.old drafts number draft.old w p

@@ -51,11 +51,13 @@ pub fn create<D: Disk>(
     ensures crash { (m : Store) → Stored true D.Disk disk.old catalog.old m
         → Lasts D.Disk disk.old disk.new (ShowsEither catalog.old.layout m
         (outcome (create_refusal (at_rest m None) new) m (created_store m new))) }
-    ensures unmade { IsErrOf result (UploadError.Stop Stop.NoMemory) → (disk.new ≡ disk.old) × (catalog.new ≡ catalog.old) }
+    ensures unmade { IsErrOf result (UploadError.Stop Stop.NoMemory) → (disk.new ≡ disk.old)
+        × (catalog.new ≡ catalog.old) }
     ensures refused { (e : UploadRefusal) → IsErrOf result (UploadError.Refused e)
         → (disk.new ≡ disk.old) × (catalog.new ≡ catalog.old) }
     ensures texts { (m : Store) → Stored true D.Disk disk.old catalog.old m
-        → OnOk result ((p : ℕ) → PAGE * text_page catalog.old.layout ≤ p → D.current disk.new p ≡ D.current disk.old p) }
+        → OnOk result ((p : ℕ) → PAGE * text_page catalog.old.layout ≤ p
+        → D.current disk.new p ≡ D.current disk.old p) }
 {
     if is_too_large(new.declared) {
         return Err(UploadError::Refused(UploadRefusal::TooLarge));

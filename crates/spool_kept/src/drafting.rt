@@ -66,7 +66,8 @@ pub fn begin<D: Disk>(
     ensures no_disk_fault { IsErrOf result (UploadError.Stop Stop.DiskFault) → ⊥ }
     ensures answer { (sure : Bool) (disk : D) (w : World) → StandsFor sure D.Disk disk catalog.now drafts.old.items w
         → Answers (begin_refusal w number offset count declare) result
-        (λ d. (d ≡ free_number w) × StandsFor sure D.Disk disk catalog.now drafts.new.items (begun w number count declare))
+        (λ d. (d ≡ free_number w) × StandsFor sure D.Disk disk catalog.now drafts.new.items
+        (begun w number count declare))
         (StandsFor sure D.Disk disk catalog.now drafts.new.items w) }
 {
     let draft = match opened(alloc, catalog, number, offset, count, declare) {
@@ -141,7 +142,8 @@ pub fn drop_open<D: Disk>(
     requires fits { DraftsFit catalog.old drafts.old.items }
     ensures fits { DraftsFit catalog.new drafts.new.items }
     ensures same { OnlyReserves catalog.old catalog.new }
-    ensures represents { (sure : Bool) (disk : D) (w : World) → StandsFor sure D.Disk disk catalog.old drafts.old.items w
+    ensures represents { (sure : Bool) (disk : D) (w : World)
+        → StandsFor sure D.Disk disk catalog.old drafts.old.items w
         → StandsFor sure D.Disk disk catalog.new drafts.new.items (dropped w number) }
 {
     if let Some(draft) = taken(drafts, number) {

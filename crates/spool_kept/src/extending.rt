@@ -49,7 +49,8 @@ pub(crate) fn extend<D: Disk>(
     ensures blocks { (result ≡ Err Stop.NoMemory → ⊥)
         → HandsOn catalog.old.blocks.reserved catalog.new.blocks.reserved more.now }
     ensures longer { (result ≡ Err Stop.NoMemory → ⊥) → (r : SlotRecord)
-        → get_or catalog.old.slots longer.now.slot None ≡ Some r → HasLonger catalog.old r longer.now more.now catalog.new }
+        → get_or catalog.old.slots longer.now.slot None ≡ Some r
+        → HasLonger catalog.old r longer.now more.now catalog.new }
 
     // The disk and what is kept stand for the store with the longer upload.
     ensures answer { (sure : Bool) (m : Store) (n : ℕ) (declare : Option ℕ) (bytes : List ℕ)

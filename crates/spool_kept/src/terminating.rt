@@ -87,7 +87,8 @@ pub fn terminate<D: Disk>(
 
     // No block is written by it.
     ensures texts { (w : World) → StandsFor true D.Disk disk.old catalog.old drafts.old.items w
-        → OnOk result ((p : ℕ) → PAGE * text_page catalog.old.layout ≤ p → D.current disk.new p ≡ D.current disk.old p) }
+        → OnOk result ((p : ℕ) → PAGE * text_page catalog.old.layout ≤ p
+        → D.current disk.new p ≡ D.current disk.old p) }
 {
     let Some(slot) = catalog.slot_of(number) else {
         return Err(UploadError::Refused(UploadRefusal::NoSuch));

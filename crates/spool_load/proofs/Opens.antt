@@ -26,7 +26,8 @@ pub same_function : (f g : ℕ → ℕ) → ((p : ℕ) → f p ≡ g p) → f �
 same_function f g same = λ i p. same p i
 
 -- page 0 is never one of the journal's places
-pub prefix_plain : (j : ℕ) (image : ℕ → ℕ) → (image PAGE ≡ 165 → InForm j (count image) (journal_number image)) → (p : ℕ)
+pub prefix_plain : (j : ℕ) (image : ℕ → ℕ) → (image PAGE ≡ 165 → InForm j (count image) (journal_number image))
+    → (p : ℕ)
     → p < PAGE → image p ≡ overlaid image p
 prefix_plain j image form p lt = elim (cases_eq (image PAGE) 165) [
   | inl ajar ↦
@@ -61,7 +62,8 @@ pub still_as_image : {current : ℕ → ℕ} {unsynced : ℕ → Type 0} (image 
     → IsImage current unsynced image
 still_as_image image same = record { same = λ p is_synced. same p }
 
-pub preserves_on : {a b c : ℕ → ℕ} {la lb lc : ℕ → Type 0} → Preserves a b la lb → Preserves b c lb lc → Preserves a c la lc
+pub preserves_on : {a b c : ℕ → ℕ} {la lb lc : ℕ → Type 0} → Preserves a b la lb → Preserves b c lb lc
+    → Preserves a c la lc
 preserves_on first then = record {
   same = λ p. then.same p ∙ first.same p;
   unsyncs = λ p l. first.unsyncs p (then.unsyncs p l);
@@ -71,7 +73,8 @@ preserves_on first then = record {
 pub gate_shut : {current current' : ℕ → ℕ} {unsynced unsynced' : ℕ → Type 0} {size n : ℕ}
     → Preserves current current' unsynced unsynced'
     → EncodesBlocks size current n → (NeedsReplay size current → ⊥) → current' PAGE ≡ 165 → ⊥
-gate_shut {n = n} preserves encodes none ajar = none (record { blocks = n; encodes = encodes; gate = sym (preserves.same PAGE) ∙ ajar })
+gate_shut {n = n} preserves encodes none ajar = none (record
+    { blocks = n; encodes = encodes; gate = sym (preserves.same PAGE) ∙ ajar })
 
 -- after a recovery
 pub settled_still : {j : ℕ} {bytes current : ℕ → ℕ} {unsynced : ℕ → Type 0} → Settled j bytes current unsynced
@@ -80,7 +83,8 @@ settled_still settled = record { reads = λ p. refl; is_synced = settled.is_sync
 
 pub settled_encodes : {bytes current : ℕ → ℕ} {unsynced : ℕ → Type 0} (v : View)
     → Settled (journal_pages v.blocks) bytes current unsynced → Encodes bytes v → Encodes current v
-settled_encodes {bytes = bytes} {current = current} v settled encodes = encodes_same current bytes v settled.same encodes
+settled_encodes {bytes = bytes} {current = current} v settled encodes = encodes_same current bytes v settled.same
+    encodes
 
 pub settled_reads : {j : ℕ} {bytes current : ℕ → ℕ} {unsynced : ℕ → Type 0} (image : ℕ → ℕ)
     → Settled j bytes current unsynced
@@ -109,7 +113,10 @@ if_ok (Err e) x = tt
 pub preserves_image : {current current' image : ℕ → ℕ} {unsynced unsynced' : ℕ → Type 0}
     → Preserves current current' unsynced unsynced'
     → IsImage current' unsynced' image → IsImage current unsynced image
-preserves_image preserves is = record { same = λ p is_synced. is.same p (λ l. is_synced (preserves.unsyncs p l)) ∙ preserves.same p }
+preserves_image preserves is = record {
+  same = λ p is_synced. is.same p (λ l. is_synced (preserves.unsyncs p l))
+      ∙ preserves.same p;
+}
 
 -- A READ AFTER A RECOVERY
 

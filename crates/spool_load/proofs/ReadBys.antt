@@ -88,7 +88,8 @@ module _ (size : ℕ) (before after : ℕ → ℕ) where
       answer = answered r same is.answer;
       finds =
           λ v valid encodes_by. let blocks = encodes_one size before v.blocks n encodes_by.begins encodes in
-          is.restores v valid blocks (subst (λ (k : ℕ). HasJournal k before) blocks encodes_by.journal) encodes_by.encodes;
+          is.restores v valid blocks (subst (λ (k : ℕ). HasJournal k before) blocks encodes_by.journal)
+          encodes_by.encodes;
     }
 
   pub unfound_by : (e : OpenFault) → FindsBy size before after (Err e) → LoadsBy size before after (Err e)

@@ -52,7 +52,8 @@ number_at_place size current n encodes =
     at_beyond magic (to_be_bytes w32 n) 8 4 refl (omega arith) whole
 
 -- a disk encodes at most one number of blocks
-pub encodes_one : (size : ℕ) (current : ℕ → ℕ) (n m : ℕ) → EncodesBlocks size current n → EncodesBlocks size current m → n ≡ m
+pub encodes_one : (size : ℕ) (current : ℕ → ℕ) (n m : ℕ) → EncodesBlocks size current n → EncodesBlocks size current m
+    → n ≡ m
 encodes_one size current n m a b =
     number_one current 8 n m (omega (arith, a.most)) (omega (arith, b.most)) (number_at_place size current n a)
     (number_at_place size current m b)
@@ -87,7 +88,8 @@ found_read bytes n place buf found read long here same fields rest =
     let decoded = state_page found.version found.next in
     let S : ℕ → ℕ → Type 0 = λ many k. AreAt bytes (state_place k) many decoded in
     record {
-      fields = subst (S 12) (sym same) (read_back bytes place (state_place n) 0 12 buf decoded read (omega (arith, long))
+      fields = subst (S 12) (sym same) (read_back bytes place (state_place n) 0 12 buf decoded read
+          (omega (arith, long))
           here fields);
       rest = (
         λ blank. subst (S PAGE) (sym same) (read_back bytes place (state_place n) 0 PAGE buf decoded read
@@ -143,7 +145,8 @@ module _ (n : ℕ) (old current : ℕ → ℕ) (unsynced : ℕ
         encodes = subst (EncodesBlocks size old) (sym same) encodes;
         journal = subst (λ (k : ℕ). HasJournal k old) (sym same) journal;
         state = record {
-          fields = subst (S (overlaid old) 12) (sym same) (state_on 12 decoded (subst (S current 12) same are_at.fields));
+          fields = subst (S (overlaid old) 12) (sym same) (state_on 12 decoded
+              (subst (S current 12) same are_at.fields));
           rest = (
             λ blank. subst (S (overlaid old) PAGE) (sym same)
                 (state_on PAGE decoded (subst (S current PAGE) same (are_at.rest.0 blank))),
@@ -153,7 +156,8 @@ module _ (n : ℕ) (old current : ℕ → ℕ) (unsynced : ℕ
         };
       }
 
-  pub restored : (size : ℕ) (decoded : Option Found) → IfSome decoded (λ found. found.layout ≡ n) → EncodesBlocks size old n
+  pub restored : (size : ℕ) (decoded : Option Found) → IfSome decoded (λ found. found.layout ≡ n)
+      → EncodesBlocks size old n
       → MatchOption decoded (EncodesKnownVersion current (state_place n) → ⊥) (FoundIsAt current)
       → IfOk (ok_or decoded Version) (FoundOn size old)
   restored size (Some found) same encodes are_at = found_on size found same encodes are_at
@@ -250,5 +254,9 @@ module _ (size : ℕ) (before after : ℕ → ℕ) where
         is.state.fields;
     no_view =
         λ v valid journal encodes e. is_stop v valid
-        (record { begins = subst (EncodesBlocks size before) (sym e) is.encodes; journal = journal; encodes = encodes });
+        (record {
+          begins = subst (EncodesBlocks size before) (sym e) is.encodes;
+          journal = journal;
+          encodes = encodes;
+        });
   }

@@ -49,25 +49,28 @@ valid_rows v valid b slot ordinal owns =
 -- A SOUND VIEW IS READ
 
 -- of bytes that say it: what holds of each next number, index set, slots and rows that may be there holds of its own
-module _ (bytes : ℕ → ℕ) (n : ℕ) (v : View) (valid : IsValid v) (blocks : v.blocks ≡ n) (encodes : Encodes bytes v) where
-  pub area_encoded : {Q : IndexSet → Type 0} → ((x : IndexSet) → IsIndexSet x
-      → ((i : ℕ) → i < 90112 → bytes (index_place n + i) ≡ area_byte x i) → Q x) → Q v.indexes
-  area_encoded decoded = decoded v.indexes valid.indexes (area_passes bytes v n blocks encodes)
+module _ (bytes : ℕ → ℕ) (n : ℕ) (v : View) (valid : IsValid v) (blocks : v.blocks ≡ n) (encodes : Encodes bytes v)
+  where
+    pub area_encoded : {Q : IndexSet → Type 0} → ((x : IndexSet) → IsIndexSet x
+        → ((i : ℕ) → i < 90112 → bytes (index_place n + i) ≡ area_byte x i) → Q x) → Q v.indexes
+    area_encoded decoded = decoded v.indexes valid.indexes (area_passes bytes v n blocks encodes)
 
-  pub slots_updated : (version : Version) → version ≡ v.version → {Q : List (Option SlotRecord) → Type 0}
-      → ((decoded : List (Option SlotRecord)) → length decoded ≡ SLOTS → ((s : ℕ) → FitsCatalog (get_or decoded s None))
-      → ((s : ℕ) → s < SLOTS → AreAt bytes (slot_place n s) 2048 (slot_bytes version (get_or decoded s None))) → Q decoded)
-      → Q v.slots
-  slots_updated version is decoded =
-      let S : Version → Type 0 =
-      λ w. (s : ℕ) → s < SLOTS → AreAt bytes (slot_place n s) 2048 (slot_bytes w (get_or v.slots s None)) in
-      decoded v.slots valid.slot_count (slots_fit v valid) (subst S (sym is) (slot_passes bytes v n blocks encodes))
+    pub slots_updated : (version : Version) → version ≡ v.version → {Q : List (Option SlotRecord) → Type 0}
+        → ((decoded : List (Option SlotRecord)) → length decoded ≡ SLOTS → ((s : ℕ) → FitsCatalog (get_or decoded s None))
+        → ((s : ℕ) → s < SLOTS → AreAt bytes (slot_place n s) 2048 (slot_bytes version (get_or decoded s None)))
+        → Q decoded)
+        → Q v.slots
+    slots_updated version is decoded =
+        let S : Version → Type 0 =
+        λ w. (s : ℕ) → s < SLOTS → AreAt bytes (slot_place n s) 2048 (slot_bytes w (get_or v.slots s None)) in
+        decoded v.slots valid.slot_count (slots_fit v valid) (subst S (sym is) (slot_passes bytes v n blocks encodes))
 
-  pub rows_encoded : {Q : List (Option (ℕ × ℕ)) → Type 0} → ((all : List (Option (ℕ × ℕ))) → length all ≡ n
-      → ((b : ℕ) → FitsRow (get_or all b None))
-      → ((b : ℕ) → b < ROWS * (journal_pages n - 257) → AreAt bytes (row_place n b) 8 (row_bytes (get_or all b None)))
-      → Q all) → Q v.rows
-  rows_encoded decoded = decoded v.rows (valid.row_count ∙ blocks) (rows_fit v valid) (row_passes bytes v n blocks encodes)
+    pub rows_encoded : {Q : List (Option (ℕ × ℕ)) → Type 0} → ((all : List (Option (ℕ × ℕ))) → length all ≡ n
+        → ((b : ℕ) → FitsRow (get_or all b None))
+        → ((b : ℕ) → b < ROWS * (journal_pages n - 257) → AreAt bytes (row_place n b) 8 (row_bytes (get_or all b None)))
+        → Q all) → Q v.rows
+    rows_encoded decoded = decoded v.rows (valid.row_count ∙ blocks) (rows_fit v valid)
+        (row_passes bytes v n blocks encodes)
 
 -- WHAT PASSES IS A SOUND VIEW
 

@@ -77,8 +77,10 @@ pub record FindsBy (size : ℕ) (before after : ℕ → ℕ) (result : Result Fo
   pub finds : (v : View) → IsValid v → EncodesBy size before after v → LoadsAs result (IsFoundOf v)
 
 pub record LoadsBy (size : ℕ) (before after : ℕ → ℕ) (result : Result Holding OpenFault) : Type 0 where
-  pub answer : MatchResult result (λ catalog. ReadsView size before after (HasViewAlone catalog)) (RefusedBy size before after)
-  pub loads : (v : View) → IsValid v → EncodesBy size before after v → LoadsAs result (λ catalog. HasViewAlone catalog v)
+  pub answer : MatchResult result (λ catalog. ReadsView size before after (HasViewAlone catalog))
+      (RefusedBy size before after)
+  pub loads : (v : View) → IsValid v → EncodesBy size before after v
+      → LoadsAs result (λ catalog. HasViewAlone catalog v)
 
 -- What is in memory is a valid view by the plain reading, and the disk has room for its blocks.
 pub record OpenedFrom (size : ℕ) (current : ℕ → ℕ) (catalog : Holding) : Type 0 where

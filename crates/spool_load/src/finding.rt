@@ -118,7 +118,8 @@ fn load_state<D: Disk>(disk: &mut D, layout: Layout) -> Result<Option<Found>, Di
         → AreAt bytes (state_place layout) PAGE (state_page version next)
         → IfOk result (λ decoded. IsSomeAnd decoded (IsFoundState version next)) }
     ensures found { (bytes : ℕ → ℕ) → ReadsGave bytes (D.reads disk.old) (D.reads disk.new)
-        → IfOk result (λ decoded. MatchOption decoded (EncodesKnownVersion bytes (state_place layout) → ⊥) (FoundIsAt bytes)) }
+        → IfOk result (λ decoded. MatchOption decoded (EncodesKnownVersion bytes (state_place layout) → ⊥)
+        (FoundIsAt bytes)) }
 {
     let mut page = [0; PAGE];
     read_at(disk, state_place(&layout), &mut page)?;

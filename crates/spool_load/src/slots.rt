@@ -112,8 +112,10 @@ pub(crate) fn load_slots<D: Disk>(
         (D.failures disk.new) }
     ensures long { IfOk result (λ slots. length slots.items ≡ SLOTS) }
     ensures decoded { (bytes : ℕ → ℕ) → ReadsGave bytes (D.reads disk.old) (D.reads disk.new)
-        → (decoded : List (Option SlotRecord)) → length decoded ≡ SLOTS → ((s : ℕ) → FitsCatalog (get_or decoded s None))
-        → ((s : ℕ) → s < SLOTS → AreAt bytes (slot_place layout.now s) 2048 (slot_bytes version (get_or decoded s None)))
+        → (decoded : List (Option SlotRecord)) → length decoded ≡ SLOTS
+        → ((s : ℕ) → FitsCatalog (get_or decoded s None))
+        → ((s : ℕ) → s < SLOTS → AreAt bytes (slot_place layout.now s) 2048
+        (slot_bytes version (get_or decoded s None)))
         → Loads result (λ slots. slots.items ≡ decoded) }
     ensures valid { (bytes : ℕ → ℕ) → ReadsGave bytes (D.reads disk.old) (D.reads disk.new)
         → IfOk result (λ slots. SlotsAreAt bytes layout.now version slots.items) }

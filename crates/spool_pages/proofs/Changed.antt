@@ -7,8 +7,10 @@ use Rattle.std.proofs.lemmas.List.{get_or-set_same, get_or-set_other}
 use Rattle.common.specs.declared.limits.TheConstants.{ROWS, SLOTS}
 use Rattle.spool_blocks.specs.Blocks.{Row}
 use Rattle.spool_journal.specs.Image.{IsPagePut, byte_of, journal_pages, page_number}
-use Rattle.spool_pages.specs.Changes.{page_in, UpdatedBy, state_number, record_number, row_number, EncodesState, EncodesSlot}
-use Rattle.spool_pages.specs.Changes.{EncodesRow, ChangesButRows, Changes, with_record, with_slot, neighbour, SameRowsBut}
+use Rattle.spool_pages.specs.Changes.{page_in, UpdatedBy, state_number, record_number, row_number, EncodesState}
+use Rattle.spool_pages.specs.Changes.{EncodesSlot}
+use Rattle.spool_pages.specs.Changes.{EncodesRow, ChangesButRows, Changes, with_record, with_slot, neighbour}
+use Rattle.spool_pages.specs.Changes.{SameRowsBut}
 use Rattle.spool_pages.specs.View.{SlotRecord, View, AreAt, slot_at, row_bytes}
 use Rattle.spool_pages.specs.declared.version.Version.{Version}
 use Rattle.spool_pages.proofs.PageIn.{in_none, in_put, in_put_else, none_same, of_found, same_page, some_length}
@@ -100,7 +102,8 @@ module _ (pages : List (ℕ × List ℕ)) {none first : List (ℕ × List ℕ)} 
     indexes = refl;
     state = rw (none_else (state_number v.blocks) (omega arith) (omega (arith, place_is))) refl;
     slots = slots_updated pages v slot own bytes long few slot_in
-        (λ s lt apart. none_else (record_number v.blocks s) (omega (arith, lt)) (omega (arith, place_is, apart))) encodes
+        (λ s lt apart. none_else (record_number v.blocks s) (omega (arith, lt)) (omega (arith, place_is, apart)))
+        encodes
         beside;
     rows = λ b lt no. same b (λ i below e. let some = there i below in grind arith);
   }
@@ -145,7 +148,8 @@ module _ (old new : List (ℕ × List ℕ)) (rows : List Row) (first : ℕ) wher
           (omega arith)))
 
       by : (b : ℕ) → b < ROWS * (journal_pages v.blocks - 257) → (o : Option (List ℕ))
-          → page_in (row_number v.blocks b) new ≡ o → UpdatedBy o (EncodesRow b) (get_or v.rows b None) (get_or v'.rows b None)
+          → page_in (row_number v.blocks b) new ≡ o → UpdatedBy o (EncodesRow b) (get_or v.rows b None)
+          (get_or v'.rows b None)
       by b lt None is = changes.rows b lt (none_same (row_number v.blocks b) old new long numbers is)
       by b lt (Some bytes) is =
           of_found (λ (xs : List ℕ). AreAt (byte_of xs) (8 * (b % ROWS)) 8 (row_bytes (get_or v'.rows b None)))

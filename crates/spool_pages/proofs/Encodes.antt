@@ -23,12 +23,14 @@ module _ (a b : ℕ → ℕ) (first : ℕ) (same : (p : ℕ) → PAGE * first �
   block_same None = refl
   block_same (Some x) = span_same a b (PAGE * (first + x)) PAGE (λ p within. same p (omega (arith, within.from)))
 
-  joined_same : (rows : List (Option (ℕ × ℕ))) (slot ordinal n : ℕ) → joined_blocks a first rows slot ordinal n ≡ joined_blocks b
+  joined_same : (rows : List (Option (ℕ × ℕ))) (slot ordinal n : ℕ)
+      → joined_blocks a first rows slot ordinal n ≡ joined_blocks b
       first rows slot ordinal n
   unfolding joined_blocks
   joined_same rows slot ordinal zero = refl
   joined_same rows slot ordinal (suc n) =
-      ap (λ (xs : List ℕ). xs ++ joined_blocks a first rows slot (ordinal + 1) n) (block_same (block_at slot ordinal rows 0))
+      ap (λ (xs : List ℕ). xs ++ joined_blocks a first rows slot (ordinal + 1) n)
+      (block_same (block_at slot ordinal rows 0))
       ∙ ap (λ (xs : List ℕ). block_bytes b first (block_at slot ordinal rows 0) ++ xs)
       (joined_same rows slot (ordinal + 1) n)
 

@@ -45,7 +45,8 @@ module _ (a b : ℕ → ℕ) (first : ℕ) where
   unfolding joined_blocks
   owned_joined rows agree slot ordinal zero = refl
   owned_joined rows agree slot ordinal (suc n) =
-      ap (λ (xs : List ℕ). xs ++ joined_blocks a first rows slot (ordinal + 1) n) (owned_block slot ordinal rows 0 agree)
+      ap (λ (xs : List ℕ). xs ++ joined_blocks a first rows slot (ordinal + 1) n)
+      (owned_block slot ordinal rows 0 agree)
       ∙ ap (λ (xs : List ℕ). block_bytes b first (block_at slot ordinal rows 0) ++ xs)
       (owned_joined rows agree slot (ordinal + 1) n)
 
@@ -88,7 +89,8 @@ encodes_frees a b v same encodes =
     }
 
 pub shut_encodes : (image : ℕ → ℕ) (v : View) → (image PAGE ≡ 165 → ⊥) → IsViewOf image v → Encodes image v
-shut_encodes image v shut is = encodes_same image (overlaid image) v (λ p outside. sym (shut_view image p shut)) is.encodes
+shut_encodes image v shut is = encodes_same image (overlaid image) v (λ p outside. sym (shut_view image p shut))
+    is.encodes
 
 pub shut_is : (image : ℕ → ℕ) (v : View) → (image PAGE ≡ 165 → ⊥) → Encodes image v → IsViewOf image v
 shut_is image v shut encodes = record {

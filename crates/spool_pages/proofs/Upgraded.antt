@@ -20,7 +20,8 @@ pub record EncodesSlotIn (n : ℕ) (pages : List (ℕ × List ℕ)) (s : ℕ) (s
 module _ (n pair : ℕ) (slots : List (Option SlotRecord)) {old new : List (ℕ × List ℕ)} {page : ℕ} {bytes : List ℕ}
     (put : IsPagePut old page bytes new) (here : page ≡ 26 + journal_pages n + pair) where
   put_slot : page_in page old ≡ None → (s place : ℕ) → s / 2 ≡ pair → place ≡ 2048 * (s % 2)
-      → AreAt (byte_of bytes) place 2048 (slot_bytes Two (get_or slots s None)) → EncodesSlotIn n new s (get_or slots s None)
+      → AreAt (byte_of bytes) place 2048 (slot_bytes Two (get_or slots s None))
+      → EncodesSlotIn n new s (get_or slots s None)
   put_slot none s place half is are_at = record {
     bytes = bytes;
     there = let q : page ≡ record_number n s = omega (arith, here, half) in rw q at (in_put put none);

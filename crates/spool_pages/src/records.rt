@@ -107,7 +107,8 @@ impl<'a> BorrowedRecord<'a> {
         bytes: &'a [u8; RECORD],
     ) -> Result<Option<BorrowedRecord<'a>>, Damaged>
         ensures free { IsPadded bytes.now [] → result ≡ Ok None }
-        ensures used { (r : UpdatedBy) → FitsSlot r → IsPadded bytes.now (record_bytes version r) → result ≡ Ok (Some r) }
+        ensures used { (r : UpdatedBy) → FitsSlot r → IsPadded bytes.now (record_bytes version r)
+            → result ≡ Ok (Some r) }
         ensures valid { IfOk result (λ found. IsPadded bytes.now (slot_bytes version found)) }
         ensures fits { IfOk result (λ found. IfSome found FitsSlot) }
     {

@@ -26,12 +26,14 @@ needs_some t a some = rw (ne_eqb a 0 (λ e. absurd (omega (arith, some, e)))) (a
 module _ (x : IndexSet) (p : Patch) (done : Bool) where
   pub wants_some : (patch_text x p done).fault ≡ None → 1 ≤ added_count x p done
       → wants x p done ≡ (length (text_of x p.began) % PAGE + added_count x p done + 4095) / PAGE
-  wants_some fine some = wants_is x p done ∙ rw fine (needs_some (length (text_of x p.began)) (added_count x p done) some)
+  wants_some fine some = wants_is x p done ∙ rw fine (needs_some (length (text_of x p.began)) (added_count x p done)
+      some)
 
   pub wants_none : added_count x p done ≡ 0 → wants x p done ≡ 0
   wants_none none = wants_is x p done ∙ by_fault (patch_text x p done).fault
     where
-      by_fault : (f : Option ℕ) → (if is_there f then 0 else need_of (length (text_of x p.began)) (added_count x p done)) ≡ 0
+      by_fault : (f : Option ℕ) → (if is_there f then 0 else need_of (length (text_of x p.began))
+          (added_count x p done)) ≡ 0
       by_fault None = rw none refl
       by_fault (Some c) = refl
 

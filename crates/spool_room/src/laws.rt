@@ -61,7 +61,8 @@ pub fn room(blocks: &Blocks)
 /// The number of blocks that a patch wants: those of its new text from the committed text's unfinished block on, or
 /// none if nothing is added or a character is unmappable.
 pub fn draft_needs()
-    ensures some { (x : IndexSet) (p : Patch) (done : Bool) → (patch_text x p done).fault ≡ None → 1 ≤ added_count x p done
+    ensures some { (x : IndexSet) (p : Patch) (done : Bool) → (patch_text x p done).fault ≡ None
+        → 1 ≤ added_count x p done
         → wants x p done ≡ (length (text_of x p.began) % PAGE + added_count x p done + 4095) / PAGE }
     ensures none { (x : IndexSet) (p : Patch) (done : Bool) → added_count x p done ≡ 0 → wants x p done ≡ 0 }
     ensures fault { (x : IndexSet) (p : Patch) (done : Bool) (c : ℕ) → (patch_text x p done).fault ≡ Some c

@@ -90,7 +90,8 @@ mid_after buf sub from size k le same fits =
 
 -- one piece more of a text
 module _ {current mid : ℕ → ℕ} {unsynced unsynced' : ℕ → Type 0} (first : ℕ) (list : List ℕ) (at from to n : ℕ)
-    (old buf sub : List ℕ) (preserves : Preserves current mid unsynced unsynced') (upto : from ≤ to) (fits : to ≤ length buf)
+    (old buf sub : List ℕ) (preserves : Preserves current mid unsynced unsynced') (upto : from ≤ to)
+    (fits : to ≤ length buf)
     (few : n ≤ length (take (to - from) (drop from buf)))
     (piece : IsPiece mid first list (at + from) n (take (to - from) (drop from buf)) sub) where
   sub_size : length sub ≡ to - from
@@ -109,7 +110,8 @@ module _ {current mid : ℕ → ℕ} {unsynced unsynced' : ℕ → Type 0} (firs
       (mid_inside buf sub from (to - from) (k - from) (omega (arith, lt, after, piece.size, few))
       (omega (arith, upto, fits))
       ∙ piece.bytes (k - from) (omega (arith, lt, after))
-      ∙ preserves.same (PAGE * (first + get_or list ((at + from + (k - from)) / PAGE) 0) + (at + from + (k - from)) % PAGE)
+      ∙ preserves.same (PAGE * (first + get_or list ((at + from + (k - from)) / PAGE) 0) + (at + from + (k - from)) %
+      PAGE)
       ∙ ap (byte_on current first list) e'))
       (cases_lt k from)
 
@@ -210,6 +212,7 @@ pub preserves_on : {current mid current' : ℕ → ℕ} {unsynced between unsync
 preserves_on a b = record { same = λ p. b.same p ∙ a.same p; unsyncs = λ p l. a.unsyncs p (b.unsyncs p l) }
 
 -- its images are those from before
-pub image_preserves : {current mid image : ℕ → ℕ} {unsynced between : ℕ → Type 0} → Preserves current mid unsynced between
+pub image_preserves : {current mid image : ℕ → ℕ} {unsynced between : ℕ → Type 0}
+    → Preserves current mid unsynced between
     → IsImage mid between image → IsImage current unsynced image
 image_preserves a is = record { same = λ p is_synced. is.same p (λ l. is_synced (a.unsyncs p l)) ∙ a.same p }

@@ -4,7 +4,8 @@ use Rattle.std.proofs.Common.{arith}
 use Rattle.std.proofs.Common.{length-take}
 use Rattle.std.proofs.lemmas.List.{get_or-take}
 use Rattle.spool_journal.specs.declared.TheConstants.{PAGE}
-use Rattle.spool_texts.specs.Drafts.{Draft, draft_bytes, content_on, full_count, prefix_on, tail_list, tail_on, unread_on}
+use Rattle.spool_texts.specs.Drafts.{Draft, draft_bytes, content_on, full_count, prefix_on, tail_list, tail_on}
+use Rattle.spool_texts.specs.Drafts.{unread_on}
 use Rattle.spool_texts.specs.Written.{NoneOf, SameOutside}
 use Rattle.spool_texts.specs.declared.block_text.Unread.{Unread}
 use Rattle.spool_texts.proofs.Prefixes.{blocks_unchanged, blocks_same}

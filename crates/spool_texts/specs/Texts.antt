@@ -42,6 +42,7 @@ SameBut page a b = (p : ℕ) → (page ≡ p / PAGE → ⊥) → a p ≡ b p
 pub record Frame (j first block : ℕ) (a b : ℕ → ℕ) : Type 0 where
   pub texts : (rows : List (Option (ℕ × ℕ))) (slot len : ℕ) → get_or rows block None ≡ None
       → text_shown a first rows slot len ≡ text_shown b first rows slot len
-  pub form : (b PAGE ≡ 165 → InForm j (count b) (journal_number b)) → a PAGE ≡ 165 → InForm j (count a) (journal_number a)
+  pub form : (b PAGE ≡ 165 → InForm j (count b) (journal_number b)) → a PAGE ≡ 165
+      → InForm j (count a) (journal_number a)
   pub others : (b PAGE ≡ 165 → InForm j (count b) (journal_number b)) → (p : ℕ) → (first + block ≡ p / PAGE → ⊥)
       → overlaid a p ≡ overlaid b p

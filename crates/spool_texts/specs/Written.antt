@@ -39,6 +39,7 @@ pub record FrameBlocks (j first : ℕ) (blocks : List ℕ) (a b : ℕ → ℕ) :
   pub texts : (rows : List (Option (ℕ × ℕ))) (slot len : ℕ)
       → ((i : ℕ) → i < length blocks → get_or rows (get_or blocks i 0) None ≡ None)
       → text_shown a first rows slot len ≡ text_shown b first rows slot len
-  pub form : (b PAGE ≡ 165 → InForm j (count b) (journal_number b)) → a PAGE ≡ 165 → InForm j (count a) (journal_number a)
+  pub form : (b PAGE ≡ 165 → InForm j (count b) (journal_number b)) → a PAGE ≡ 165
+      → InForm j (count a) (journal_number a)
   pub others : (b PAGE ≡ 165 → InForm j (count b) (journal_number b)) → (p : ℕ) → (InBlocks first blocks p → ⊥)
       → overlaid a p ≡ overlaid b p

@@ -223,7 +223,8 @@ impl BlockText {
         ensures content { D.honest disk.old → OnOk result
             (draft_bytes (D.current disk.new) (text_page layout.now) self.new
             ≡ draft_bytes (D.current disk.old) (text_page layout.now) self.old) }
-        ensures preserves { D.honest disk.old → Preserves (D.current disk.old) (D.current disk.new) (D.unsynced disk.old)
+        ensures preserves { D.honest disk.old → Preserves (D.current disk.old) (D.current disk.new)
+            (D.unsynced disk.old)
             (D.unsynced disk.new) }
         ensures lasts { D.honest disk.old → Lasts D.Disk disk.old disk.new
             (IsImage (D.current disk.old) (D.unsynced disk.old)) }
@@ -338,7 +339,8 @@ impl BlockText {
 
         // Nothing is written. Nothing is read either if the committed text has no unfinished block.
         ensures unread { tail_on self.old.unread ≡ [] → disk.new ≡ disk.old }
-        ensures preserves { D.honest disk.old → Preserves (D.current disk.old) (D.current disk.new) (D.unsynced disk.old)
+        ensures preserves { D.honest disk.old → Preserves (D.current disk.old) (D.current disk.new)
+            (D.unsynced disk.old)
             (D.unsynced disk.new) }
         ensures lasts { D.honest disk.old → Lasts D.Disk disk.old disk.new
             (IsImage (D.current disk.old) (D.unsynced disk.old)) }

@@ -111,7 +111,8 @@ pub refused_finishes : {U B : Type 0} (u : Ghosts U B) (sure : Bool) (store : U)
     (m : Option UploadRefusal → Acted) (refusal : Option UploadRefusal) (e : UploadError)
     (result : Result (Unit {0}) Stop) (on_files bare closes : Bool) (old new : List ℕ) {T : Type 0} (done : T → Type 0)
     → ((f : UploadRefusal) → m (Some f) ≡ replied gone (reply_refused (reply_fault_of f) on_files bare closes) closes)
-    → Answers {T = T} refusal (Err e) done (u.represents store sure gone) → RepliesTo result e on_files bare closes old new
+    → Answers {T = T} refusal (Err e) done (u.represents store sure gone)
+    → RepliesTo result e on_files bare closes old new
     → Finishes u sure store result old new gone (m refusal)
 refused_finishes u sure store gone m refusal (Refused f) (Ok a) on_files bare closes old new done replies_to answered
     replies

@@ -77,7 +77,8 @@ pub get_acts : {U B : Type 0} {sure : Bool} (u : Ghosts U B) (store : U) (w : Wo
     → ((v : Upload) → upload_of w.store n ≡ Some v → n < w.store.next) → upload_of w.store n ≡ o
     → RepresentsOf w.store.indexes (with_number n o) (Some rec) → r.bare ≡ false
     → mid ≡ old ++ reply_text rec.to rec.text_len false r.closes
-    → ((h : Giving) → IsGiving w.store (at_start n rec.text_len r.closes) h → GivesMore u sure store (Ok gave) mid new w h)
+    → ((h : Giving) → IsGiving w.store (at_start n rec.text_len r.closes) h
+    → GivesMore u sure store (Ok gave) mid new w h)
     → ActedAs u sure store (replied_giving (left_of gave) r.closes) old new (get w r n o)
 get_acts u store w r n rec gave old mid new None below e is_record bare head gives = absurd is_record
 get_acts {B = B} {sure = sure} u store w r n rec gave old mid new (Some up) below e is_record bare head gives =
@@ -121,7 +122,8 @@ pub get_stops : {U B : Type 0} (u : Ghosts U B) (sure : Bool) (store : U) (w : W
     (rec : Record) (stop : Stop) (old more mid out new : List ℕ) (k : ℕ) (m : Acted) (o : Option Upload)
     → ((v : Upload) → upload_of w.store n ≡ Some v → n < w.store.next) → upload_of w.store n ≡ o
     → RepresentsOf w.store.indexes (with_number n o) (Some rec) → mid ≡ old ++ more → k ≡ length old → new ≡ take k out
-    → ((h : Giving) → IsGiving w.store (at_start n rec.text_len closes) h → GivesMore u sure store (Err stop) mid out w h)
+    → ((h : Giving) → IsGiving w.store (at_start n rec.text_len closes) h
+    → GivesMore u sure store (Err stop) mid out w h)
     → Serves {B = B} u sure store (Err stop) old new w m
 get_stops u sure store w closes n rec stop old more mid out new k m None below e is_record head size cut gives = absurd
     is_record
@@ -142,7 +144,8 @@ pub get_acts_as : {U B : Type 0} {sure : Bool} (u : Ghosts U B) (store : U) (w :
     → ((v : Upload) → upload_of w.store n ≡ Some v → n < w.store.next) → upload_of w.store n ≡ o
     → RepresentsOf w.store.indexes (with_number n o) (Some rec) → bare ≡ r.bare → bare ≡ false → closes ≡ r.closes
     → mid ≡ old ++ reply_text rec.to rec.text_len bare closes
-    → ((h : Giving) → IsGiving w.store (at_start n rec.text_len closes) h → GivesMore u sure store (Ok gave) mid new w h)
+    → ((h : Giving) → IsGiving w.store (at_start n rec.text_len closes) h
+    → GivesMore u sure store (Ok gave) mid new w h)
     → ActedAs u sure store (replied_giving (left_of gave) closes) old new (get w r n o)
 get_acts_as {sure = sure} u store w r n rec gave old mid new bare closes o below e is_record bare_is not_bare closes_is
     head gives =
@@ -161,8 +164,10 @@ pub get_bare : {U B : Type 0} (u : Ghosts U B) (sure : Bool) (store : U) (w : Wo
     → RepresentsOf w.store.indexes (with_number n o) (Some rec) → bare ≡ r.bare → bare ≡ true → closes ≡ r.closes
     → new ≡ old ++ reply_text rec.to rec.text_len bare closes → u.represents store sure w
     → ActedAs u sure store (done.Replied closes) old new (get w r n o)
-get_bare u sure store w r n rec old new bare closes None is_record bare_is is_bare closes_is head represents = absurd is_record
-get_bare {B = B} u sure store w r n rec old new bare closes (Some up) is_record bare_is is_bare closes_is head represents =
+get_bare u sure store w r n rec old new bare closes None is_record bare_is is_bare closes_is head represents = absurd
+    is_record
+get_bare {B = B} u sure store w r n rec old new bare closes (Some up) is_record bare_is is_bare closes_is head
+    represents =
     let text : List ℕ = text_of w.store.indexes up in
     let bytes : new ≡ old ++ (reply_text up.to (length text) bare closes ++ []) =
     head ∙ ap (λ t. old ++ reply_text t rec.text_len bare closes) is_record.to
@@ -178,5 +183,12 @@ get_bare {B = B} u sure store w r n rec old new bare closes (Some up) is_record 
     by_bare : (b : Bool) → b ≡ true → new ≡ old ++
         (reply_text up.to (length (text_of w.store.indexes up)) b closes ++ [])
         → ActedAs u sure store (done.Replied closes) old new (get w (q_of r b closes) n (Some up))
-    by_bare true is bytes = record { represents = represents; draft = tt {0}; giving = tt {0}; closes = refl; bytes = bytes }
+    by_bare true is bytes = record {
+      represents = represents;
+      draft = tt {0};
+      giving = tt {0};
+      closes = refl;
+      bytes =
+          bytes;
+    }
     by_bare false is bytes = absurd cc

@@ -169,7 +169,8 @@ event_later st e Failed = rw (fault_same st e) (itself_later st.world.store)
 
 -- ALONG A HISTORY
 
-later_later : (start : State) (past later : List Marked) → IsLaterStore (store_at start past) (store_at start (later ++ past))
+later_later : (start : State) (past later : List Marked) → IsLaterStore (store_at start past)
+    (store_at start (later ++ past))
 later_later start past [] = itself_later (store_at start past)
 later_later start past (e ∷ later) =
     later_both (store_at start past) (store_at start (later ++ past)) (store_at start (e ∷ (later ++ past)))

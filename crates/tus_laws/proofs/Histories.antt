@@ -17,7 +17,8 @@ use Rattle.tus_session.specs.Turns.{Conn, fresh, reader, body_step, turn_of, cam
 use Rattle.tus_session.specs.Turns.{give_on, more_on, more_turn, ended_with, ended_world}
 use Rattle.tus_session.specs.Turns.{came_on as came_turn_on}
 use Rattle.tus_session.specs.Turns.{ended_on as ended_world_on}
-use Rattle.tus_session.specs.History.{State, Step, Event, Opened, Came, More, Ended, Marked, Served, Done, put, refused_same}
+use Rattle.tus_session.specs.History.{State, Step, Event, Opened, Came, More, Ended, Marked, Served, Done, put}
+use Rattle.tus_session.specs.History.{refused_same}
 use Rattle.tus_session.specs.declared.session.TheConstants.{MOST_OPEN}
 use Rattle.tus_session.specs.History.{turned, opened_at, came_at, more_at, ended_at, conn_in, step, history, beginning}
 use Rattle.tus_session.specs.declared.errors.SessionError.{SessionError}
@@ -27,8 +28,10 @@ use Rattle.tus_session.proofs.EventResults.{came_is, ended_step}
 use Rattle.tus_session.proofs.BodyResults.{rest_same}
 use Rattle.tus_session.proofs.Feeding.{fed_body}
 use Rattle.tus_laws.specs.Patches.{moments_in, at_its_head, BodyCut, DonePatch, IsRefused, Changed}
-use Rattle.tus_laws.specs.Cuts.{head_moment, body_moment, came_moments, cut_moment, came_moments_on, ended_moments_on, event_moments}
-use Rattle.tus_laws.specs.Cuts.{all_moments, outcome_bytes, bytes_given, text_left, still_to_give, CutsNoText, AllSmooth}
+use Rattle.tus_laws.specs.Cuts.{head_moment, body_moment, came_moments, cut_moment, came_moments_on}
+use Rattle.tus_laws.specs.Cuts.{ended_moments_on, event_moments}
+use Rattle.tus_laws.specs.Cuts.{all_moments, outcome_bytes, bytes_given, text_left, still_to_give, CutsNoText}
+use Rattle.tus_laws.specs.Cuts.{AllSmooth}
 use Rattle.tus_laws.proofs.Changes.{served_changed, with_idle, with_text, done_came, ended_spent}
 use Rattle.tus_laws.proofs.Bare.{bared, fed_there, ended_calm}
 use Rattle.tus_laws.proofs.Bodies.{none_if, Holds, DraftHolds, Brings, BringsAll, brings_all}

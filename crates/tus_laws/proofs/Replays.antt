@@ -39,7 +39,8 @@ module _ (st : State) (valid : Valid st) (w' : World) (c : ℕ) (o' : Option Con
     pub indexes : w'.store.indexes ≡ st.world.store.indexes
     pub others : (e : ℕ) (p : Patch) → find e st.world.patches ≡ Some p → (draft_of_conn (st.conns c) ≡ Some e → ⊥)
         → find e w'.patches ≡ Some p
-    pub fresh : (d : ℕ) → draft_of_conn o' ≡ Some d → (draft_of_conn (st.conns c) ≡ Some d) ⊎ (find d st.world.patches ≡ None)
+    pub fresh : (d : ℕ) → draft_of_conn o' ≡ Some d → (draft_of_conn (st.conns c) ≡ Some d)
+        ⊎ (find d st.world.patches ≡ None)
     pub holds : (k : Conn) → o' ≡ Some k → DraftHolds w' k
     pub idle : (k : Conn) → o' ≡ Some k → (d : ℕ) → k.draft ≡ Some d → k.pending ≡ None
 

@@ -78,7 +78,8 @@ outcome_bytes (Refused f) = []
 abbrev pub bytes_given : State → ℕ → List Marked → List ℕ
 bytes_given start c [] = []
 bytes_given start c (e ∷ past) =
-    bytes_given start c past ++ (if conn_in e.0 == c then outcome_bytes (step (history start past) e.0 e.1).outcome else [])
+    bytes_given start c past ++ (if conn_in e.0 == c then outcome_bytes (step (history start past) e.0 e.1).outcome
+    else [])
 
 -- What is left of a text, if there is one.
 abbrev pub text_left : Option Giving → List ℕ

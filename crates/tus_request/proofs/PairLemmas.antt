@@ -33,7 +33,8 @@ trims texts = map (trimmed (32 ∷ [])) texts
 
 pairs_turn : (current : List KeyValue) (texts : List (List ℕ)) (n : ℕ) (part : List ℕ)
     → (n < length texts) × (part ≡ get_or texts n part)
-    → key_values_from (Some current) (drop n (trims texts)) ≡ key_values_from (with_key_value current (key_value_of (trimmed
+    → key_values_from (Some current) (drop n (trims texts)) ≡ key_values_from
+    (with_key_value current (key_value_of (trimmed
     (32 ∷ []) part)))
     (drop (n + 1) (trims texts))
 pairs_turn current texts n part h =
@@ -69,4 +70,5 @@ pairs_more current texts n part p h e new = rw (pairs_turn current texts n part 
 pub pairs_end : (current : List KeyValue) (texts : List (List ℕ)) (n : ℕ) → n ≡ length texts
     → key_values_from (Some current) (drop n (trims texts)) ≡ Some current
 pairs_end current texts n e =
-    at_drop_all (λ t. key_values_from (Some current) t) (trims texts) n (omega (arith, length-map texts (trimmed (32 ∷ []))))
+    at_drop_all (λ t. key_values_from (Some current) t) (trims texts) n
+    (omega (arith, length-map texts (trimmed (32 ∷ []))))

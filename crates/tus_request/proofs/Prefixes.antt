@@ -175,6 +175,7 @@ module _ (offers : Encoding → Bool) where
   steady = record {
     some = λ s n v q. (judged_settled s n v q).some;
     within = λ s n v q. (judged_settled s n v q).within;
-    unchanged = λ s more n v q. rw (← append_assoc, take-append-drop) at ((judged_settled s n v q).stay (drop n s ++ more));
+    unchanged = λ s more n v q. rw (← append_assoc, take-append-drop) at
+        ((judged_settled s n v q).stay (drop n s ++ more));
     own = λ s n v q. rw append-nil at ((judged_settled s n v q).stay []);
   }

@@ -123,7 +123,8 @@ guess_back h is =
     let lt = lacks_from 32 is_uri_byte uri_no_space h.target is.target.1 in
     let m = cut_mark 32 h.method (h.target ++ 32 ∷ (print_version h.minor ++ print_end h.line_end)) lm refl in
     let bm : before 32 (request_line h ++ print_end h.line_end) ≡ h.method = rw parts m.0 in
-    let hm : rest_after 32 (request_line h ++ print_end h.line_end) ≡ h.target ++ 32 ∷ (print_version h.minor ++ print_end
+    let hm : rest_after 32 (request_line h ++ print_end h.line_end) ≡ h.target ++ 32
+    ∷ (print_version h.minor ++ print_end
     h.line_end) = rw parts m.1 in
     let t = cut_mark 32 h.target (print_version h.minor ++ print_end h.line_end) lt refl in
     let digit : 48 + h.minor - 48 ≡ h.minor = omega arith in

@@ -140,7 +140,8 @@ module _ (offers : Encoding → Bool) where
   ]
   all_valid x _ small = tt {0}
 
-  upload_valid : (x : checks.Asking) (n : ℕ) (v : Verb) → x.length < 10 ^ 18 → IsValidVerdict offers (checks.on_upload x n v)
+  upload_valid : (x : checks.Asking) (n : ℕ) (v : Verb) → x.length < 10 ^ 18
+      → IsValidVerdict offers (checks.on_upload x n v)
   upload_valid x n verb.Options small = passed_valid x Options small (tt {0})
   upload_valid x n verb.Post small = tt {0}
   upload_valid x n verb.Head small = passed_valid x (Head n) small (tt {0})

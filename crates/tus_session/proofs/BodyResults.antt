@@ -69,7 +69,8 @@ module _ {U B : Type 0} (u : Ghosts U B) (sure : Bool) where
       → RestIs (head_bytes head) left rest → (cut (reader w) s').rest ≡ rest → a ≡ took taken closes
       → Appends sure old new bytes text
       → TurnedAs u sure store link a old new w own (answers w' closes s' bytes text taken)
-  answered_here store link a old new bytes text w w' own head left taken true s' rest shown moves e rest_here here is given =
+  answered_here store link a old new bytes text w w' own head left taken true s' rest shown moves e rest_here here is
+      given =
       rw (e, is) (assumption (shown, moves, given))
   answered_here store link a old new bytes text w w' own head left taken false s' rest shown moves e rest_here here is
       given =
@@ -193,7 +194,8 @@ module _ {U B : Type 0} (u : Ghosts U B) (sure : Bool) (w : World) (conn : Conn)
       let found = fed_found w own is.p (take left bytes) is.patches.found in
       rw (turn, ← is.inside.wanted, is.draft, is.patches.asks, found)
 
-  part_replied : (store' : U) (old new bytes : List ℕ) (a : Result (Option (Link B) × Answer) Stop) → length bytes < left
+  part_replied : (store' : U) (old new bytes : List ℕ) (a : Result (Option (Link B) × Answer) Stop)
+      → length bytes < left
       → Parts u sure store' a head b (left - length bytes) (0 + length bytes) (fed w own bytes)
       (fed_patch w own is.p bytes) (dropped w own) × (new ≡ old)
       → Turned u sure store' a old new w (Some own) (came_turn w conn bytes)
@@ -241,8 +243,10 @@ module _ {U B : Type 0} (u : Ghosts U B) (sure : Bool) (w : World) (conn : Conn)
   rest_store bytes enough = ap (λ t. t.world.store) (sym (rest_is bytes enough))
 
 -- a body that is dropped
-pub skip_replied : {U B : Type 0} (u : Ghosts U B) (sure : Bool) (store : U) (w : World) (conn : Conn) (head : HeadBuffer)
-    (left : ℕ) → u.represents store sure w → IsSkipping w conn (head_bytes head) left → (link : Option (Link B)) (a : Answer)
+pub skip_replied : {U B : Type 0} (u : Ghosts U B) (sure : Bool) (store : U) (w : World) (conn : Conn)
+    (head : HeadBuffer)
+    (left : ℕ) → u.represents store sure w → IsSkipping w conn (head_bytes head) left
+    → (link : Option (Link B)) (a : Answer)
     (out bytes : List ℕ) → link ≡ link_after head (left - min left (length bytes)) false
     → a ≡ took (0 + min left (length bytes)) false
     → TurnedAs u sure store link a out out w conn.draft (came_turn w conn bytes)

@@ -28,24 +28,28 @@ pub record IsClosing {U B : Type 0} (u : Ghosts U B) (sure : Bool) (st : State) 
   pub uploads : v.store ≡ st.world.store
   pub blocks : v.blocks ≡ st.world.blocks
   pub unique : IsApart v.patches
-  pub owned : (d : ℕ) (p : Patch) → find d v.patches ≡ Some p → (c : ℕ) × (c < left) × (draft_of_conn (st.conns c) ≡ Some d)
+  pub owned : (d : ℕ) (p : Patch) → find d v.patches ≡ Some p → (c : ℕ) × (c < left)
+      × (draft_of_conn (st.conns c) ≡ Some d)
 
 module _ {U B : Type 0} (u : Ghosts U B) (sure : Bool) where
   conn_below : (places : List (Option (Link B))) (store : U) (st : State) (c d : ℕ)
       → SessionRepresents u sure places store st → draft_of_conn (st.conns c) ≡ Some d → c < length places
   conn_below places store st c d represents e = elim (cases_lt c (length places)) [
     | inl lt ↦ lt
-    | inr le ↦ let x : Some d ≡ None = sym e ∙ ap draft_of_conn (beyond u sure places store st represents c le) in absurd (cc)
+    | inr le ↦ let x : Some d ≡ None = sym e ∙ ap draft_of_conn (beyond u sure places store st represents c le) in
+        absurd (cc)
   ]
 
-  pub begins_closing : (places : List (Option (Link B))) (store : U) (st : State) → SessionRepresents u sure places store st
+  pub begins_closing : (places : List (Option (Link B))) (store : U) (st : State)
+      → SessionRepresents u sure places store st
       → IsClosing u sure st (length places) store st.world
   begins_closing places store st represents = record {
     shown = represents.shown;
     uploads = refl;
     blocks = refl;
     unique = represents.unique;
-    owned = λ d p found. let c = represents.owned d p found in (c.0, conn_below places store st c.0 d represents c.1, c.1);
+    owned = λ d p found. let c = represents.owned d p found in
+        (c.0, conn_below places store st c.0 d represents c.1, c.1);
   }
 
   -- the draft of the last place is dropped, if it has one
@@ -132,8 +136,11 @@ module _ {U B : Type 0} (u : Ghosts U B) (sure : Bool) (all old new : List (Opti
   pub after_closed : (store : U) (v : World) (x : Option (Link B)) → x ≡ None → Popped all old new x
       → IsClosing u sure st (length old) store v → (v' : World) × IsClosing u sure st (length new) store v'
   after_closed store v x e is closes =
-      let none = closed_none u sure st.world (st.conns (length new)) (rw e at (place_there x is)) in
-      (v, closing u sure st (length new) store store v None (rw is.count at closes) (ap draft_of_conn none) closes.shown)
+      let none = closed_none u sure st.world (st.conns (length new)) (rw e at (place_there x is)) in (
+        v,
+        closing u sure st (length new) store store v None (rw is.count at closes) (ap draft_of_conn none)
+            closes.shown,
+      )
 
   pub after_open : (store store' : U) (v : World) (x : Option (Link B)) (k : Link B) → x ≡ Some k → Popped all old new x
       → IsClosing u sure st (length old) store v → u.represents store' sure (dropped_by u v k.awaiting) → (v' : World)

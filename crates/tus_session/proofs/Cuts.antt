@@ -22,7 +22,11 @@ head_same : (f g : List ℕ → Cut) (head : List ℕ) (v : Verdict) (rest : Lis
     → f (drop (body_length v) rest) ≡ g (drop (body_length v) rest)
     → after_head f head v rest b ≡ after_head g head v rest b
 head_same f g head v rest true e = refl
-head_same f g head v rest false e = ap (onto_cut (record { head = head; verdict = v; body = take (body_length v) rest })) e
+head_same f g head v rest false e = ap (onto_cut (record {
+  head = head;
+  verdict = v;
+  body = take (body_length v) rest;
+})) e
 
 shorter : (s : List ℕ) (n m : ℕ) → 0 < n → n ≤ length s → length (drop m (drop n s)) < length s
 shorter s n m some within = simp length-drop (omega arith)
@@ -33,7 +37,8 @@ GoesOn answer p s c = cut answer (s ++ p) ≡ after_whole c.whole (cut answer (r
 
 body_there : (f : List ℕ → Cut) (head : List ℕ) (v : Verdict) (rest p : List ℕ) → body_length v ≤ length rest
     → after_head f head v (rest ++ p) (nat_lt (length (rest ++ p)) (body_length v))
-    ≡ onto_cut (record { head = head; verdict = v; body = take (body_length v) rest }) (f (drop (body_length v) rest ++ p))
+    ≡ onto_cut (record { head = head; verdict = v; body = take (body_length v) rest })
+    (f (drop (body_length v) rest ++ p))
 body_there f head v rest p fits =
     let m = body_length v in
     let l : m ≤ length (rest ++ p) = simp length-append (omega arith) in

@@ -64,17 +64,20 @@ failed_is st (Ended c) conn on is = ap (λ o. (failed_at st c o).outcome) is
 
 module _ {U B : Type 0} (u : Ghosts U B) (sure : Bool) where
   module _ (places all : List (Option (Link B))) (store store' : U) (st : State) (e : Event) (conn : Conn)
-      (represents : SessionRepresents u sure places store st) (on : IsOnOpen e) (is : st.conns (conn_in e) ≡ Some conn) where
+      (represents : SessionRepresents u sure places store st) (on : IsOnOpen e)
+      (is : st.conns (conn_in e) ≡ Some conn) where
     -- the connection is gone, with its draft
     lost : IsLinkPut places all (conn_in e) None → u.represents store' sure (left_world st.world conn.draft)
         → Follows u sure all store' (step st e OutOfMemory).state (step st e OutOfMemory).outcome
         (Refused (errors.Stop stops.NoMemory))
     lost is_put shown =
-        let s = in_place u sure places all store store' st (left_world st.world conn.draft) (conn_in e) None None represents
+        let s = in_place u sure places all store store' st (left_world st.world conn.draft) (conn_in e) None None
+        represents
         is_put (rw is (left_moves st.world conn.draft)) shown tt in
         rw (memory_is st e conn on is) (record { represents = s; outcome = refl })
 
-    pub given : (next : Option (Link B)) (t : Turn) (a : Answer) (old new : List ℕ) → IsLinkPut places all (conn_in e) next
+    pub given : (next : Option (Link B)) (t : Turn) (a : Answer) (old new : List ℕ)
+        → IsLinkPut places all (conn_in e) next
         → IsTurn st e conn t → TurnedAs u sure store' next a old new st.world conn.draft t
         → RepliesAs u sure all store' (Ok a) old new st e
     given next t a old new is_put is_turn turn =
@@ -93,7 +96,8 @@ module _ {U B : Type 0} (u : Ghosts U B) (sure : Bool) where
 
     pub ends : IsLinkPut places all (conn_in e) None → step st e Served ≡ record
         { state = put st (ended_world st.world conn) (conn_in e) None; outcome = Done; text = [] }
-        → EndedAs u sure store' st.world conn.draft (ended_world st.world conn) → EndsEvent u sure all store' (Ok tt) st e
+        → EndedAs u sure store' st.world conn.draft (ended_world st.world conn)
+        → EndsEvent u sure all store' (Ok tt) st e
     ends is_put done turn =
         let s = in_place u sure places all store store' st (ended_world st.world conn) (conn_in e) None None represents
         is_put (rw is turn.moves) turn.shown tt in
@@ -111,7 +115,8 @@ module _ {U B : Type 0} (u : Ghosts U B) (sure : Bool) where
       → Follows u sure places store st (step st e Served).outcome (Refused errors.Closed)
   unfolding step
   none_open places store st (Opened c) represents on none = absurd on
-  none_open places store st (Came c bytes) represents on none = rw none (record { represents = represents; outcome = refl })
+  none_open places store st (Came c bytes) represents on none = rw none
+      (record { represents = represents; outcome = refl })
   none_open places store st (More c) represents on none = rw none (record { represents = represents; outcome = refl })
   none_open places store st (Ended c) represents on none = rw none (record { represents = represents; outcome = refl })
 

@@ -5,7 +5,8 @@ use Rattle.std.proofs.lemmas.Bool.Decides.{nat_tests}
 use Rattle.std.proofs.lemmas.List.{length-append}
 use Rattle.upload_rules.specs.Store.{find, without, replaced, accepted_count}
 use Rattle.upload_rules.specs.World.{Patch, World, reached}
-use Rattle.upload_rules.specs.Calls.{longer_patch, appended_at, dropped, commit_refusal, commit_outcome, committed_store}
+use Rattle.upload_rules.specs.Calls.{longer_patch, appended_at, dropped, commit_refusal, commit_outcome}
+use Rattle.upload_rules.specs.Calls.{committed_store}
 use Rattle.upload_rules.specs.Calls.{spent, outcome}
 use Rattle.upload_rules.specs.declared.uploads.Uploads.{Ghosts}
 use Rattle.tus_request.specs.Requests.{Request}

@@ -83,7 +83,8 @@ module _ {U B : Type 0} (u : Ghosts U B) (sure : Bool) where
       → x ≡ took (before + min (body_length v) len) (acted w v).closes
       → Appends sure old new (acted w v).bytes (acted w v).text
       → TurnedAs u sure store' link x old new w conn.draft (came_turn w conn bytes)
-  no_patch_replied store' w conn h bytes n before v is link x old new head len len_is shown moves none idle link_is head_is
+  no_patch_replied store' w conn h bytes n before v is link x old new head len len_is shown moves none idle link_is
+      head_is
       answer_is bytes_are =
       let a = acted w v in
       let left = body_length v - min (body_length v) len in
@@ -204,7 +205,8 @@ module _ (w : World) (conn : Conn) (h bytes : List ℕ) (n before : ℕ) (r : Re
         → TurnedAs u sure store' link x old new w conn.draft (came_turn w conn bytes)
     nothing_replied store' link x closes old new head len as_is len_is link_is cleared answer_is = elim (leaves w r) [
       | Nothing moves none idle ↦
-          no_patch_replied u sure store' w conn h bytes n before (Asks r) is link x old new head len len_is as_is.represents
+          no_patch_replied u sure store' w conn h bytes n before (Asks r) is link x old new head len len_is
+          as_is.represents
           moves none idle (rw as_is.closes at link_is) cleared (rw as_is.closes at answer_is) as_is.bytes
       | Text g same none some stays ↦ absurd (rw some at as_is.giving)
       | Patching y ↦ absurd (rw y.draft_is at as_is.draft)

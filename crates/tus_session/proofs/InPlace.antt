@@ -36,7 +36,8 @@ conns_else conns k j conn ne = grind (arith, nat_tests)
 module _ {U B : Type 0} (u : Ghosts U B) (sure : Bool) where
   module _ (places all : List (Option (Link B))) (store store' : U) (st : State) (w' : World) (k : ℕ)
       (next : Option (Link B)) (conn' : Option Conn) (represents : SessionRepresents u sure places store st)
-      (is_put : IsLinkPut places all k next) (moves : Moves st.world w' (draft_of_conn (st.conns k)) (draft_of_conn conn'))
+      (is_put : IsLinkPut places all k next) (moves : Moves st.world w' (draft_of_conn (st.conns k))
+      (draft_of_conn conn'))
       (shown : u.represents store' sure w') (here : PlaceIs u w' next conn') where
     each_there : (c : ℕ) → PlaceIs u w' (get_or all c None) (with_conn st.conns k conn' c)
     each_there c = elim (cases_eq c k) [
@@ -45,7 +46,8 @@ module _ {U B : Type 0} (u : Ghosts U B) (sure : Bool) where
           let ours = λ (e : ℕ) (f : draft_of_conn (st.conns c) ≡ Some e) (g : draft_of_conn (st.conns k) ≡ Some e).
           ne (represents.apart c k e f g) in
           rw (is_put.others c ne, conns_else st.conns k c conn' ne)
-          (place_moved u sure st.world w' (draft_of_conn (st.conns k)) (draft_of_conn conn') (get_or places c None) (st.conns c)
+          (place_moved u sure st.world w' (draft_of_conn (st.conns k)) (draft_of_conn conn') (get_or places c None)
+          (st.conns c)
           moves ours (represents.each c))
     ]
 
@@ -98,7 +100,8 @@ module _ {U B : Type 0} (u : Ghosts U B) (sure : Bool) where
     }
 
   -- a place is taken, and gets this
-  pub is_put_back : (places taken : List (Option (Link B))) (k : ℕ) (next : Option (Link B)) → IsLinkPut places taken k None
+  pub is_put_back : (places taken : List (Option (Link B))) (k : ℕ) (next : Option (Link B))
+      → IsLinkPut places taken k None
       → k < length taken → IsLinkPut places (slice_set taken k next) k next
   is_put_back places taken k next is lt = record {
     count = length-set taken k next ∙ is.count;
@@ -119,13 +122,15 @@ module _ {U B : Type 0} (u : Ghosts U B) (sure : Bool) where
   new_place w head e = assumption (ap (λ x. x.rest) (empty_cut (reader w) (steady (offers w.store.indexes)))
       ∙ ap InHead (sym e))
 
-  module _ (places : List (Option (Link B))) (store : U) (st : State) (represents : SessionRepresents u sure places store st)
+  module _ (places : List (Option (Link B))) (store : U) (st : State)
+      (represents : SessionRepresents u sure places store st)
     where
       -- what a connection's place tells
       place_at : (k : ℕ) (x : Option (Link B)) → k < length places → x ≡ get_or places k x
           → PlaceIs u st.world x (st.conns k)
       place_at k x lt e =
-          subst (λ y. PlaceIs u st.world y (st.conns k)) (sym (e ∙ get_or_default places k x None lt)) (represents.each k)
+          subst (λ y. PlaceIs u st.world y (st.conns k)) (sym (e ∙ get_or_default places k x None lt))
+          (represents.each k)
 
       -- no connection is open beyond the places
       pub beyond : (k : ℕ) → length places ≤ k → st.conns k ≡ None

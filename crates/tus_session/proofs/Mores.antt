@@ -56,7 +56,8 @@ gone_with_upload sure m old new h (Some up) is = absurd is
 
 module _ {U B : Type 0} (u : Ghosts U B) (sure : Bool) where
   -- a connection stays as it is, and nothing is given
-  pub stays : (store : U) (w : World) (k : Link B) (conn : Conn) (more : Bool) (out : List ℕ) → u.represents store sure w
+  pub stays : (store : U) (w : World) (k : Link B) (conn : Conn) (more : Bool) (out : List ℕ)
+      → u.represents store sure w
       → LinkIs u w (head_bytes k.head) k.awaiting conn → more ≡ is_pending conn.pending
       → TurnedAs u sure store (Some k) (record { taken = 0; closes = false; more = more }) out out w conn.draft
       (record { world = w; conn = Some conn; bytes = []; text = []; taken = 0 })

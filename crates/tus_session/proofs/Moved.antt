@@ -16,7 +16,8 @@ use Rattle.upload_rules.specs.Room.{is_short}
 use Rattle.upload_rules.specs.Grown.{GrewFrom}
 use Rattle.upload_rules.specs.declared.errors.UploadRefusal.{UploadRefusal}
 use Rattle.upload_rules.specs.declared.errors.UploadRefusal.TheVariants.{Offset, LengthSet, TooLong, Unencodable, Full}
-use Rattle.upload_rules.specs.Calls.{dropped, committed, committed_store, spent, created, terminated, longer_patch, is_empty}
+use Rattle.upload_rules.specs.Calls.{dropped, committed, committed_store, spent, created, terminated, longer_patch}
+use Rattle.upload_rules.specs.Calls.{is_empty}
 use Rattle.upload_rules.specs.Calls.{commit_refusal, upload_refusal, length_refusal, text_refusal, or_else, refuse_if}
 use Rattle.upload_rules.specs.Calls.{declares, declares_at, is_idle, text_stays}
 use Rattle.upload_rules.proofs.Commits.{complete_patched}

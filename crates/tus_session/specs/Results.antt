@@ -18,7 +18,8 @@ pub record Follows {U B : Type 0} (u : Ghosts U B) (sure : Bool) (places : List 
 
 -- The result of an event that gives bytes. Served: the history's step. Out of memory: the connection closed. A disk
 -- fault: only the output is known, and it is unchanged. Any other refusal changes nothing.
-abbrev pub RepliesAs : {U B : Type 0} → Ghosts U B → Bool → List (Option (Link B)) → U → Result Answer SessionError → List ℕ
+abbrev pub RepliesAs : {U B : Type 0} → Ghosts U B → Bool → List (Option (Link B)) → U → Result Answer SessionError
+    → List ℕ
     → List ℕ → State → Event → Type 0
 RepliesAs u sure places store (Ok a) old new st e =
     (bytes : List ℕ) × Follows u sure places store (step st e Served).state (step st e Served).outcome
@@ -34,7 +35,8 @@ RepliesAs u sure places store (Err f) old new st e =
 -- The result of an event that gives none.
 abbrev pub EndsEvent : {U B : Type 0} → Ghosts U B → Bool → List (Option (Link B)) → U → Result (Unit {0}) SessionError
     → State → Event → Type 0
-EndsEvent u sure places store (Ok x) st e = Follows u sure places store (step st e Served).state (step st e Served).outcome
+EndsEvent u sure places store (Ok x) st e = Follows u sure places store (step st e Served).state
+    (step st e Served).outcome
     Done
 EndsEvent u sure places store (Err (Stop NoMemory)) st e =
     Follows u sure places store (step st e OutOfMemory).state (step st e OutOfMemory).outcome (Refused (Stop NoMemory))

@@ -70,7 +70,8 @@ holds_with_length x u declare bytes Complete holds = still u.declared holds
 
 module _ (x : IndexSet) (next : ℕ) (p : Patch) (o : OpenAppend) (represents : AppendRepresents x next p o) where
   -- with another text
-  pub with_text : (text : NewText) → HoldsText x p.began p.body text → AppendRepresents x next p (record o { text = text })
+  pub with_text : (text : NewText) → HoldsText x p.began p.body text
+      → AppendRepresents x next p (record o { text = text })
   with_text text holds = assumption
 
   pub with_piece : (piece : List ℕ) (came : ℕ) (text : NewText) → length p.body + length piece ≤ p.count
@@ -87,7 +88,8 @@ module _ (x : IndexSet) (next : ℕ) (p : Patch) (o : OpenAppend) (represents : 
   reaches = let h = represents.held in let w = represents.within in let f = represents.fits in omega (arith, h, w, f)
 
   -- the upload as it was at the head moment, but for a length
-  module _ (length_since : Option ℕ) (s : Slot) (slot_is : SlotRepresents x p.number (with_length p.began length_since) s)
+  module _ (length_since : Option ℕ) (s : Slot) (slot_is : SlotRepresents x p.number
+      (with_length p.began length_since) s)
     where
       abbrev u : Upload
       u = with_length p.began length_since

@@ -111,7 +111,8 @@ module _ (t : Table) (w : World) (represents : TableRepresents t w) (n : ℕ) wh
       let same : numbers slots.items ≡ remove (numbers t.slots.items) place =
       ap numbers is ∙ numbers_removed t.slots.items place in
       let slots' : AllRepresent w.store.indexes (others n w.store.uploads) slots.items =
-      rw is (removed w.store.indexes n w.store.uploads t.slots.items place represents.slots lt first.here represents.rising) in
+      rw is (removed w.store.indexes n w.store.uploads t.slots.items place represents.slots lt first.here
+      represents.rising) in
       let rising : IsRising (numbers slots.items) =
       rw same (rising_removed (numbers t.slots.items) place first.within represents.rising) in
       let below : IsBelow (numbers slots.items) w.store.next =

@@ -57,10 +57,11 @@ module _ (w : World) (grown : IsGrown w) where
   pub grown_longer : (d : ℕ) (p : Patch) (body : List ℕ) (short : Bool) → find d w.patches ≡ Some p
       → IsGrown (record w { patches = replaced d (record p { body = body; short = short }) w.patches })
   grown_longer d p body short there = record {
-    each = λ e r found. elim (unchanged_replaced d e p (record p { body = body; short = short }) r w.patches there found) [
-      | inl same ↦ rw (sym same.1) (grown.each d p there)
-      | inr old ↦ grown.each e r old
-    ];
+    each = λ e r found. elim (unchanged_replaced d e p (record p { body = body; short = short }) r w.patches there
+        found) [
+          | inl same ↦ rw (sym same.1) (grown.each d p there)
+          | inr old ↦ grown.each e r old
+        ];
   }
 
   pub grown_begun : (n count : ℕ) (declare : Option ℕ) (u : Upload) (d : ℕ) → upload_of w.store n ≡ Some u

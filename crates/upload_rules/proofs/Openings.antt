@@ -34,7 +34,8 @@ module _ (t : Table) (w : World) (represents : TableRepresents t w) where
       → longest (known_or s.record.declared declare) < 2 ^ 64
       → ((x : IndexSet) (n : ℕ) (u : Upload) → Represents x n s.record u
       → begin_refusal_at offset count declare (Some u) ≡ None)
-      → ((x : IndexSet) (n : ℕ) (u : Upload) → Represents x n s.record u → (text_with x u [] (is_complete u)).fault ≡ None
+      → ((x : IndexSet) (n : ℕ) (u : Upload) → Represents x n s.record u
+      → (text_with x u [] (is_complete u)).fault ≡ None
       → IsValidState (transcoder_with x u [] (is_complete u)) → HoldsText x u [] text)
       → IsOpened w n offset count declare u (Ok (record {
         number = n;
@@ -57,7 +58,8 @@ module _ (t : Table) (w : World) (represents : TableRepresents t w) where
           within = omega (arith, here, within, longest_is);
           fits = omega (arith, fits, longest_is);
           below = found_below n w.store.next u w.store.uploads
-              (all_below w.store.indexes w.store.next w.store.uploads t.slots.items represents.slots represents.below) there;
+              (all_below w.store.indexes w.store.next w.store.uploads t.slots.items represents.slots represents.below)
+              there;
           roomy = refl;
           text = holds w.store.indexes n u held.represents held.encodable held.valid;
         },

@@ -62,12 +62,14 @@ module _ {A : Type 0} (R : Patch → A → Type 0) (ps : List (ℕ × Patch)) (o
             (all e)
       ]
 
-  pub appended_represents : (d : ℕ) (p q : Patch) (o : A) → find d ps ≡ Some p → d < length old → new ≡ set old d (Some o)
+  pub appended_represents : (d : ℕ) (p q : Patch) (o : A) → find d ps ≡ Some p → d < length old
+      → new ≡ set old d (Some o)
       → R q o
       → (e : ℕ) → DraftOf R (find e (replaced d q ps)) (draft_at new e)
   appended_represents d p q o there lt is represents e =
       elim (cases_eq d e) [
-        | inl same ↦ rw (sym same, find_replaced_same d p q ps there, is, get_or-set_same old d (Some o) None lt) represents
+        | inl same ↦ rw (sym same, find_replaced_same d p q ps there, is, get_or-set_same old d (Some o) None lt)
+            represents
         | inr other ↦
             rw (find_replaced_other d e q ps other, is, get_or-set_other old d e (Some o) None (λ s. other (sym s)))
             (all e)

@@ -42,7 +42,8 @@ module _ (x : IndexSet) where
       grind (arith, nat_tests, all.0.represents.number_is, other 0)
 
   -- another slot for the upload at the number's place
-  pub put : (n : ℕ) (us : List (ℕ × Upload)) (ss : List Slot) (place : ℕ) (u' : Upload) (s' : Slot) → AllRepresent x us ss
+  pub put : (n : ℕ) (us : List (ℕ × Upload)) (ss : List Slot) (place : ℕ) (u' : Upload) (s' : Slot)
+      → AllRepresent x us ss
       → place < length ss
       → slice_index (numbers ss) place ≡ n → ((k : ℕ) → k < place → slice_index (numbers ss) k ≡ n → ⊥)
       → SlotRepresents x n u' s'

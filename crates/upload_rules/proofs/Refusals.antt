@@ -19,7 +19,8 @@ use Rattle.upload_rules.specs.Store.{Upload, Store, find, upload_of, with_length
 use Rattle.upload_rules.specs.Store.{patched_at, text_with, is_complete, accepted_count}
 use Rattle.upload_rules.specs.World.{Patch, World, is_there, reached, length_then, completes, patch_text}
 use Rattle.upload_rules.specs.Room.{is_short}
-use Rattle.upload_rules.specs.Calls.{committed_store, length_refusal, commit_refusal, text_refusal, declares_at, longer_patch}
+use Rattle.upload_rules.specs.Calls.{committed_store, length_refusal, commit_refusal, text_refusal, declares_at}
+use Rattle.upload_rules.specs.Calls.{longer_patch}
 use Rattle.upload_rules.specs.Calls.{text_stays, committed, is_empty, declares, appended, or_else, is_idle, dropped}
 use Rattle.enc_model.specs.Indexes.{IndexSet}
 use Rattle.upload_rules.specs.declared.errors.UploadRefusal.{UploadRefusal}
@@ -140,13 +141,15 @@ longer_is w d p piece e f =
     let q : Patch = record p { body = p.body ++ piece } in
     ap (λ b. record q { short = b }) (never_short w d q false e f ∙ sym e)
 
-module _ (t : Table) (w : World) (represents : TableRepresents t w) (d : ℕ) (p : Patch) (there : find d w.patches ≡ Some p)
+module _ (t : Table) (w : World) (represents : TableRepresents t w) (d : ℕ) (p : Patch)
+    (there : find d w.patches ≡ Some p)
   where
     -- the append of the draft is the patch's
     pub append_is : (o : OpenAppend) → Some o ≡ draft_at t.appends.items d → AppendRepresents w.store.indexes
         w.store.next p o
     append_is o is =
-        let a = draft_of (AppendRepresents w.store.indexes w.store.next) p (find d w.patches) (draft_at t.appends.items d)
+        let a = draft_of (AppendRepresents w.store.indexes w.store.next) p (find d w.patches)
+        (draft_at t.appends.items d)
         there (represents.appends d) in
         rw (same_Some a.0 o (sym a.1 ∙ sym is)) at a.2
 
@@ -157,12 +160,14 @@ module _ (t : Table) (w : World) (represents : TableRepresents t w) (d : ℕ) (p
       put_back : v.items ≡ set t.appends.items d (Some new)
       put_back = back ∙ ap (λ l. set l d (Some new)) gone ∙ set-set t.appends.items d None (Some new)
 
-      pub fed : (piece : List ℕ) → AppendRepresents w.store.indexes w.store.next (record p { body = p.body ++ piece }) new
+      pub fed : (piece : List ℕ) → AppendRepresents w.store.indexes w.store.next (record p { body = p.body ++ piece })
+          new
           → TableRepresents (record t { appends = v }) (appended w d piece)
       fed piece held =
           let q = longer_is w d p piece (append_is o is).roomy represents.unlimited in
           rw (there, q)
-          (appends_more t w represents d p (p.body ++ piece) new v there (in_range t.appends.items d o is) put_back held)
+          (appends_more t w represents d p (p.body ++ piece) new v there (in_range t.appends.items d o is) put_back
+          held)
 
       pub not_fed : AppendRepresents w.store.indexes w.store.next p new → TableRepresents (record t { appends = v }) w
       not_fed held =
@@ -190,7 +195,8 @@ module _ (t : Table) (w : World) (represents : TableRepresents t w) (d : ℕ) (p
         pub refused_offset : (s.record.accepted ≡ o.offset → ⊥)
             → (commit_refusal w d p ≡ Some refusals.Offset) × TableRepresents (record t { appends = v }) (dropped w d)
         refused_offset other = (
-          other_offset w d p upload.0 upload.1 (λ e. other (upload.2.represents.accepted ∙ e ∙ sym (append_is o is).offset)),
+          other_offset w d p upload.0 upload.1 (λ e. other (upload.2.represents.accepted ∙ e
+              ∙ sym (append_is o is).offset)),
           drops t w represents d v gone,
         )
 
@@ -280,7 +286,8 @@ module _ (t : Table) (w : World) (represents : TableRepresents t w) (d : ℕ) (p
                   ap (λ z. replaced p.number z ups) (with_nothing u) ∙ replaced_same p.number u ups there_is in
                   subst (λ us. TableRepresents (record t { slots = slots; appends = v })
                   (record w { store = record w.store { uploads = us }; patches = without d w.patches })) back
-                  (puts (record t { appends = v }) (dropped w d) (drops t w represents d v gone) p.number u None [] place
+                  (puts (record t { appends = v }) (dropped w d) (drops t w represents d v gone) p.number u None []
+                  place
                   new
                   slots there_is first_of_patch inside after_put
                   (rw (with_nothing u) slot_is))
@@ -324,7 +331,8 @@ module _ (t : Table) (w : World) (represents : TableRepresents t w) (d : ℕ) (p
                 (
                   put.0,
                   rw (store_longer w.store p u there_is brings_is)
-                      (puts (record t { appends = v }) (dropped w d) (drops t w represents d v gone) p.number u p.declare
+                      (puts (record t { appends = v }) (dropped w d) (drops t w represents d v gone) p.number u
+                      p.declare
                       p.body place new slots there_is first_of_patch inside after_put put.2),
                 ),
               )

@@ -38,7 +38,8 @@ decode_more : (t : Tables) (e : Encoding) (b c : List ℕ) → fed_of (decoded t
 decode_more t e b c = ap fed_of (sym (advance_more t e b c)) ∙ fed_more t e (decoded t e b false) c
 
 -- from any phase, more bytes are fed after these
-fed_both : (t : Tables) (e : Encoding) (p : Phase) (b c : List ℕ) → fed_text t e p (b ++ c) ≡ (let r = fed_text t e p b in
+fed_both : (t : Tables) (e : Encoding) (p : Phase) (b c : List ℕ)
+    → fed_text t e p (b ++ c) ≡ (let r = fed_text t e p b in
     let q = fed_text t e r.phase c in record { text = r.text ++ q.text; phase = q.phase })
 unfolding fed_text
 fed_both t e (Before h) b c =

@@ -19,7 +19,8 @@ over : (s r : Transcoder) → s.from ≡ r.from → s.to ≡ r.to → s.mode ≡
 over s r e1 e2 e3 e4 e5 = rw (e1, e2, e3, e4, e5) refl
 
 -- a transcoder that stands where an open text's bytes end
-pub reads : (x : IndexSet) (u : Upload) (bytes : List ℕ) (t : TranscoderState) → (text_with x u bytes false).fault ≡ None
+pub reads : (x : IndexSet) (u : Upload) (bytes : List ℕ) (t : TranscoderState)
+    → (text_with x u bytes false).fault ≡ None
     → t ≡ transcoder_state (transcoder_with x u bytes false)
     → IsReading x u bytes t
 reads x u bytes t ok is =
@@ -38,14 +39,16 @@ module _ (x : IndexSet) (u : Upload) (bytes : List ℕ) (t : TranscoderState) (h
   still_open : t.transcoder ≡ transcoder_with x u bytes false
   still_open = over t.transcoder (transcoder_with x u bytes false) here.from here.to here.mode here.phase here.shift
 
-  represents_further : (piece : List ℕ) → text_with x u (bytes ++ piece) false ≡ led_by (text_with x u bytes false).bytes
+  represents_further : (piece : List ℕ) → text_with x u (bytes ++ piece) false ≡ led_by
+      (text_with x u bytes false).bytes
       (added (tables x) t.transcoder piece)
   represents_further piece =
       ap (λ b. text_from (tables x) u.origin u.from u.to u.mode b false) (sym (append_assoc u.accepted bytes piece))
       ∙ text_more (tables x) u.from u.to u.mode u.origin (u.accepted ++ bytes) here.encodable piece
       ∙ ap (λ s. led_by (text_with x u bytes false).bytes (added (tables x) s piece)) (sym still_open)
 
-  represents_ended : text_with x u bytes true ≡ led_by (text_with x u bytes false).bytes (added_end (tables x) t.transcoder)
+  represents_ended : text_with x u bytes true ≡ led_by (text_with x u bytes false).bytes
+      (added_end (tables x) t.transcoder)
   represents_ended =
       text_end (tables x) u.from u.to u.mode u.origin (u.accepted ++ bytes) here.encodable
       ∙ ap (λ s. led_by (text_with x u bytes false).bytes (added_end (tables x) s)) (sym still_open)
@@ -98,7 +101,8 @@ module _ (x : IndexSet) (u : Upload) (bytes : List ℕ) (t : TranscoderState) (h
   at_end : (next : TranscoderState) → next ≡ ended_state t → next.transcoder ≡ transcoder_with x u bytes true
   at_end next is = ap (λ s. s.transcoder) is ∙ rw (here.from, here.to, here.mode) refl
 
-  pub whole_ended : (next : TranscoderState) (state old new : List ℕ) → next ≡ ended_state t → state ≡ state_bytes next.transcoder
+  pub whole_ended : (next : TranscoderState) (state old new : List ℕ) → next ≡ ended_state t
+      → state ≡ state_bytes next.transcoder
       → IsValidState next.transcoder
       → IsRest x u bytes false old → (added_end (tables x) t.transcoder).fault ≡ None
       → new ≡ old ++ (added_end (tables x) t.transcoder).bytes

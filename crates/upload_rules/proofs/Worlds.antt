@@ -11,13 +11,15 @@ use Rattle.upload_rules.specs.declared.table.Table.{Table}
 use Rattle.upload_rules.specs.Store.{New, Upload, find, upload_of, replaced, patched, new_upload}
 use Rattle.upload_rules.specs.World.{Patch, World, is_there, free_number}
 use Rattle.upload_rules.specs.Calls.{created, begun, first_patch, dropped}
-use Rattle.upload_rules.specs.Slots.{AllRepresent, slot_number_of, numbers, IsRising, IsBelow, IsFirstAt, SlotRepresents}
+use Rattle.upload_rules.specs.Slots.{AllRepresent, slot_number_of, numbers, IsRising, IsBelow, IsFirstAt}
+use Rattle.upload_rules.specs.Slots.{SlotRepresents}
 use Rattle.upload_rules.specs.Drafts.{DraftOf, draft_at, IsPlaced}
 use Rattle.upload_rules.specs.Appends.{AppendRepresents}
 use Rattle.enc_model.specs.Indexes.{IndexSet}
 use Rattle.upload_rules.specs.Table.{TableRepresents}
 use Rattle.upload_rules.proofs.FreeNumbers.{is_free}
-use Rattle.upload_rules.proofs.Patches.{apart_without, apart_replaced, held_on, draft_of, patch_there, dropped_represents}
+use Rattle.upload_rules.proofs.Patches.{apart_without, apart_replaced, held_on, draft_of, patch_there}
+use Rattle.upload_rules.proofs.Patches.{dropped_represents}
 use Rattle.upload_rules.proofs.Patches.{appended_represents, begun_represents}
 use Rattle.upload_rules.proofs.Growing.{grown_dropped, grown_longer, grown_begun, grown_created, grown_put}
 use Rattle.upload_rules.proofs.Places.{number_at}
@@ -52,11 +54,14 @@ module _ (t : Table) (w : World) (represents : TableRepresents t w) where
   -- with another append for a patch that has more of its body
   pub appends_more : (d : ℕ) (p : Patch) (body : List ℕ) (o : OpenAppend) (v : Appends) → find d w.patches ≡ Some p
       → d < length t.appends.items
-      → v.items ≡ set t.appends.items d (Some o) → AppendRepresents w.store.indexes w.store.next (record p { body = body })
+      → v.items ≡ set t.appends.items d (Some o) → AppendRepresents w.store.indexes w.store.next
+      (record p { body = body })
       o
-      → TableRepresents (record t { appends = v }) (record w { patches = replaced d (record p { body = body }) w.patches })
+      → TableRepresents (record t { appends = v }) (record w
+      { patches = replaced d (record p { body = body }) w.patches })
   appends_more d p body o v there lt is held =
-      let appends = appended_represents (AppendRepresents w.store.indexes w.store.next) w.patches t.appends.items v.items
+      let appends = appended_represents (AppendRepresents w.store.indexes w.store.next) w.patches t.appends.items
+      v.items
       represents.appends d p (record p { body = body }) o there lt is held in
       let apart = apart_replaced d (record p { body = body }) w.patches represents.apart in
       assumption (grown_longer w represents.grown d p body p.short there)
@@ -79,7 +84,8 @@ module _ (t : Table) (w : World) (represents : TableRepresents t w) where
       let grown = grown_begun w represents.grown n count declare u d there in
       (free, rw (there, sym free) assumption)
     where
-      not_there : (q : Option Patch) (o : Option OpenAppend) → DraftOf (AppendRepresents w.store.indexes w.store.next) q o
+      not_there : (q : Option Patch) (o : Option OpenAppend)
+          → DraftOf (AppendRepresents w.store.indexes w.store.next) q o
           → o ≡ None → q ≡ None
       not_there q o h e = grind arith
 

@@ -27,4 +27,5 @@ found_below x top n u (e ∷ us) (s ∷ ss) all below there =
 pub upload_below : (t : Table) (w : World) → TableRepresents t w → (number : ℕ) (u : Upload)
     → upload_of w.store number ≡ Some u → number < w.store.next
 upload_below t w represents number u there =
-    found_below w.store.indexes w.store.next number u w.store.uploads t.slots.items represents.slots represents.below there
+    found_below w.store.indexes w.store.next number u w.store.uploads t.slots.items represents.slots represents.below
+    there

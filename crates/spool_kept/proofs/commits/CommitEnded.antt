@@ -9,7 +9,8 @@ use Rattle.spool_disk.specs.declared.disk.Disk.{Ghosts}
 use Rattle.spool_disk.specs.Views.{Lasts}
 use Rattle.spool_disk.proofs.Firm.{lasts_more}
 use Rattle.spool_journal.specs.Image.{journal_pages, text_page}
-use Rattle.spool_drafts.specs.Drafts.{EndsAs, EndsAfter, Holds, Carries, IsTailPlaced, IsWholeDraft, committed_len_of, list_of}
+use Rattle.spool_drafts.specs.Drafts.{EndsAs, EndsAfter, Holds, Carries, IsTailPlaced, IsWholeDraft}
+use Rattle.spool_drafts.specs.Drafts.{committed_len_of, list_of}
 use Rattle.spool_drafts.specs.Drafts.{PreservesTail, offset_of, appended_count, open_text}
 use Rattle.spool_drafts.specs.Effect.{Effect, RunsShort}
 use Rattle.spool_drafts.specs.declared.draft.DraftEnd.{DraftEnd}
@@ -50,7 +51,8 @@ pub only_blocks : (h : Holding) (blocks : Held) → blocks.rows ≡ h.blocks.row
 only_blocks h blocks rows = record { same = refl; rows = rows }
 
 -- the same of what is kept, told otherwise
-pub on_unchanged : {D : Type 0} {sure : Bool} {disk : Ghosts D} {d : D} {h k : Holding} {drafts : List (Option SpoolDraft)}
+pub on_unchanged : {D : Type 0} {sure : Bool} {disk : Ghosts D} {d : D} {h k : Holding}
+    {drafts : List (Option SpoolDraft)}
     {number : ℕ} {o : SpoolDraft} {w : World} {p : Patch} → k ≡ h → IsCommit sure disk d h drafts number o w p
     → IsCommit sure disk d k drafts number o w p
 on_unchanged same is = rw same is

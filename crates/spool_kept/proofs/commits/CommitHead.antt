@@ -86,7 +86,8 @@ opened number represents patch taken = record { represents = represents; patch =
 
 module _ {D : Type 0} {sure : Bool} {disk : Ghosts D} {d : D} {h : Holding} {drafts : List (Option SpoolDraft)}
     {number : ℕ} {o : SpoolDraft} {w : World} {p : Patch} (k : IsOpen sure disk d h drafts number o w p) where
-  pub own_draft : DraftRepresents (sure ≡ true) w.store.indexes (disk.current d) (text_page h.layout) h.slots h.blocks.rows
+  pub own_draft : DraftRepresents (sure ≡ true) w.store.indexes (disk.current d) (text_page h.layout) h.slots
+      h.blocks.rows
       w.store p o
   own_draft = search (arith, common_steps)
 

@@ -78,7 +78,8 @@ stopped refusal DiskFault done same none unmade = subst IsLate (sym none) tt
 
 pub on_disk : {D : Type 0} {sure : Bool} (disk : Ghosts D) (d d' : D) (h : Holding) (drafts : List (Option SpoolDraft))
     (w : World) → d' ≡ d → StandsFor sure disk d h drafts w → StandsFor sure disk d' h drafts w
-on_disk {sure = sure} disk d d' h drafts w same represents = subst (λ e. StandsFor sure disk e h drafts w) (sym same) represents
+on_disk {sure = sure} disk d d' h drafts w same represents = subst (λ e. StandsFor sure disk e h drafts w) (sym same)
+    represents
 
 module _ {D : Type 0} {sure : Bool} {disk : Ghosts D} {d d' : D} {h h' : Holding} (only : OnlyReserves h h')
     {drafts : List (Option SpoolDraft)} {number : ℕ} {o : SpoolDraft} (o' : SpoolDraft) {w : World} {p : Patch}
@@ -98,7 +99,8 @@ module _ {D : Type 0} {sure : Bool} {disk : Ghosts D} {d d' : D} {h h' : Holding
       (λ known. (effect.writes (is.represents.stored.honest known)).writes.outside)
 
   -- its blocks are given back
-  pub represents_dropped : {inside : Holding} {blocks : Held} → inside ≡ h' → GivesBack inside.blocks blocks (list_of o')
+  pub represents_dropped : {inside : Holding} {blocks : Held} → inside ≡ h'
+      → GivesBack inside.blocks blocks (list_of o')
       → Stored sure disk d' h' w.store
       → StandsFor sure disk d' (record inside { blocks = blocks }) (set drafts number None) (dropped w number)
   represents_dropped {inside = inside} {blocks = blocks} same given stored =
@@ -141,16 +143,19 @@ module _ {D : Type 0} {sure : Bool} {disk : Ghosts D} {d d' : D} {h h' : Holding
     slots_same = ap (λ (k : Holding). k.slots) only.same
 
     grown : IsGrown (record w { store = after; patches = without number w.patches })
-    grown = grown_put (dropped w number) (grown_dropped w is.represents.represents.grown number is.represents.represents.apart) p.number
+    grown = grown_put (dropped w number) (grown_dropped w is.represents.represents.grown number
+        is.represents.represents.apart) p.number
         (with_length p.began is.still.0) p.declare p.body is.still.1
 
     put_represents : (e : ℕ) → number ≢ e → (r : Patch) (a : SpoolDraft) → find e w.patches ≡ Some r
-        → draft_at drafts e ≡ Some a → DraftRepresents (sure ≡ true) w.store.indexes (disk.current d) (text_page h.layout)
+        → draft_at drafts e ≡ Some a → DraftRepresents (sure ≡ true) w.store.indexes (disk.current d)
+        (text_page h.layout)
         h.slots h.blocks.rows w.store r a → DraftRepresents (sure ≡ true) w.store.indexes (disk.current d'')
         (text_page h.layout) h''.slots h''.blocks.rows after r a
     put_represents e other r a found there s =
         let mid = others e other r a there s in
-        let other_number = other_upload w is.represents.represents.grown p.number (with_length p.began is.still.0) is.still.1
+        let other_number = other_upload w is.represents.represents.grown p.number (with_length p.began is.still.0)
+        is.still.1
         p.declare p.body brings e r found in
         let same : sure ≡ true → (q : ℕ) → PAGE * text_page h.layout ≤ q → disk.current d'' q ≡ disk.current d' q =
         λ known q from. texts known q (rw (← (ap (λ (k : Holding). k.layout) only.same)) at from) in
@@ -168,7 +173,8 @@ module _ {D : Type 0} {sure : Bool} {disk : Ghosts D} {d d' : D} {h h' : Holding
     here : DraftsRepresent (sure ≡ true) w.store.indexes (disk.current d'') (text_page h.layout) h''.slots h''.blocks
         (record w { store = after; patches = without number w.patches }) (set drafts number None)
     here =
-        represents_spent (disk.current d'') h''.slots h''.blocks after number is.represents.represents put_represents grown
+        represents_spent (disk.current d'') h''.slots h''.blocks after number is.represents.represents put_represents
+        grown
         (omega (arith, (rows_handed h' h'' used longer (list_of o') is_longer).size, ap length only.rows))
         (all_handed is.fits on reserved placed is.represents.represents.all h''.blocks hands)
 
@@ -201,13 +207,17 @@ module _ {D : Type 0} {sure : Bool} {disk : Ghosts D} {d d' d'' : D} {h h' : Hol
   current_same known q from = texts known q from ∙ (only known).writes.outside q (λ i. absurd (omega arith))
 
   each_named : (e : ℕ) → DraftOf
-      (DraftRepresents (sure ≡ true) w.store.indexes (disk.current d'') (text_page h.layout) h'.slots h'.blocks.rows named)
+      (DraftRepresents (sure ≡ true) w.store.indexes (disk.current d'') (text_page h.layout) h'.slots h'.blocks.rows
+      named)
       (find e w.patches) (draft_at drafts e)
   each_named e = held_both
-      (DraftRepresents (sure ≡ true) w.store.indexes (disk.current d) (text_page h.layout) h.slots h.blocks.rows w.store)
-      (DraftRepresents (sure ≡ true) w.store.indexes (disk.current d'') (text_page h.layout) h'.slots h'.blocks.rows named)
+      (DraftRepresents (sure ≡ true) w.store.indexes (disk.current d) (text_page h.layout) h.slots h.blocks.rows
+      w.store)
+      (DraftRepresents (sure ≡ true) w.store.indexes (disk.current d'') (text_page h.layout) h'.slots h'.blocks.rows
+      named)
       (find e w.patches) (draft_at drafts e) (λ r a found at s.
-      let before = open_before w represents.represents.grown n append.upload append.there declare [] unknown refl e r found in
+      let before = open_before w represents.represents.grown n append.upload append.there declare [] unknown refl e r
+      found in
       record {
         holds = s.holds;
         below = s.below;

@@ -33,37 +33,39 @@ module _ {slots : List (Option SlotRecord)} (o : SpoolDraft) {slot : ℕ} (r : R
   }
 
   -- so many bytes came, and this length
-  module _ {declare : Option ℕ} (declare_is : declare ≡ declare_of o) {came : ℕ} (came_is : came ≡ appended_count o) where
-    refusal_is : length_refusal r.declared (declare_of o) (offset_of o + appended_count o) ≡ length_refusal r.declared declare
-        (r.accepted + came)
-    refusal_is = search (arith, common_steps)
+  module _ {declare : Option ℕ} (declare_is : declare ≡ declare_of o) {came : ℕ} (came_is : came ≡ appended_count o)
+    where
+      refusal_is : length_refusal r.declared (declare_of o) (offset_of o + appended_count o) ≡ length_refusal r.declared
+          declare
+          (r.accepted + came)
+      refusal_is = search (arith, common_steps)
 
-    pub refused : (e : UploadRefusal) → length_refusal r.declared declare (r.accepted + came) ≡ Some e
-        → Finds slots o (Err e)
-    refused e is =
-        let length_so : HasOtherLength slots o e = record { slot = slot; same = same; refused = refusal_is ∙ is } in
-        elim (length_refused r.declared declare (r.accepted + came) e is) [
-          | inl set ↦ rw set (subst (HasOtherLength slots o) set length_so)
-          | inr long ↦ rw long (subst (HasOtherLength slots o) long length_so)
-        ]
+      pub refused : (e : UploadRefusal) → length_refusal r.declared declare (r.accepted + came) ≡ Some e
+          → Finds slots o (Err e)
+      refused e is =
+          let length_so : HasOtherLength slots o e = record { slot = slot; same = same; refused = refusal_is ∙ is } in
+          elim (length_refused r.declared declare (r.accepted + came) e is) [
+            | inl set ↦ rw set (subst (HasOtherLength slots o) set length_so)
+            | inr long ↦ rw long (subst (HasOtherLength slots o) long length_so)
+          ]
 
-    -- the length is allowed
-    module _ {declared : Option ℕ} (declared_is : declared ≡ known_or r.declared declare)
-        (within : r.accepted + came ≤ longest declared)
-        (allowed : length_refusal r.declared declare (r.accepted + came) ≡ None) (fits : longest declared < 2 ^ 64)
-        (unpacked : IsUnpacked r) {declares : Bool} (declares_is : declares ≡ is_new r.declared declare) where
-      pub found : (stays : Bool)
-          → (stays ≡ true → (came ≡ 0) × (declares ≡ true → is_length declared r.accepted ≡ false))
-          → (stays ≡ false → (0 < came) ⊎ ((declares ≡ true) × (is_length declared r.accepted ≡ true)))
-          → IsFound slots o (record { slot = slot; declares = declares; declared = declared; stays = stays })
-      found stays nothing something = record {
-        same = same;
-        state = record { transcoder = unpacked.transcoder; valid = unpacked.valid; is = unpacked.is };
-        allowed = refusal_is ∙ allowed;
-        declares = declares_is ∙ ap (is_new r.declared) declare_is;
-        declared = declared_is ∙ ap (known_or r.declared) declare_is;
-        within = omega (arith, within, count, came_is);
-        fits = fits;
-        stays = search (arith, common_steps);
-        goes = search (arith, common_steps);
-      }
+      -- the length is allowed
+      module _ {declared : Option ℕ} (declared_is : declared ≡ known_or r.declared declare)
+          (within : r.accepted + came ≤ longest declared)
+          (allowed : length_refusal r.declared declare (r.accepted + came) ≡ None) (fits : longest declared < 2 ^ 64)
+          (unpacked : IsUnpacked r) {declares : Bool} (declares_is : declares ≡ is_new r.declared declare) where
+        pub found : (stays : Bool)
+            → (stays ≡ true → (came ≡ 0) × (declares ≡ true → is_length declared r.accepted ≡ false))
+            → (stays ≡ false → (0 < came) ⊎ ((declares ≡ true) × (is_length declared r.accepted ≡ true)))
+            → IsFound slots o (record { slot = slot; declares = declares; declared = declared; stays = stays })
+        found stays nothing something = record {
+          same = same;
+          state = record { transcoder = unpacked.transcoder; valid = unpacked.valid; is = unpacked.is };
+          allowed = refusal_is ∙ allowed;
+          declares = declares_is ∙ ap (is_new r.declared) declare_is;
+          declared = declared_is ∙ ap (known_or r.declared) declare_is;
+          within = omega (arith, within, count, came_is);
+          fits = fits;
+          stays = search (arith, common_steps);
+          goes = search (arith, common_steps);
+        }

@@ -65,12 +65,13 @@ module _ {D : Type 0} {sure : Bool} {disk : Ghosts D} {d : D} {h : Holding} {old
         → DraftsRepresent (sure ≡ true) w.store.indexes (disk.current d) (text_page h.layout) h.slots h.blocks
         (record w { patches = (place, first_patch n count declare u) ∷ w.patches }) new
     represents_begun u there opens = record {
-      each = begun_represents IsDraft w.patches old new s.represents.each place (first_patch n count declare u) o placed record {
-        holds = opens.1;
-        below = number_below s.stored.view w.store s.stored.shows n u there;
-        carries = λ known still. carries known u there;
-        tail = λ still. owned;
-      };
+      each = begun_represents IsDraft w.patches old new s.represents.each place (first_patch n count declare u) o
+          placed record {
+            holds = opens.1;
+            below = number_below s.stored.view w.store s.stored.shows n u there;
+            carries = λ known still. carries known u there;
+            tail = λ still. owned;
+          };
       apart = (nothing_there, s.represents.apart);
       grown = grown_begun w s.represents.grown n count declare u place there;
       limit = s.represents.limit;

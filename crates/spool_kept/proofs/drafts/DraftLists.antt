@@ -52,7 +52,8 @@ pub given_preserves : {old new : Held} {list : List ℕ} (other : List ℕ) → 
 given_preserves other gives is apart = search (arith, common_steps)
 
 -- a block that is reserved after was not given back, and was reserved
-pub unchanged_out : {old new : Held} {list : List ℕ} (b : ℕ) → GivesBack old new list → get_or new.reserved b false ≡ true
+pub unchanged_out : {old new : Held} {list : List ℕ} (b : ℕ) → GivesBack old new list
+    → get_or new.reserved b false ≡ true
     → IsOut list b
 unchanged_out {new = new} b gives is i lt e = both_ways (get_or new.reserved b false) (rw e at (gives.given i lt)) is
 

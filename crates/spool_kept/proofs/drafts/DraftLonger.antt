@@ -228,7 +228,8 @@ module _ {sure : Type 0} {x : IndexSet} {current : ℕ → ℕ} (current' : ℕ 
     tail = is.tail;
   })
 
-  pub represents_longer : (p q : Patch) → find d w.patches ≡ Some p → IsGrown (record w { patches = replaced d q w.patches })
+  pub represents_longer : (p q : Patch) → find d w.patches ≡ Some p
+      → IsGrown (record w { patches = replaced d q w.patches })
       → DraftRepresents sure x current' first records h'.rows w.store q o'
       → DraftsRepresent sure x current' first records h' (record w { patches = replaced d q w.patches }) new
   represents_longer p q there grown is = record {

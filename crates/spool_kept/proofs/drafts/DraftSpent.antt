@@ -49,7 +49,8 @@ pub rows_handed : (h new : Holding) (used : SlotRecord) (longer : Longer) (more 
     → HasLonger h used longer more new → StaysFree h.blocks.rows new.blocks.rows more
 rows_handed h new used longer more is = search (arith, common_steps)
 
-handed_preserves : (h h' : Held) (list other : List ℕ) → HandsOn h.reserved h'.reserved list → StaysFree h.rows h'.rows list
+handed_preserves : (h h' : Held) (list other : List ℕ) → HandsOn h.reserved h'.reserved list
+    → StaysFree h.rows h'.rows list
     → IsReserved h other → NoneOf list other → IsReserved h' other
 handed_preserves h h' list other hands rows is apart = search (arith, common_steps)
 
@@ -75,7 +76,8 @@ module _ {n : ℕ} {h h' : Held} {old : List (Option SpoolDraft)} {d : ℕ} {o o
       → StaysFree h'.rows h''.rows (list_of o') → DraftsHold n h'' (set old d None)
   fit_handed h'' hands rows =
       fit_changed n h' h'' (set old d (Some o')) (set old d None) d None fit_mid mid_out (nothing_reserved h'' [] refl)
-      (λ e other. handed_preserves h' h'' (list_of o') (lists_at (set old d (Some o')) e) hands rows (fit_mid.reserved e)
+      (λ e other. handed_preserves h' h'' (list_of o') (lists_at (set old d (Some o')) e) hands rows
+      (fit_mid.reserved e)
       (subst (λ (xs : List ℕ). NoneOf xs (lists_at (set old d (Some o')) e)) list_mid (fit_mid.distinct d e other)))
       (λ a e. absurd cc) (λ e other. none_in_nothing [] (lists_at (set old d (Some o')) e) refl)
 
@@ -107,7 +109,8 @@ pub represents_spent : {sure : Type 0} {x : IndexSet} {current : ℕ → ℕ} (c
     → ((b : ℕ) → get_or h'.reserved b false ≡ true → IsInSome (lists_at (set old d None)) b)
     → DraftsRepresent sure x current' first records' h' (record w { store = m; patches = without d w.patches })
     (set old d None)
-represents_spent {sure = sure} {x = x} {current = current} current' {first = first} {records = records} records' {h = h} h'
+represents_spent {sure = sure} {x = x} {current = current} current' {first = first} {records = records} records'
+    {h = h} h'
     {w = w} m {old = old} d represent weaker grown size all =
     grind (arith, common_steps, each_other, find_without_same, find_without_other, changed_out, apart_without)
 
@@ -163,7 +166,8 @@ module _ (w : World) (grown : IsGrown w) (n : ℕ) (u : Upload) (upload : upload
 
 -- the other slots own what they did
 pub others_longer : {h new : Holding} {used : SlotRecord} {longer : Longer} {more : List ℕ}
-    → HasLonger h used longer more new → ((i : ℕ) → i < length more → get_or h.blocks.rows (get_or more i 0) None ≡ None)
+    → HasLonger h used longer more new → ((i : ℕ) → i < length more
+    → get_or h.blocks.rows (get_or more i 0) None ≡ None)
     → SameOthers longer.slot h.blocks.rows new.blocks.rows
 others_longer {h = h} {new = new} {used = used} {longer = longer} {more = more} is no_owner =
     elim (cases_lt 0 (length more)) [

@@ -94,7 +94,8 @@ module _ (n : ℕ) (h h' : Held) (old new : List (Option SpoolDraft)) (d : ℕ) 
   pub fit_dropped : DraftsHold n h old → GivesBack h h' (lists_at old d) → DraftsHold n h' new
   fit_dropped fit gives = search (arith, common_steps)
 
-  pub represents_drop : {sure : Type 0} (x : IndexSet) (current : ℕ → ℕ) (first : ℕ) (records : List (Option SlotRecord))
+  pub represents_drop : {sure : Type 0} (x : IndexSet) (current : ℕ
+      → ℕ) (first : ℕ) (records : List (Option SlotRecord))
       (w : World) → GivesBack h h' (lists_at old d) → DraftsRepresent sure x current first records h w old
       → DraftsRepresent sure x current first records h' (dropped w d) new
   represents_drop {sure = sure} x current first records w gives represent = record {

@@ -12,7 +12,8 @@ use Rattle.spool_texts.specs.Drafts.{IsReserved}
 use Rattle.upload_rules.specs.Drafts.{DraftOf, draft_at}
 use Rattle.upload_rules.specs.Store.{find, upload_of}
 use Rattle.upload_rules.specs.World.{Patch, World}
-use Rattle.spool_kept.specs.Drafting.{DraftRepresents, DraftsFit, DraftsHold, DraftsRepresent, IsOfUpload, StandsFor, list_in}
+use Rattle.spool_kept.specs.Drafting.{DraftRepresents, DraftsFit, DraftsHold, DraftsRepresent, IsOfUpload, StandsFor}
+use Rattle.spool_kept.specs.Drafting.{list_in}
 use Rattle.spool_kept.specs.Drafting.{lists_at}
 use Rattle.spool_catalog.specs.Holding.{Holding, IsUsedBy}
 use Rattle.spool_kept.specs.Terminating.{EachForgets, ForgetsOf, ForgetsTail}
@@ -60,7 +61,8 @@ module _ (number : ℕ) (old new : List (Option SpoolDraft)) (forgets : EachForg
     each_of (Some p) (Some o) None forgot s = absurd forgot
     each_of q o o' forgot s = absurd s
 
-    draft_forgotten : DraftsRepresent sure x current first slots h w old → DraftsRepresent sure x current first slots h w new
+    draft_forgotten : DraftsRepresent sure x current first slots h w old
+        → DraftsRepresent sure x current first slots h w new
     draft_forgotten represent = record {
       each = λ d. each_of (find d w.patches) (draft_at old d) (draft_at new d) (forgets d) (represent.each d);
       apart = represent.apart;
@@ -80,7 +82,8 @@ module _ (number : ℕ) (old new : List (Option SpoolDraft)) (forgets : EachForg
       → upload_of w.store number ≡ None → StandsFor sure disk d h old w → StandsFor sure disk d h new w
   represents_forgotten {sure = sure} {disk = disk} {d = d} {h = h} {w = w} gone represents = record {
     stored = represents.stored;
-    represents = draft_forgotten (sure ≡ true) w.store.indexes (disk.current d) (text_page h.layout) h.slots h.blocks w gone
+    represents = draft_forgotten (sure ≡ true) w.store.indexes (disk.current d) (text_page h.layout) h.slots h.blocks
+        w gone
         represents.represents;
   }
 

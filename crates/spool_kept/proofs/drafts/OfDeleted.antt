@@ -54,7 +54,8 @@ still_grown w number grown = record {
 module _ {h h' : Holding} {number slot : ℕ} (used : IsUsedBy h.slots slot number) (out : IsTakenOut h slot h') where
   module _ {sure : Type 0} (w : World) (current current' : ℕ → ℕ) (first : ℕ)
       (same : sure → (p : ℕ) → PAGE * first ≤ p → current' p ≡ current p) where
-    represents_still : (p : Patch) (o : SpoolDraft) → DraftRepresents sure w.store.indexes current first h.slots h.blocks.rows
+    represents_still : (p : Patch) (o : SpoolDraft) → DraftRepresents sure w.store.indexes current first h.slots
+        h.blocks.rows
         w.store p o → DraftRepresents sure w.store.indexes current' first h'.slots h'.blocks.rows
         (deleted_store w.store number) p o
     represents_still p o s = record {
@@ -76,8 +77,10 @@ module _ {h h' : Holding} {number slot : ℕ} (used : IsUsedBy h.slots slot numb
       {w : World} → StandsFor sure disk d h drafts w → Stored sure disk d' h' (deleted_store w.store number)
       → (sure ≡ true → (p : ℕ) → PAGE * text_page h.layout ≤ p → disk.current d' p ≡ disk.current d p)
       → StandsFor sure disk d' h' drafts (terminated w number)
-  represents_after {sure = sure} {disk = disk} {d = d} {d' = d'} {drafts = drafts} {w = w} represents stored same = record {
-    stored = stored;
-    represents = rw (← out.layout) at (drafts_still w (disk.current d) (disk.current d') (text_page h.layout) same drafts
-        represents.represents);
-  }
+  represents_after {sure = sure} {disk = disk} {d = d} {d' = d'} {drafts = drafts} {w = w} represents stored same =
+      record {
+        stored = stored;
+        represents = rw (← out.layout) at (drafts_still w (disk.current d) (disk.current d') (text_page h.layout) same
+            drafts
+            represents.represents);
+      }

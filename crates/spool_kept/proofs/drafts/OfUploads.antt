@@ -41,7 +41,8 @@ begins_in_slot slots r declare (Ok o) in_slot named after = of_begun slots r o i
 begins_in_slot slots r declare (Err e) in_slot named after = tt
 
 pub begins_below : (next number offset : ℕ) (declare : Option ℕ) (result : Result SpoolDraft UploadRefusal)
-    → number < next → IfOk result (λ o. (upload_number_of o ≡ number) × (offset_of o ≡ offset) × (declare_of o ≡ declare))
+    → number < next → IfOk result (λ o. (upload_number_of o ≡ number) × (offset_of o ≡ offset)
+    × (declare_of o ≡ declare))
     → IfOk result (λ o. upload_number_of o < next)
 begins_below next number offset declare (Ok o) lt named = omega (arith, lt, named.0)
 begins_below next number offset declare (Err e) lt named = tt
@@ -68,7 +69,8 @@ module _ (slots : List (Option SlotRecord)) (longer : Longer) (used : SlotRecord
 
   -- with no fewer bytes, and after which the draft is where it may still be put there
   of_changed : used.accepted ≤ longer.accepted
-      → (used.number ≡ upload_number_of o → longer.accepted ≡ offset_of o → is_length longer.declared longer.accepted ≡ false
+      → (used.number ≡ upload_number_of o → longer.accepted ≡ offset_of o
+      → is_length longer.declared longer.accepted ≡ false
       → IsAfter longer.text_len longer.state o)
       → IsOfUpload (set slots longer.slot (Some (longer_record used longer))) o
   of_changed grows after = search (arith, common_steps)
@@ -140,7 +142,8 @@ fits_declared h h' drafts longer used there only is fit = grind (arith, common_s
 module _ (h h' : Holding) (slot : ℕ) (new : SlotRecord) (room : HasRoomAt h slot) (taken : IsTakenIn h slot new h')
     (number : new.number ≡ h.next) where
   -- the new record has no draft's number
-  was_there : (o : SpoolDraft) → upload_number_of o < h.next → (s : ℕ) (r : SlotRecord) → get_or h'.slots s None ≡ Some r
+  was_there : (o : SpoolDraft) → upload_number_of o < h.next → (s : ℕ) (r : SlotRecord)
+      → get_or h'.slots s None ≡ Some r
       → r.number ≡ upload_number_of o → get_or h.slots s None ≡ Some r
   was_there o below s r e at = search (arith, common_steps)
 

@@ -170,14 +170,22 @@ module _ {D : Type 0} {sure : Bool} {disk : Ghosts D} {d : D} {h new : Holding} 
         let list = get_or h.lists longer.slot [] in
         let long = ap (λ (xs : List ℕ). length xs) append.extension.text
         ∙ length-append (text_of m.indexes append.upload) append.added in
-        let grown : used.text_len ≤ longer.text_len = omega (arith, recorded.text_len, append.extension.text_len, long) in
+        let grown : used.text_len ≤ longer.text_len = omega (
+          arith,
+          recorded.text_len,
+          append.extension.text_len,
+          long,
+        ) in
         let content : text_on (disk.current d) (text_page before.blocks) more
         (longer.text_len - full_bytes used.text_len) ≡ drop (full_bytes used.text_len) (before.texts longer.slot)
-        ++ append.added = rw (recorded.text_len, recorded.text, ← s.has_view.blocks) (append.extension.content known some) in
+        ++ append.added = rw (recorded.text_len, recorded.text, ← s.has_view.blocks)
+        (append.extension.content known some) in
         ap (λ (xs : List ℕ). xs ++ append.added) was ∙ sym (text_longer (disk.current d) (text_page before.blocks)
-        before.rows rows longer.slot used.text_len list (s.has_view.listed longer.slot used there) size (longer.text_len -
+        before.rows rows longer.slot used.text_len list (s.has_view.listed longer.slot used there) size
+        (longer.text_len -
         full_bytes used.text_len) longer.text_len more append.added (listed_now before.rows longer.slot (used.text_len /
-        PAGE) more rows (hands some) no_owner list (omega (arith, size)) (s.has_view.listed longer.slot used there)) (omega
+        PAGE) more rows (hands some) no_owner list (omega (arith, size)) (s.has_view.listed longer.slot used there))
+        (omega
         (arith, grown, may.blocks some)) (cc) (omega (arith, grown)))
     | inr over ↦ search (arith, common_steps)
   ]

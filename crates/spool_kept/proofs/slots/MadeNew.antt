@@ -43,12 +43,14 @@ module _ {D : Type 0} {sure : Bool} {disk : Ghosts D} {d : D} {h : Holding} {m :
   valid = rw next_is at (is.valid (omega (arith, stored.has_view.next, stored.shows.valid.next_least)) small)
 
   shows : Shows (created_view v slot r) (created_store m new)
-  shows = created_shows v m new slot r stored.shows room.within free (is.number_is ∙ next_is) (is.represents m.indexes) valid
+  shows = created_shows v m new slot r stored.shows room.within free (is.number_is
+      ∙ next_is) (is.represents m.indexes) valid
       (omega (arith, room.next, next_is))
 
   texts : sure ≡ true → HasTexts (disk.current d) (created_view v slot r)
   texts known =
-      created_texts v m new slot r stored.shows room.within free (is.number_is ∙ next_is) (is.represents m.indexes) valid
+      created_texts v m new slot r stored.shows room.within free (is.number_is
+      ∙ next_is) (is.represents m.indexes) valid
       (omega (arith, room.next, next_is)) (disk.current d) ((rests_encodes (stored.rests known)).texts)
 
   module _ {pages : List (ℕ × List ℕ)}

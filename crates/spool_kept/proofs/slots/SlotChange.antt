@@ -37,7 +37,8 @@ pub text_else : (v : View) (slot : ℕ) (text : List ℕ) (s : ℕ) → s ≢ sl
 text_else v slot text s other = rw (ne_eqb s slot other) refl
 
 -- a record tells of the upload that has its number
-pub recorded_upload : (v : View) (m : Store) → Shows v m → (s : ℕ) (r : SlotRecord) → slot_at v s ≡ Some r → (u : Upload)
+pub recorded_upload : (v : View) (m : Store) → Shows v m → (s : ℕ) (r : SlotRecord) → slot_at v s ≡ Some r
+    → (u : Upload)
     → find r.number m.uploads ≡ Some u → IsRecordOf m.indexes r (v.texts s) u
 recorded_upload v m shows s r there u found =
     let recorded = shows.recorded s r there in

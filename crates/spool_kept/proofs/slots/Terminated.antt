@@ -66,7 +66,8 @@ module _ {D : Type 0} {sure : Bool} {disk : Ghosts D} {d : D} {h : Holding} {m :
 
       changes : Changes filled old new
       changes =
-          fill old new blocks (but old (sym stored.has_view.blocks) (sym stored.has_view.version) (sym stored.has_view.slots)
+          fill old new blocks (but old (sym stored.has_view.blocks) (sym stored.has_view.version)
+          (sym stored.has_view.slots)
           h'.blocks.rows (rows_but_own slot old.rows h'.blocks.rows frees (blocks_of used.used.text_len)
           (get_or h.lists slot []) (stored.shows.valid.lists slot used.used there)
           (stored.has_view.listed slot used.used there) (stored.has_view.sizes slot used.used there))) refl

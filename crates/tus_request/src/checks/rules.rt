@@ -1,7 +1,8 @@
 //! The checks of the fields, in their order.
 ghost use Rattle.std.specs.Prelude.{◌≡◌, IfOk};
 ghost use Rattle.enc_model.specs.Indexes.{offers};
-ghost use Rattle.tus_request.specs.Checks.{decided, on_all, on_upload, patch_checked, accepted_request, passed_patch, refused};
+ghost use Rattle.tus_request.specs.Checks.{decided, on_all, on_upload, patch_checked, accepted_request, passed_patch};
+ghost use Rattle.tus_request.specs.Checks.{refused};
 ghost use Rattle.tus_request.specs.Checks.{lacks_version};
 ghost use Rattle.tus_request.specs.CheckParts.{asking_shown, verdict_shown};
 ghost use Rattle.tus_request.specs.Shown.{action_shown};

@@ -19,7 +19,8 @@ returns c more u =
       given = inr (
         b.2,
         c.in_ok-pointer.pointer,
-        subst (λ z. found_pointer c.args.pointers.now z ≡ Some c.in_ok-pointer.pointer) same (sym c.in_ok-pointer.ensures),
+        subst (λ z. found_pointer c.args.pointers.now z ≡ Some c.in_ok-pointer.pointer) same
+            (sym c.in_ok-pointer.ensures),
         refl,
       );
     }

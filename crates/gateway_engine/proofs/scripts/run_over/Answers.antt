@@ -23,7 +23,8 @@ returns-in-Err g c = record {
         unbegun g.U.Uploads sure c.args.store (g.W.CountedWrite.contents c.args.writer.now)
             (beginning m blocks) script.0 represents
             (λ known ms among. g.met.U.Uploads.durable c.args.store (at_rest m blocks) ms
-            (subst (λ b. g.U.Uploads.represents c.args.store b (at_rest m blocks)) known represents) among) c.in-Err.fault
+            (subst (λ b. g.U.Uploads.represents c.args.store b (at_rest m blocks)) known represents) among)
+            c.in-Err.fault
             c.in-Err.ensures.err,
       );
   counts = counts_nothing (g.U.Uploads.failures c.args.store) c.args.store c.in-Err.fault c.in-Err.ensures.err;
@@ -41,7 +42,8 @@ returns-in-Err-new-clause-output g c = λ sure m blocks represents.
           (sym c.in-Err-new.ensures.back)
           (unbegun g.U.Uploads sure c.args.store held st script represents
           (λ known ms among. g.met.U.Uploads.durable c.args.store (at_rest m blocks) ms
-          (subst (λ b. g.U.Uploads.represents c.args.store b (at_rest m blocks)) known represents) among) (runs.Stop NoMemory)
+          (subst (λ b. g.U.Uploads.represents c.args.store b (at_rest m blocks)) known represents) among)
+          (runs.Stop NoMemory)
           (inl refl)),
     )
 
@@ -91,7 +93,8 @@ returns-clause-output g c = λ sure m blocks represents.
           (shows_through u c.args.store (store_of gateway) (store_of now) back (stores_of st past)
           c.in-Ok-new.ensures.same c.close-in-Err-run_script.ensures.crash shown))
           (λ past last. last_through u (store_of now) back st past c.close-in-Err-run_script.ensures.crash last)
-          fault (subst (λ b. LinesEnd v (Err fault) (run_lines 1 0 (script_lines b)) (run_from st [])) c.deref.ensures.value
+          fault (subst (λ b. LinesEnd v (Err fault) (run_lines 1 0 (script_lines b)) (run_from st []))
+          c.deref.ensures.value
           (c.in-Err-run_script.ensures.does sure gateway st (run_from st []) prefix at)),
     )
 

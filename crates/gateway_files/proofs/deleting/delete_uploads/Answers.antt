@@ -25,7 +25,8 @@ loop-number-preserved g c =
     ] in (
       unfailed _ _ _ (λ f. absurd (cc)) c.in_ok-there.ensures.counts ∙ c.loop-number.invariant.0,
       λ sure w represents.
-          let is = rw (drop_more numbers i 0 c.loop-number-test.true) at (c.loop-number.invariant.1 sure w represents) in
+          let is = rw (drop_more numbers i 0 c.loop-number-test.true) at
+          (c.loop-number.invariant.1 sure w represents) in
           let at : World = record w { store = is.store } in
           rw both (further g.U.Uploads sure w numbers c.args.uploads.now c.loop-number.uploads
           c.delete_one.new.uploads (get_or numbers i 0) (drop (i + 1) numbers) _ _ c.loop-number.all is
@@ -48,7 +49,8 @@ returns-in_err-there-clause-crash g c w represents =
 
 pub returns-clause-represents : goal.returns-clause-represents
 returns-clause-represents g c sure w represents =
-    done_represents _ _ _ _ _ _ _ _ _ (rw (drop_all c.loop-number.number-index c.args.numbers.now c.loop-number-test.false)
+    done_represents _ _ _ _ _ _ _ _ _ (rw (drop_all c.loop-number.number-index c.args.numbers.now
+    c.loop-number-test.false)
     at (c.loop-number.invariant.1 sure w represents))
 
 pub returns-clause-lines : goal.returns-clause-lines

@@ -56,7 +56,8 @@ returns-in-Ok-clause-lasts g c n m is =
     let s = c.export_uploads-exported.new.uploads in
     let represents = c.in-Ok.ensures.represents n m is in
     inr (rw c.into_disk.ensures.same
-    (lasts_over g.D.Disk c.args.disk (disk_of opened) (disk_of s) (block_count_of opened) (block_count_of s) n m (m ∷ [])
+    (lasts_over g.D.Disk c.args.disk (disk_of opened) (disk_of s) (block_count_of opened) (block_count_of s) n m
+    (m ∷ [])
     (g.met.D.Disk.counts_now c.args.disk) (c.in-Ok.ensures.lasts n m is) (c.in-Ok.ensures.shows n m is) (inl refl)
     (durable-law g.row.D g.D.Disk g.D.Disk-dict
     (record { counts_now = g.met.D.Disk.counts_now; only_now = g.met.D.Disk.only_now }) opened

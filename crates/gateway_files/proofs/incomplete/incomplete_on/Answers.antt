@@ -36,7 +36,8 @@ returns-in-Ok-clause-given g c =
       done =
           done_by _ before after _ _ found.result (λ v m shows has_view. ok_if _ found.result
           (found.ensures.numbers false
-          (at_rest m (Some v.blocks)) (c.in-Ok.ensures.represents_view v m shows has_view) (shown_in_order v m shows))) is.memory;
+          (at_rest m (Some v.blocks)) (c.in-Ok.ensures.represents_view v m shows has_view)
+          (shown_in_order v m shows))) is.memory;
     })
 
 pub returns-in-Err-clause-given : goal.returns-in-Err-clause-given

@@ -5,7 +5,8 @@ use Rattle.gateway_files.proofs.listing.lines_of.Goals as goal
 
 pub loop-init : goal.loop-init
 loop-init g c sure w represents order =
-    reported_first (upload_line c.args.long w.store.indexes) (string_bytes c.new-lines.result) w.store.uploads order.some
+    reported_first (upload_line c.args.long w.store.indexes) (string_bytes c.new-lines.result) w.store.uploads
+    order.some
     c.new-lines.ensures.bytes
 
 pub returns-in_default : goal.returns-in_default

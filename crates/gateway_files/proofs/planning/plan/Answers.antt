@@ -18,4 +18,5 @@ pub loop-preserved : goal.loop-preserved
 loop-preserved g c sure w represents order =
     planned_next w.store.indexes c.args.all (jobs_of c.args.all w.store) (map job_shown c.loop.jobs.items)
     (map job_shown c.push_job.new.jobs.items) w.store.uploads c.loop.number _ c.in-Some.record order.rising
-    c.in-Some.is (c.record_after.ensures sure w represents) (c.loop.invariant sure w represents order) c.in_ok-push_job.ensures
+    c.in-Some.is (c.record_after.ensures sure w represents) (c.loop.invariant sure w represents order)
+    c.in_ok-push_job.ensures

@@ -6,7 +6,8 @@ use Rattle.gateway_engine.proofs.OnDisk.{view_room}
 use Rattle.gateway_rounds.specs.declared.faults.RunFault.TheVariants.{Script}
 use Rattle.gateway_rounds.specs.Rounds.{PassesRun, read_of}
 use Rattle.gateway_rounds.proofs.Passing.{counts_ran, counts_reported_of, counts_unopened, is_spool, ran, read_opens}
-use Rattle.gateway_rounds.proofs.Passing.{refusals_done, refusals_none, refusals_reported, still_shown, reported, unopened}
+use Rattle.gateway_rounds.proofs.Passing.{refusals_done, refusals_none, refusals_reported, still_shown, reported}
+use Rattle.gateway_rounds.proofs.Passing.{unopened}
 use Rattle.gateway_rounds.proofs.round.live_run.Goals as goal
 
 pub returns-in-Err : goal.returns-in-Err
@@ -23,7 +24,8 @@ returns-in-Err g c n before all =
     (subst (λ (size : ℕ). PAGE * all_pages n ≤ size) (sym answer_is.size) is.room) in
     let lived = unopened disk given back n before m.0 (g.met.D.Disk.counts_now back) (g.met.D.Disk.only_now given) all
     m.1 c.args.round.now.written.bytes.items (read_of c.args.round.now.script.items) _ fault
-    (answer_is.opened is.honest is.shows.view is.shows.shows.valid is.shows.is (view_room disk given n m.0 is)) still in (
+    (answer_is.opened is.honest is.shows.view is.shows.shows.valid is.shows.is (view_room disk given n m.0 is))
+    still in (
       lived.0,
       lived.1,
       record {
@@ -72,7 +74,8 @@ returns-in-Err-run g c n before all =
     let m = read_opens disk given n before all in
     let represents = c.in-Ok.ensures.represents n m.0 (is_spool disk given n before m.0 all m.1) in
     let has = c.in-Err-run.ensures.runs m.0 n represents in
-    let lived = reported disk given back n before m.0 (g.met.D.Disk.counts_now back) (g.met.D.Disk.only_now given) all m.1
+    let lived = reported disk given back n before m.0 (g.met.D.Disk.counts_now back) (g.met.D.Disk.only_now given) all
+    m.1
     (disk_of c.in-Ok.spool) c.args.round.now.written.bytes.items c.run.new.writer.bytes.items has.0 fault has.2 in
     rw (c.from.ensures) (
       lived.0,

@@ -5,7 +5,8 @@ use Rattle.spool_image.specs.declared.error.UpgradeError.TheVariants.{Open}
 use Rattle.spool_journal.specs.Image.{all_pages}
 use Rattle.spool_journal.specs.declared.TheConstants.{PAGE}
 use Rattle.spool_catalog.specs.declared.error.OpenFault.TheVariants.{Stop}
-use Rattle.gateway_rounds.proofs.Passing.{all_one, counts_done, counts_reported, done_leaves, err_same, is_spool, left_reported}
+use Rattle.gateway_rounds.proofs.Passing.{all_one, counts_done, counts_reported, done_leaves, err_same, is_spool}
+use Rattle.gateway_rounds.proofs.Passing.{left_reported}
 use Rattle.gateway_rounds.proofs.Passing.{read_opens, refused_leaves, still_shown, upgrade_ends}
 use Rattle.gateway_rounds.proofs.round.live_upgrade.Goals as goal
 

@@ -4,4 +4,5 @@ use Rattle.spool_drafts.proofs.Stays.{has_preserved}
 use Rattle.spool_drafts.proofs.laws.drafts_unchanged.Goals as goal
 
 pub returns : goal.returns
-returns c x current current' first blocks p d = has_preserved current current' first (open_text x p false) blocks d.progress
+returns c x current current' first blocks p d = has_preserved current current' first (open_text x p false) blocks
+    d.progress

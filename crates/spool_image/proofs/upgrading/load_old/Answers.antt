@@ -13,7 +13,8 @@ use Rattle.spool_load.specs.Loaded.{IsFoundOf}
 use Rattle.spool_load.proofs.Faults.{counts_reported, is_stop_error}
 use Rattle.spool_load.proofs.Looks.{ok_no_fault}
 use Rattle.spool_load.proofs.ReadBys.{by_after, loads_by, unread_by}
-use Rattle.spool_load.proofs.Opens.{read_lasts, read_same, read_settled, read_unwritten, recovered_encodes, settled_still}
+use Rattle.spool_load.proofs.Opens.{read_lasts, read_same, read_settled, read_unwritten, recovered_encodes}
+use Rattle.spool_load.proofs.Opens.{settled_still}
 use Rattle.spool_load.proofs.Refused.{found_back, opened_on, read_reason}
 use Rattle.spool_image.proofs.Upgraded.{found_new, found_old, loads_upgrades, old_reason, settled_rests, upgrades_by}
 use Rattle.spool_image.proofs.Upgraded.{unfound_disk_fault, unfound_upgrade}
@@ -35,7 +36,8 @@ returns-in_err-found-clause-refused g c honest =
 pub returns-in_err-found-clause-stays : goal.returns-in_err-found-clause-stays
 returns-in_err-found-clause-stays g c honest v valid is room =
     let device =
-    unfound_disk_fault _ _ c.in_err-found.field-0.0 (IsFoundOf v) (c.in_err-found.ensures.decoded honest v valid is room)
+    unfound_disk_fault _ _ c.in_err-found.field-0.0 (IsFoundOf v)
+    (c.in_err-found.ensures.decoded honest v valid is room)
     (c.in_err-found.ensures.refused honest) in
     search rules
 
@@ -49,7 +51,8 @@ returns-in_err-catalog-clause-decoded g c honest v valid is room =
     (c.read.ensures.reads.gave (c.find.ensures.honest.0 honest) _ (settled_still settled)) v valid found
     (recovered_encodes c.in_ok-found.found.layout v found.blocks settled is)) in
     let up =
-    loads_upgrades Catalog v.version (load_fault c.in_err-catalog.field-0.0) (λ (catalog : Catalog). HasViewAlone catalog v) loads in
+    loads_upgrades Catalog v.version (load_fault c.in_err-catalog.field-0.0)
+    (λ (catalog : Catalog). HasViewAlone catalog v) loads in
     search rules
 
 pub returns-in_err-catalog-clause-refused : goal.returns-in_err-catalog-clause-refused
@@ -68,7 +71,8 @@ returns-in_err-catalog-clause-refused g c honest =
     c.in_err-catalog.ensures.decoded _ (c.read.ensures.reads.gave mid _ (settled_still settled)) v valid found
     (recovered_encodes c.in_ok-found.found.layout v found.blocks settled is)) in
     let old =
-    old_reason (g.D.Disk.size c.args.disk.now) (g.D.Disk.current c.args.disk.now) _ (load_fault c.in_err-catalog.field-0.0)
+    old_reason (g.D.Disk.size c.args.disk.now) (g.D.Disk.current c.args.disk.now) _
+    (load_fault c.in_err-catalog.field-0.0)
     (λ e. found_old (g.D.Disk.size c.args.disk.now) (g.D.Disk.current c.args.disk.now) _ c.in_ok-found.found on
     (search rules)) reason in
     search rules
@@ -135,7 +139,8 @@ pub returns-clause-catalog : goal.returns-clause-catalog
 returns-clause-catalog g c honest v valid is room =
     let settled = c.in_ok-found.ensures.settled honest in
     let found = c.in_ok-found.ensures.decoded honest v valid is room in
-    c.in_ok-catalog.ensures.decoded _ (c.read.ensures.reads.gave (c.find.ensures.honest.0 honest) _ (settled_still settled)) v
+    c.in_ok-catalog.ensures.decoded _ (c.read.ensures.reads.gave (c.find.ensures.honest.0 honest) _
+    (settled_still settled)) v
     valid found
     (recovered_encodes c.in_ok-found.found.layout v found.blocks settled is)
 
@@ -206,7 +211,8 @@ returns-clause-given g c =
     c.in_ok-catalog.ensures.version
     (loads_by _ before after c.in_ok-found.found is c.in_ok-catalog.catalog
     (c.in_ok-catalog.ensures.valid after late is.answer.state)
-    (λ v valid found encodes. c.in_ok-catalog.ensures.decoded after late v valid found encodes)) c.in_ok-catalog.catalog)
+    (λ v valid found encodes. c.in_ok-catalog.ensures.decoded after late v valid found encodes))
+    c.in_ok-catalog.catalog)
 
 pub returns-in_err-found-clause-same : goal.returns-in_err-found-clause-same
 returns-in_err-found-clause-same g c honest none fine =

@@ -73,7 +73,8 @@ returns-in_err-catalog-clause-shows g c n m is fine =
 
 pub returns-clause-upgraded : goal.returns-clause-upgraded
 returns-clause-upgraded g c honest v valid is room =
-    upgrades_late v.version c.rewrite.result (c.in_ok-catalog.ensures.decoded honest v valid is room) c.rewrite.ensures.late
+    upgrades_late v.version c.rewrite.result (c.in_ok-catalog.ensures.decoded honest v valid is room)
+    c.rewrite.ensures.late
 
 pub returns-clause-refused : goal.returns-clause-refused
 returns-clause-refused g c honest =
@@ -86,7 +87,8 @@ returns-clause-valid g c honest =
     let v = opened.view in
     let mid = c.load_old.ensures.honest.0 honest in
     let has_view = opened.has_view.0 in
-    let rests = settled_rests v c.in_ok-catalog.catalog.layout has_view.blocks (c.in_ok-catalog.ensures.settled honest) opened.is in
+    let rests = settled_rests v c.in_ok-catalog.catalog.layout has_view.blocks
+    (c.in_ok-catalog.ensures.settled honest) opened.is in
     on_ok_more c.rewrite.result (λ done. record {
       view = v;
       valid = opened.valid;
@@ -114,7 +116,8 @@ returns-clause-version g c honest is =
 pub returns-clause-already_new : goal.returns-clause-already_new
 returns-clause-already_new g c honest is =
     let opened = c.in_ok-catalog.ensures.valid honest in
-    absurd (opened_is_old (g.D.Disk.size c.args.disk.now) (g.D.Disk.current c.args.disk.now) c.in_ok-catalog.catalog opened
+    absurd (opened_is_old (g.D.Disk.size c.args.disk.now) (g.D.Disk.current c.args.disk.now) c.in_ok-catalog.catalog
+    opened
     (sym opened.has_view.0.version ∙ c.in_ok-catalog.ensures.version) is)
 
 pub returns-clause-damaged : goal.returns-clause-damaged
@@ -125,14 +128,16 @@ returns-clause-damaged g c honest is =
 pub returns-clause-stays : goal.returns-clause-stays
 returns-clause-stays g c honest v valid is room =
     let has_view = (c.in_ok-catalog.ensures.has honest v valid is room).0 in
-    let rests = settled_rests v c.in_ok-catalog.catalog.layout has_view.blocks (c.in_ok-catalog.ensures.settled honest) is in
+    let rests = settled_rests v c.in_ok-catalog.catalog.layout has_view.blocks
+    (c.in_ok-catalog.ensures.settled honest) is in
     untouched_on (λ d. Rests v (g.D.Disk.current d) (g.D.Disk.unsynced d)) (Open (Stop DiskFault)) c.load_old.new.disk
     c.rewrite.new.disk c.rewrite.result rests c.rewrite.ensures.untouched
 
 pub returns-clause-lasts : goal.returns-clause-lasts
 returns-clause-lasts g c honest v valid is room =
     let has_view = (c.in_ok-catalog.ensures.has honest v valid is room).0 in
-    let rests = settled_rests v c.in_ok-catalog.catalog.layout has_view.blocks (c.in_ok-catalog.ensures.settled honest) is in
+    let rests = settled_rests v c.in_ok-catalog.catalog.layout has_view.blocks
+    (c.in_ok-catalog.ensures.settled honest) is in
     lasts_on (lasts_more (c.load_old.ensures.lasts honest v valid is room)
     (λ image one. ⊎_elim (λ here. inl here)
     (λ reads. inr (inl (reads_shows image (g.D.Disk.current c.args.disk.now) v is reads))) one))

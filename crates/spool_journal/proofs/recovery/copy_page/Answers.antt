@@ -13,7 +13,8 @@ returns-clause-placing g c honest j i opened placing lt e =
 
 pub returns-clause-upto : goal.returns-clause-upto
 returns-clause-upto g c honest j i opened placing upto lt e from =
-    c.place.ensures.upto (c.read.ensures.honest.0 honest) i opened (λ p. (c.read.ensures.preserves honest).same p ∙ upto p)
+    c.place.ensures.upto (c.read.ensures.honest.0 honest) i opened (λ p. (c.read.ensures.preserves honest).same p
+    ∙ upto p)
     e
     (λ x below. sym (page_read_at _ opened (PAGE * (3 + i)) _ _ _ (search rules) (ap (λ (n : ℕ). PAGE * n) from)
     (c.in_ok-read.ensures.bytes honest refl) x below (placing_content placing i x lt below)))

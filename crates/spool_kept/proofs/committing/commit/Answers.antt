@@ -118,7 +118,8 @@ returns-then-found-clause-answer g c sure w p s there =
     let left = dropped_out c.args.number c.catalog.view_is c.in-Some.ensures.taken c.taken.ensures.after
     c.give_back-2.ensures s in
     let used = rw (← c.catalog.view_is) at (head.used_is k finds stays new) in
-    let is_there = ap (λ (h : Holding). get_or h.slots c.in-Ok.found.slot None) c.catalog.view_is ∙ finds.same.there in (
+    let is_there = ap (λ (h : Holding). get_or h.slots c.in-Ok.found.slot None) c.catalog.view_is
+    ∙ finds.same.there in (
       head.left_allowed k finds stays,
       (
         c.in_ok-set_length.ensures.count finds.same.used is_there

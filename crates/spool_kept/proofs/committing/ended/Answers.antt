@@ -20,41 +20,43 @@ use Rattle.spool_kept.specs.Drafting.{OnlyReserves}
 use Rattle.spool_kept.specs.Stored.{Stored}
 
 module _ (g : Over) (c : After-end g) {sure : Bool} {drafts : List (Option SpoolDraft)} {number : ℕ} {w : World}
-    {p : Patch} (is : IsCommit sure g.D.Disk c.args.disk.now c.args.catalog.now drafts number c.args.draft.now w p) where
-  abbrev o : SpoolDraft
-  o = c.args.draft.now
+    {p : Patch} (is : IsCommit sure g.D.Disk c.args.disk.now c.args.catalog.now drafts number c.args.draft.now w p)
+  where
+    abbrev o : SpoolDraft
+    o = c.args.draft.now
 
-  abbrev o' : SpoolDraft
-  o' = c.end.new.self
+    abbrev o' : SpoolDraft
+    o' = c.end.new.self
 
-  only : OnlyReserves (the_view c.catalog.inside) (record (the_view c.catalog.inside) { blocks = c.end.new.blocks })
-  only = lemmas.only_blocks _ c.end.new.blocks c.end.ensures.rows
+    only : OnlyReserves (the_view c.catalog.inside) (record (the_view c.catalog.inside) { blocks = c.end.new.blocks })
+    only = lemmas.only_blocks _ c.end.new.blocks c.end.ensures.rows
 
-  here : IsCommit sure g.D.Disk c.args.disk.now (the_view c.catalog.inside) drafts number o w p
-  here = lemmas.on_unchanged c.catalog.view_is is
+    here : IsCommit sure g.D.Disk c.args.disk.now (the_view c.catalog.inside) drafts number o w p
+    here = lemmas.on_unchanged c.catalog.view_is is
 
-  found : IsFound (the_view c.catalog.inside).slots o c.args.found
-  found = subst (λ (h : Holding). IsFound h.slots o c.args.found) (sym c.catalog.view_is) c.requires.found
+    found : IsFound (the_view c.catalog.inside).slots o c.args.found
+    found = subst (λ (h : Holding). IsFound h.slots o c.args.found) (sym c.catalog.view_is) c.requires.found
 
-  sum : c.saturating_add-accepted.result ≡ min (offset_of o + appended_count o) (2 ^ 64 - 1)
-  sum = c.saturating_add-accepted.ensures ∙ ap (λ (n : ℕ). min (n + c.came.result) (2 ^ 64 - 1)) c.offset.ensures
-      ∙ ap (λ (n : ℕ). min (offset_of o + n) (2 ^ 64 - 1)) c.came.ensures
+    sum : c.saturating_add-accepted.result ≡ min (offset_of o + appended_count o) (2 ^ 64 - 1)
+    sum = c.saturating_add-accepted.ensures ∙ ap (λ (n : ℕ). min (n + c.came.result) (2 ^ 64 - 1)) c.offset.ensures
+        ∙ ap (λ (n : ℕ). min (offset_of o + n) (2 ^ 64 - 1)) c.came.ensures
 
-  placed : IsTailPlaced c.catalog.inside.layout o'
-  placed = lemmas.placed_still c.catalog.inside.layout o o' c.end.ensures.same.4 c.end.ensures.same.5
-      (subst (λ (h : Holding). IsTailPlaced h.layout o) (sym c.catalog.view_is) c.requires.placed)
+    placed : IsTailPlaced c.catalog.inside.layout o'
+    placed = lemmas.placed_still c.catalog.inside.layout o o' c.end.ensures.same.4 c.end.ensures.same.5
+        (subst (λ (h : Holding). IsTailPlaced h.layout o) (sym c.catalog.view_is) c.requires.placed)
 
-  ends : EndsAs w.store.indexes p (completes w.store p) o o' c.catalog.inside.blocks c.end.new.blocks c.end.result
-  ends = lemmas.ends_as only o' here c.end.ensures.effect found sum c.is_length-completes.ensures c.end.result
-      c.end.ensures.answer
+    ends : EndsAs w.store.indexes p (completes w.store p) o o' c.catalog.inside.blocks c.end.new.blocks c.end.result
+    ends = lemmas.ends_as only o' here c.end.ensures.effect found sum c.is_length-completes.ensures c.end.result
+        c.end.ensures.answer
 
-  stored : Stored sure g.D.Disk c.end.new.disk (record (the_view c.catalog.inside) { blocks = c.end.new.blocks }) w.store
-  stored = lemmas.stored_after only o' here c.end.ensures.effect c.end.ensures.honest.0
+    stored : Stored sure g.D.Disk c.end.new.disk (record (the_view c.catalog.inside) { blocks = c.end.new.blocks })
+        w.store
+    stored = lemmas.stored_after only o' here c.end.ensures.effect c.end.ensures.honest.0
 
-  quiet : sure ≡ true
-      → Lasts g.D.Disk c.args.disk.now c.end.new.disk (λ image. ImageShows c.args.catalog.now.layout image w.store)
-  quiet known = rw (ap (λ (h : Holding). h.layout) c.catalog.view_is) at
-      (lemmas.quiet_after only o' here c.end.ensures.effect known)
+    quiet : sure ≡ true
+        → Lasts g.D.Disk c.args.disk.now c.end.new.disk (λ image. ImageShows c.args.catalog.now.layout image w.store)
+    quiet known = rw (ap (λ (h : Holding). h.layout) c.catalog.view_is) at
+        (lemmas.quiet_after only o' here c.end.ensures.effect known)
 
 pub returns-in_err-state-clause-stored : goal.returns-in_err-state-clause-stored
 returns-in_err-state-clause-stored g c sure drafts number w p is =

@@ -19,7 +19,8 @@ returns-then-accepted-offset c = record {
   none = λ s has.
       let number = has.number ∙ sym c.number.ensures in
       let at = c.in-Some.ensures.only s (record { used = has.used; there = has.there; is = number }) in
-      c.if-accepted-offset.true (lemmas.has_count has at (there c.in-Some-in_slot.ensures.slot c.record.ensures.slot_record)
+      c.if-accepted-offset.true (lemmas.has_count has at (there c.in-Some-in_slot.ensures.slot
+      c.record.ensures.slot_record)
       ∙ sym c.offset.ensures);
 }
 
@@ -35,7 +36,8 @@ returns-in_err-declared c =
 
 pub returns : goal.returns
 returns c =
-    lemmas.found c.args.draft.now c.record.result.now (there c.in-Some-in_slot.ensures.slot c.record.ensures.slot_record)
+    lemmas.found c.args.draft.now c.record.result.now (there c.in-Some-in_slot.ensures.slot
+    c.record.ensures.slot_record)
     (rw c.number.ensures at c.in-Some.ensures.used) (c.if-accepted-offset.false ∙ c.offset.ensures)
     c.declare-declare.ensures c.came-came.ensures c.in_ok-declared.ensures.0 c.in_ok-declared.ensures.1
     c.in_ok-declared.ensures.2 (search rules) c.record.ensures.unpacked c.is_new-declares.ensures c.stays.result

@@ -23,7 +23,8 @@ fit : (g : Over) (c : After-extend g) → (c.extend.result ≡ Err NoMemory → 
     → DraftsFit c.args.catalog.now drafts → DraftsFit c.extend.new.catalog drafts
 fit g c made drafts before =
     let m = may_of g c in
-    fits_declared c.args.catalog.now c.extend.new.catalog drafts (declared.named m.used c.args.slot c.args.declared) m.used
+    fits_declared c.args.catalog.now c.extend.new.catalog drafts (declared.named m.used c.args.slot c.args.declared)
+    m.used
     m.there (declared.only_declares m) (c.extend.ensures.longer made m.used m.there) before
 
 fit_stopped : (g : Over) (c : After-extend g) (stop : Stop) → c.extend.result ≡ Err stop

@@ -52,7 +52,8 @@ crash g c m stored =
     sym (ap (λ (k : Holding). k.layout) c.catalog.view_is ∙ c.in-Ok.ensures.taken.layout ∙ stored.has_view.blocks) in
     crash_new c.args.new stored c.in-Some.ensures.room (small g c)
     (c.in-Some.ensures.few stored.view m stored.has_view stored.shows) c.new_record-record.ensures
-    (c.in-Ok.ensures.changes stored.view (sym stored.has_view.blocks) (sym stored.has_view.version) (sym stored.has_view.slots))
+    (c.in-Ok.ensures.changes stored.view (sym stored.has_view.blocks) (sym stored.has_view.version)
+    (sym stored.has_view.slots))
     refl
     (λ v' made texts. c.change.ensures.lasts (stored.honest refl) stored.view v' layout (stored.rests refl) made texts)
 
@@ -66,10 +67,12 @@ returns-clause-crash g c = crash g (goal.at.returns-clause-crash g c).After-chan
 
 pub returns-in-Ok-change-clause-fits : goal.returns-in-Ok-change-clause-fits
 returns-in-Ok-change-clause-fits g c drafts fit =
-    fits_created c.args.catalog.now c.prepare_new.new.self c.in-Some.slot c.new_record-record.result c.in-Some.ensures.room
+    fits_created c.args.catalog.now c.prepare_new.new.self c.in-Some.slot c.new_record-record.result
+    c.in-Some.ensures.room
     c.in-Ok.ensures.taken c.new_record-record.ensures.number_is drafts fit
 
 pub returns-clause-fits : goal.returns-clause-fits
 returns-clause-fits g c drafts fit =
-    fits_created c.args.catalog.now c.prepare_new.new.self c.in-Some.slot c.new_record-record.result c.in-Some.ensures.room
+    fits_created c.args.catalog.now c.prepare_new.new.self c.in-Some.slot c.new_record-record.result
+    c.in-Some.ensures.room
     c.in-Ok.ensures.taken c.new_record-record.ensures.number_is drafts fit

@@ -23,7 +23,8 @@ use Rattle.spool_kept.proofs.commits.CommitHead.{opened, own_draft}
 
 pub append-answer-requires-clause-placed : goal.append-answer-requires-clause-placed
 append-answer-requires-clause-placed g c =
-    rw (← c.catalog.view_is) at (c.requires.fits.blocks.placed c.args.number c.in-Some.draft (sym c.in-Some.ensures.taken))
+    rw (← c.catalog.view_is) at (c.requires.fits.blocks.placed c.args.number c.in-Some.draft
+    (sym c.in-Some.ensures.taken))
 
 pub returns-clause-fits : goal.returns-clause-fits
 returns-clause-fits g c =
@@ -36,7 +37,8 @@ returns-clause-fits g c =
     let on = went_back c.args.number new here c.taken.ensures.after c.put_back.ensures effect.grasp in
     record {
       blocks = fit_longer fit.blocks on c.append-answer.ensures.reserved c.append-answer.ensures.placed;
-      below = each_changed (λ (o : SpoolDraft). upload_number_of o < c.catalog.inside.next) before c.put_back.new.drafts.items
+      below = each_changed (λ (o : SpoolDraft). upload_number_of o < c.catalog.inside.next) before
+          c.put_back.new.drafts.items
           c.args.number (Some new) on.changed fit.below
           (λ a e. let below = fit.below c.args.number c.in-Some.draft here in
           omega (arith, ap upload_number_of (same_Some new a e), same.0, below));
@@ -56,7 +58,8 @@ pub returns-clause-quiet : goal.returns-clause-quiet
 returns-clause-quiet g c w p s there =
     let effect = c.append-answer.ensures.effect in
     let v = s.stored.view in
-    let rows = effect.grasp.takes.rows ∙ ap (λ (h : Holding). h.blocks.rows) c.catalog.view_is ∙ s.stored.has_view.rows in
+    let rows = effect.grasp.takes.rows ∙ ap (λ (h : Holding). h.blocks.rows) c.catalog.view_is
+    ∙ s.stored.has_view.rows in
     shows_still g.D.Disk c.args.disk.now c.append-answer.new.disk v effect.own _ (effect.writes (s.stored.honest refl))
     s.stored.shows.valid (sym s.stored.has_view.blocks ∙ sym (ap (λ (h : Holding). h.layout) c.catalog.view_is))
     (s.stored.rests refl) (λ i lt. ap (λ (r : List Row). get_or r (get_or effect.own i 0) None) (sym rows)
@@ -110,7 +113,8 @@ returns-clause-answer g c sure w p s there fits =
     let is_longer = subst (λ (x : IndexSet). IsLonger x (with_piece p piece) o new h h') ix l in
     longer_world w number piece there stored
     (longer_represents p q there (grown_longer w s'.represents.grown number p (p.body ++ piece) q.short there) record {
-      holds = longer_holds s'.represents fit on rows shows s'.stored.has_view.rows c.rows-rows.ensures.reserved fit' p piece
+      holds = longer_holds s'.represents fit on rows shows s'.stored.has_view.rows c.rows-rows.ensures.reserved fit' p
+          piece
           is_longer;
       below = is.below;
       carries = λ known still. longer_carries s'.represents fit on rows shows s'.stored.has_view.rows

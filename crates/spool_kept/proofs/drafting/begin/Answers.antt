@@ -42,7 +42,8 @@ returns-in-Ok-placed-clause-answer g c sure disk w s =
       begin_allowed s n c.args.offset c.args.count c.args.declare (upload_of w.store n) c.in-Ok.draft refl opens,
       begins s n c.args.offset c.args.count c.args.declare c.in-Ok-placed.ensures.ok c.in-Ok.ensures.none
           c.in-Ok.ensures.owned
-          (λ known. c.in-Ok.ensures.carries s.stored.view w.store (g.D.Disk.current disk) s.stored.has_view s.stored.shows
+          (λ known. c.in-Ok.ensures.carries s.stored.view w.store (g.D.Disk.current disk) s.stored.has_view
+          s.stored.shows
           (rests_encodes (s.stored.rests known))) (upload_of w.store n) refl opens,
     )
 

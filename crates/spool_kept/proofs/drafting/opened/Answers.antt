@@ -7,7 +7,8 @@ use Rattle.spool_kept.proofs.drafts.OfUploads.{begins_below, begins_in_slot}
 use Rattle.spool_kept.proofs.drafting.opened.Goals as goal
 
 pub returns-clause-owned : goal.returns-clause-owned
-returns-clause-owned c = tail_owned c.args.catalog.now.slots c.args.catalog.now.blocks.rows c.args.number _ _ c.begin.result
+returns-clause-owned c = tail_owned c.args.catalog.now.slots c.args.catalog.now.blocks.rows c.args.number _ _
+    c.begin.result
     c.in-Some.ensures.owned c.begin.ensures.tail
 
 pub returns-clause-below : goal.returns-clause-below
@@ -17,7 +18,8 @@ returns-clause-below c =
     c.begin.ensures.named
 
 pub returns-clause-of_upload : goal.returns-clause-of_upload
-returns-clause-of_upload c = begins_in_slot c.args.catalog.now.slots c.in-Some.found.upload.now c.args.declare c.begin.result
+returns-clause-of_upload c = begins_in_slot c.args.catalog.now.slots c.in-Some.found.upload.now c.args.declare
+    c.begin.result
     c.in-Some.ensures.in_slot c.begin.ensures.named c.begin.ensures.after
 
 pub returns-clause-opened : goal.returns-clause-opened

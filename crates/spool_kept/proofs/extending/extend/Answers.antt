@@ -21,7 +21,14 @@ write_last-requires-clause-blocks g c i lt =
     let longer = c.in_ok-take_over.ensures.longer c.requires.may.used c.requires.may.there in
     let fits = subst FitsTogether c.catalog.view_is c.catalog.invariant in
     let size = (longer.rows (omega (arith, lt))).size in
-    omega (arith, c.requires.reserved.below i lt, size, fits.row_count, ap (λ (k : Holding). k.layout) c.catalog.view_is)
+    omega (
+      arith,
+      c.requires.reserved.below i lt,
+      size,
+      fits.row_count,
+      ap (λ (k : Holding). k.layout)
+          c.catalog.view_is,
+    )
 
 -- THE DISK
 
@@ -43,7 +50,8 @@ module _ (g : Over) (c : After-change g) {sure : Bool} {m : Store} {n : ℕ} {de
   layout : c.catalog.inside.layout ≡ c.args.catalog.now.layout
   layout = ap (λ (k : Holding). k.layout) c.catalog.view_is ∙ is.layout
 
-  wrote : g.D.Disk.honest c.args.disk.now → OnlyWrites g.D.Disk (journal_pages c.args.catalog.now.layout) c.args.more.now
+  wrote : g.D.Disk.honest c.args.disk.now → OnlyWrites g.D.Disk (journal_pages c.args.catalog.now.layout)
+      c.args.more.now
       c.args.disk.now c.write_last.new.disk
   wrote honest = rw (← layout) (only (c.write_last.ensures.writes honest) (c.write_last.ensures.lasts honest))
 

@@ -107,5 +107,6 @@ returns-in-Ok-change-clause-answer g c sure w represents =
     (sym stored.has_view.blocks ∙ sym same) (stored.rests known)) in (
       may g (goal.at.returns-in-Ok-change-clause-answer g c).In-Some w represents,
       represents_forgotten c.args.number c.args.drafts.now.items c.forget_tails.new.drafts.items c.forget_tails.ensures
-          (none_in_others c.args.number w.store.uploads) (represents_after c.in-Some.ensures.used out represents now texts),
+          (none_in_others c.args.number w.store.uploads) (represents_after c.in-Some.ensures.used out represents now
+          texts),
     )

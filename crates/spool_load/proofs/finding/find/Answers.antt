@@ -25,7 +25,8 @@ none_there : (size : ℕ) (current : ℕ → ℕ) (decoded : Option ℕ) → dec
 none_there size current decoded is shown = subst (λ o. MatchOption o (IsNoSpool size current)
     (EncodesBlocks size current)) is shown
 
-found_refused : {T : Type 0} (size : ℕ) (current : ℕ → ℕ) (n : ℕ) (r : Result T OpenFault) → EncodesBlocks size current n
+found_refused : {T : Type 0} (size : ℕ) (current : ℕ → ℕ) (n : ℕ) (r : Result T OpenFault)
+    → EncodesBlocks size current n
     → IfErr r (RefusedAt n current) → IfErr r (NotFoundFor size current)
 found_refused size current n (Ok t) encodes refused = tt
 found_refused size current n (Err e) encodes refused = found_reason size current (overlaid current) n e encodes refused

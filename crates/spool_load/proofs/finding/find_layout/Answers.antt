@@ -37,7 +37,15 @@ returns-then-len-pages-clause-found g c bytes gave blocks encodes =
     same_Some _ _ (c.in-Some.ensures.encoded blocks (omega (arith, encodes.most))
     (λ i lt. c.in_ok-prefix.ensures.bytes bytes gave i lt ∙ encodes.prefix i lt)) in
     let pages : all_pages c.in-Some-of.layout ≡ all_pages blocks = ap all_pages (c.in-Some-of.ensures.some ∙ e) in
-    omega (arith, pages, encodes.room, c.len-2.ensures, c.pages.ensures, c.if-len-pages.true, c.read_prefix.ensures.size)
+    omega (
+      arith,
+      pages,
+      encodes.room,
+      c.len-2.ensures,
+      c.pages.ensures,
+      c.if-len-pages.true,
+      c.read_prefix.ensures.size,
+    )
 
 some_not_none : {A : Type 0} (o : Option A) (x : A) → o ≡ Some x → IsNone o → ⊥
 some_not_none o x is none = cc

@@ -83,7 +83,8 @@ returns-in_err-catalog-clause-decoded g c bytes gave v valid is encodes =
     let held = c.in_ok-blocks.ensures.decoded bytes parts.2 v valid (sym is.blocks) encodes (search rules) in
     let shown =
     check_reported c.in_err-catalog.field-0.0
-    (c.in_err-catalog.ensures.decoded v valid (sym is.blocks) is.state.version is.state.next indexes slots held.0 held.1) in
+    (c.in_err-catalog.ensures.decoded v valid (sym is.blocks) is.state.version is.state.next indexes slots held.0
+    held.1) in
     search rules
 
 pub returns-in_err-slots-clause-counts : goal.returns-in_err-slots-clause-counts
@@ -120,7 +121,8 @@ returns-clause-valid g c bytes gave found =
     c.in_ok-slots.slots.items c.in_ok-blocks.blocks.rows c.in_ok-indexes.ensures.set c.in_ok-slots.ensures.fits
     (search rules) (search rules) c.in_ok-slots.ensures.long c.in_ok-blocks.ensures.long are (search rules)
     c.in_ok-blocks.ensures.fits c.in_ok-catalog.ensures.distinct c.in_ok-catalog.ensures.whole
-    c.in_ok-blocks.blocks.reserved c.in_ok-catalog.catalog c.in_ok-blocks.ensures.reserved c.in_ok-catalog.ensures.decoded
+    c.in_ok-blocks.blocks.reserved c.in_ok-catalog.catalog c.in_ok-blocks.ensures.reserved
+    c.in_ok-catalog.ensures.decoded
     fields state slots rows
 
 pub returns-in_err-catalog-clause-counts : goal.returns-in_err-catalog-clause-counts
@@ -141,7 +143,8 @@ returns-clause-view g c =
     c.in_ok-slots.slots.items c.in_ok-blocks.blocks.rows c.in_ok-indexes.ensures.set c.in_ok-slots.ensures.fits
     (search rules) (search rules) c.in_ok-slots.ensures.long c.in_ok-blocks.ensures.long are (search rules)
     c.in_ok-blocks.ensures.fits c.in_ok-catalog.ensures.distinct c.in_ok-catalog.ensures.whole
-    c.in_ok-blocks.blocks.reserved c.in_ok-catalog.catalog c.in_ok-blocks.ensures.reserved c.in_ok-catalog.ensures.decoded
+    c.in_ok-blocks.blocks.reserved c.in_ok-catalog.catalog c.in_ok-blocks.ensures.reserved
+    c.in_ok-catalog.ensures.decoded
 
 pub returns-then-not-found-clause-reads : goal.returns-then-not-found-clause-reads
 returns-then-not-found-clause-reads g c = reads_none c.args.disk.now

@@ -9,7 +9,8 @@ use Rattle.spool_catalog.specs.Catalog.{HasViewAlone}
 use Rattle.spool_catalog.specs.declared.catalog.Catalog.{Catalog}
 use Rattle.spool_load.proofs.Faults.{counts_reported, loads_err, is_stop_error}
 use Rattle.spool_load.proofs.Looks.{ok_no_fault}
-use Rattle.spool_load.proofs.Opens.{read_lasts, read_same, read_settled, read_unwritten, recovered_encodes, settled_still}
+use Rattle.spool_load.proofs.Opens.{read_lasts, read_same, read_settled, read_unwritten, recovered_encodes}
+use Rattle.spool_load.proofs.Opens.{settled_still}
 use Rattle.spool_load.proofs.Refused.{found_back, opened_on, read_reason, unfound_reason}
 use Rattle.spool_load.proofs.ReadBys.{by_after, loads_by, unfound_by, unread_by}
 use Rattle.spool_pages.specs.View.{IsViewOf}
@@ -35,7 +36,8 @@ pub returns-clause-decoded : goal.returns-clause-decoded
 returns-clause-decoded g c honest v valid is room =
     let settled = c.in_ok-found.ensures.settled honest in
     let found = c.in_ok-found.ensures.decoded honest v valid is room in
-    c.in_ok-catalog.ensures.decoded _ (c.read.ensures.reads.gave (c.find.ensures.honest.0 honest) _ (settled_still settled)) v
+    c.in_ok-catalog.ensures.decoded _ (c.read.ensures.reads.gave (c.find.ensures.honest.0 honest) _
+    (settled_still settled)) v
     valid found
     (recovered_encodes c.in_ok-found.found.layout v found.blocks settled is)
 

@@ -10,7 +10,8 @@ pub returns-in_err-load_page-clause-decoded : goal.returns-in_err-load_page-clau
 returns-in_err-load_page-clause-decoded g c bytes gave all long fits are_at =
     let inv = c.loop-page.invariant in
     let read =
-    c.in_err-load_page.ensures.decoded bytes (gave_rest inv.reads c.load_page.ensures.reads gave) all (search rules) fits
+    c.in_err-load_page.ensures.decoded bytes (gave_rest inv.reads c.load_page.ensures.reads gave) all (search rules)
+    fits
     are_at (inv.decoded bytes (gave_first inv.reads c.load_page.ensures.reads gave) all long fits are_at) in
     search rules
 

@@ -31,7 +31,8 @@ loop-k-preserved c =
           same_ok _ row _ c.in_ok-row_at.was
           (c.row_at.ensures.encoded (get_or all (first + k) None) (fits (first + k)) (are_at k (search rules))) in
           step_on first k all _
-          (put_same c.loop-k.rows c.put_row.new.rows (first + k) row put others all (inv.decoded all long fits are_at was)
+          (put_same c.loop-k.rows c.put_row.new.rows (first + k) row put others all
+          (inv.decoded all long fits are_at was)
           is);
       valid =
           put_at c.loop-k.rows c.put_row.new.rows (first + k) row put others (byte_of c.args.page.now) first k

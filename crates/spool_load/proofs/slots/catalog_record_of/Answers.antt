@@ -27,7 +27,8 @@ returns-in_ok-slot_there-in-Some-clause-are_at c =
     let padded =
     subst (λ (o : Option SlotRecord). IsPadded bytes (slot_bytes c.args.version o)) c.in-Some.is
     c.in_ok-record.ensures.valid in
-    subst (λ (r : SlotRecord). IsPadded bytes (record_bytes c.args.version r)) (sym c.in_ok-slot_there-in-Some.ensures.same)
+    subst (λ (r : SlotRecord). IsPadded bytes (record_bytes c.args.version r))
+    (sym c.in_ok-slot_there-in-Some.ensures.same)
     padded
 
 pub returns-in_ok-slot_there-in-Some-clause-fits : goal.returns-in_ok-slot_there-in-Some-clause-fits

@@ -29,7 +29,8 @@ returns-clause-fits g c was =
     → Type 0 = λ r. OnOk r ((s : ℕ) → FitsSlotOf (get_or c.push.new.self.items s None)) in
     elim c.match-push.branch [
       | in-Ok w ↦
-          let items : c.push.new.self.items ≡ c.args.slots.now.items ++ c.in_ok-slot_there.slot_there ∷ [] = search rules in
+          let items : c.push.new.self.items ≡ c.args.slots.now.items ++ c.in_ok-slot_there.slot_there ∷ [] = search
+          rules in
           subst P (sym w.result-is)
           (fit_push c.args.slots.now.items c.in_ok-slot_there.slot_there _ items was c.in_ok-slot_there.ensures.fits)
       | in-Err w ↦ subst P (sym w.result-is) tt

@@ -8,4 +8,5 @@ returns-clause-text c current current' first len list blocks same apart =
     ap (λ (xs : List ℕ). take len xs) (blocks_unchanged current current' first list blocks same apart)
 
 pub returns-clause-bytes : goal.returns-clause-bytes
-returns-clause-bytes c current current' first draft blocks same = bytes_unchanged current current' first blocks same draft
+returns-clause-bytes c current current' first draft blocks same = bytes_unchanged current current' first blocks same
+    draft

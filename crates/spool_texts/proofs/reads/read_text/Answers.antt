@@ -25,7 +25,8 @@ loop-done-preserved g c =
       counts = no_failure c.read_piece.ensures.counts (not_err _ _ c.in_ok-done.was) ∙ inv.counts;
       preserves = λ honest. preserves_on (inv.preserves honest) (c.read_piece.ensures.preserves (inv.honest honest));
       lasts = λ honest. lasts_on (inv.lasts honest)
-          (lasts_more (c.read_piece.ensures.lasts (inv.honest honest)) (λ image is. image_preserves (inv.preserves honest) is));
+          (lasts_more (c.read_piece.ensures.lasts (inv.honest honest))
+          (λ image is. image_preserves (inv.preserves honest) is));
       within = omega (
         arith,
         few,

@@ -17,7 +17,8 @@ returns-in-Ok-give_more-clause-answer g c = λ sure w r represents bare closes.
     (get w r n (upload_of w.store n))) (sym c.giving.ensures)
     (get_acts_as g.U.Uploads c.give_more.new.store w r n rec c.in-Ok-give_more.given old c.reply_text.new.out.items
     c.give_more.new.out.items
-    c.args.bare c.args.closes (upload_of w.store n) (λ v is. g.met.U.Uploads.below c.args.store.now sure w n v represents
+    c.args.bare c.args.closes (upload_of w.store n) (λ v is. g.met.U.Uploads.below c.args.store.now sure w n v
+    represents
     is)
     refl is_record bare c.if-bare.false closes c.in-Ok.ensures.ok
     (λ h is. c.in-Ok-give_more.ensures.answer sure w h represents is))
@@ -42,5 +43,6 @@ returns-then-bare-clause-answer g c = λ sure w r represents bare closes.
     let n = c.args.number in
     get_bare g.U.Uploads sure c.args.store.now w r n c.in-Some.record.now c.args.out.now.items
     c.reply_text.new.out.items
-    c.args.bare c.args.closes (upload_of w.store n) (c.in-Some.ensures.recorded sure w represents) bare c.if-bare.true closes
+    c.args.bare c.args.closes (upload_of w.store n) (c.in-Some.ensures.recorded sure w represents) bare c.if-bare.true
+    closes
     c.in-Ok.ensures.ok represents

@@ -6,5 +6,6 @@ use Rattle.tus_request.proofs.metadata.read_pairs.Given as goal
 
 abbrev pub invariant-loop-part : goal.invariant-loop-part
 invariant-loop-part l =
-    key_values_from (Some (map pair_shown l.pairs.items)) (drop (length l.yielded) (map (trimmed (32 ∷ [])) (parts l.text)))
+    key_values_from (Some (map pair_shown l.pairs.items)) (drop (length l.yielded)
+    (map (trimmed (32 ∷ [])) (parts l.text)))
     ≡ key_values_from (Some []) (map (trimmed (32 ∷ [])) (parts l.text))

@@ -3,8 +3,13 @@ use Rattle.tus_session.proofs.Feeding.{part_stops}
 use Rattle.tus_session.proofs.bodies.go_on.Goals as goal
 
 pub returns-clause-answer : goal.returns-clause-answer
-returns-clause-answer g c sure w p represents found holds few =
-    (c.in_ok-patch.patch, assumption (c.in_ok-patch.ensures.answer sure w p represents found holds few, c.waits.ensures))
+returns-clause-answer g c sure w p represents found holds few = (
+  c.in_ok-patch.patch,
+  assumption (
+    c.in_ok-patch.ensures.answer sure w p represents found holds few,
+    c.waits.ensures,
+  ),
+)
 
 pub returns-in_err-patch-clause-answer : goal.returns-in_err-patch-clause-answer
 returns-in_err-patch-clause-answer g c sure w p represents found holds few =

@@ -33,7 +33,8 @@ returns-clause-answer g c sure w p r represents found holds all reached bare clo
     let after = is.reached ∙ reached_fed w d p c.args.bytes.now c.args.patch.reached all reached in
     let answer_is = rw is.number at (c.in_ok-finish.ensures.answer sure _ _ r is.shown (rw is.number is.found) is.holds
     after (is.bare ∙ bare) (is.closes ∙ closes)) in
-    answered_as g.U.Uploads sure _ _ _ _ c.args.head _ _ c.args.patch.closes answer_is.0 closes c.after_reply.ensures answer_is.1
+    answered_as g.U.Uploads sure _ _ _ _ c.args.head _ _ c.args.patch.closes answer_is.0 closes c.after_reply.ensures
+    answer_is.1
 
 pub returns-in_err-finish-clause-crash : goal.returns-in_err-finish-clause-crash
 returns-in_err-finish-clause-crash g c w p r represents found holds few =

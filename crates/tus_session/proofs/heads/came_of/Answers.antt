@@ -11,7 +11,8 @@ use Rattle.tus_session.proofs.BodyResults.{patch_replied, left_wanted, rest_stor
 use Rattle.tus_session.proofs.heads.came_of.Goals as goal
 
 pub returns-in-Head-clause-crash : goal.returns-in-Head-clause-crash
-returns-in-Head-clause-crash g c w conn represents link = c.head_of.ensures.crash w conn represents (rw c.in-Head.is at link)
+returns-in-Head-clause-crash g c w conn represents link = c.head_of.ensures.crash w conn represents
+    (rw c.in-Head.is at link)
 
 pub returns-in-Head-clause-unmade : goal.returns-in-Head-clause-unmade
 returns-in-Head-clause-unmade g c w conn represents link none_left =

@@ -41,7 +41,8 @@ request_of-requires-clause-within g c =
 
 pub returns-in-More-clause-answer : goal.returns-in-More-clause-answer
 returns-in-More-clause-answer g c sure w conn represents inside =
-    more_replied g.U.Uploads sure _ _ _ w conn (head_bytes c.args.head) c.args.bytes.now c.read_by.new.self represents inside
+    more_replied g.U.Uploads sure _ _ _ w conn (head_bytes c.args.head) c.args.bytes.now c.read_by.new.self represents
+    inside
     (in_world w c.indexes.result.now _ _ (c.indexes.ensures sure w represents)
     (rw c.in-More.is at c.in_ok-parsed.ensures.function))
     (rw c.in-More.is at c.in_ok-parsed.ensures.rest) c.waits.ensures

@@ -3,7 +3,8 @@ use Rattle.std.proofs.lemmas.Result.{err_from_is_err_and}
 use Rattle.tus_request.specs.Shown.{request_shown}
 use Rattle.tus_action.specs.declared.bodies.OpenPatch.{OpenPatch}
 use Rattle.tus_session.proofs.Feeding.{head_stopped}
-use Rattle.tus_session.proofs.HeadResults.{slice_is, slice_rest, head_limits, nothing_replied, text_recorded, begun, patch_opened}
+use Rattle.tus_session.proofs.HeadResults.{slice_is, slice_rest, head_limits, nothing_replied, text_recorded, begun}
+use Rattle.tus_session.proofs.HeadResults.{patch_opened}
 use Rattle.tus_session.proofs.HeadResults.{patch_limits}
 use Rattle.tus_session.proofs.heads.request_of.Goals as goal
 
@@ -47,7 +48,8 @@ returns-in-Opened-clause-answer g c sure w conn h n represents is =
       closes = c.args.request.closes;
     } in
     let x = begun g.U.Uploads sure w r _ c.act.new.store _ _ b
-    (rw c.in-Opened.is at (c.in_ok-done.ensures.answer sure w represents)) (c.reached_by-reached.ensures c.requires.small)
+    (rw c.in-Opened.is at (c.in_ok-done.ensures.answer sure w represents))
+    (c.reached_by-reached.ensures c.requires.small)
     refl refl (λ n up there. g.met.U.Uploads.below c.args.store.now sure w n up represents there) in
     let p = x.patches in
     let body = c.body_of-turned.ensures in
@@ -71,7 +73,8 @@ returns-in-Opened-clause-crash g c w conn h n represents is =
       closes = c.args.request.closes;
     } in
     let x = begun g.U.Uploads true w r _ c.act.new.store _ _ b
-    (rw c.in-Opened.is at (c.in_ok-done.ensures.answer true w represents)) (c.reached_by-reached.ensures c.requires.small)
+    (rw c.in-Opened.is at (c.in_ok-done.ensures.answer true w represents))
+    (c.reached_by-reached.ensures c.requires.small)
     refl refl (λ n up there. g.met.U.Uploads.below c.args.store.now true w n up represents there) in
     let p = x.patches in
     patch_limits g.U.Uploads true w conn h c.args.bytes.now n c.args.before _ is b c.act.new.store _ _ x _

@@ -67,7 +67,8 @@ returns-in_err-flush g c =
     let t = tables c.args.set.now in
     let e = c.args.self.now in
     let run = c.args.run.now in
-    let still_held = prefix_all t e run c.loop-rest.rest.now c.args.out.now c.loop-rest.out c.loop-rest.held c.loop-rest.shift
+    let still_held = prefix_all t e run c.loop-rest.rest.now c.args.out.now c.loop-rest.out c.loop-rest.held
+    c.loop-rest.shift
     c.loop-rest.invariant.1 c.loop-rest-test.ensures in
     let p = err_from_is_err_and c.from_residual-in_err-flush.result c.from_residual-in_err-flush.ensures.1 in
     rw (p.1, p.2) (unflushed (code_from t e (chars run)) c.args.out.now c.loop-rest.out c.flush.new.out c.loop-rest.held
@@ -78,7 +79,8 @@ returns g c =
     let t = tables c.args.set.now in
     let e = c.args.self.now in
     let run = c.args.run.now in
-    let still_held = prefix_all t e run c.loop-rest.rest.now c.args.out.now c.loop-rest.out c.loop-rest.held c.loop-rest.shift
+    let still_held = prefix_all t e run c.loop-rest.rest.now c.args.out.now c.loop-rest.out c.loop-rest.held
+    c.loop-rest.shift
     c.loop-rest.invariant.1 c.loop-rest-test.ensures in
     flushed (code_from t e (chars run)) c.args.out.now c.loop-rest.out c.flush.new.out c.loop-rest.held
     c.loop-rest.shift still_held c.in_ok-flush.ensures.ok.0

@@ -76,6 +76,7 @@ returns g c =
     let code = coded (encoder (tables c.args.set.now) c.args.self.now.to) c.args.self.now.mode (shift_of c.args.shift)
     (c.args.c ∷ []) in
     let done = c.in_ok-flush.ensures.ok in
-    subst (λ still_held. HoldsCode code c.args.out.now c.args.held.now c.encode.new.out still_held c.encode.result) (sym done.1)
+    subst (λ still_held. HoldsCode code c.args.out.now c.args.held.now c.encode.new.out still_held c.encode.result)
+    (sym done.1)
     (held_given code c.args.out.now c.args.held.now c.flush.new.out c.encode.new.out c.encode.result done.0
     c.encode.ensures)

@@ -63,7 +63,8 @@ returns-in-Wrote-clause-ok g c =
     let x = c.in-Some-next.c in
     let next = c.in-Wrote.next in
     let once = coded_once (tables c.args.set.now) e.to e.mode (shift_of c.args.shift) x
-    (Wrote (code_bytes c.in-Wrote.bytes) (shift_of next)) (rw (c.requires.same, c.in-Wrote.is) at c.written.ensures) tt in
+    (Wrote (code_bytes c.in-Wrote.bytes) (shift_of next)) (rw (c.requires.same, c.in-Wrote.is) at c.written.ensures)
+    tt in
     rw c.as_str.ensures
     (char_held (tables c.args.set.now) e c.args.text.now (chars_rest c.next.new.self) x c.args.shift c.args.out.now
     c.args.held.now c.hold.new.out c.hold.new.self (Ok next) c.utf8.text

@@ -8,7 +8,8 @@ abbrev pub invariant-loop-place : goal.invariant-loop-place
 invariant-loop-place l = record {
   within : l.place ≤ length l.codes;
   long : length l.at.items ≡ l.count;
-  least : (c : ℕ) → found_pointer l.at.items c ≡ pointer_where (includes l.usable) (pairs_from l.place (drop l.place l.codes)) c;
+  least : (c : ℕ) → found_pointer l.at.items c ≡ pointer_where (includes l.usable)
+      (pairs_from l.place (drop l.place l.codes)) c;
 }
 
 abbrev pub decreases-loop-place : goal.decreases-loop-place

@@ -15,7 +15,8 @@ returns-then-not-is_empty-clause-text c =
     c.push_str.new.self)
     same
     (text_gathered s c.args.rest.now text.result.now c.push_few-few.new.batch c.push_str.new.self
-    (at_start i.needed i.lower i.upper i.point i.current i.partial s c.self.view_is c.self.invariant.0 c.if-self-ne0.false)
+    (at_start i.needed i.lower i.upper i.point i.current i.partial s c.self.view_is c.self.invariant.0
+    c.if-self-ne0.false)
     text.utf8 text.ensures c.push_str.ensures)
 
 pub returns-then-not-is_empty-clause-state : goal.returns-then-not-is_empty-clause-state

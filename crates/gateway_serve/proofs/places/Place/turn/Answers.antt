@@ -13,7 +13,8 @@ returns-in-Ok-clause-serves g c = λ sure before st past went joins.
     let reported : Result (Unit {0}) DiskFault = Ok tt in
     let s = c.in-Ok-Lost.ensures.serves sure before st past ended went (rw c.in-Open.is at joins) in
     alone_after g.C.Connections sure before c.end.new.gateway st n past s.0
-    (λ p. PlaceJoins sure c.end.new.self ended' st p n) (λ p. PlaceFell sure c.end.new.self ended' st p n) reported s.2.0
+    (λ p. PlaceJoins sure c.end.new.self ended' st p n) (λ p. PlaceFell sure c.end.new.self ended' st p n) reported
+    s.2.0
     (c.in-Ok.ensures.serves sure before st s.0 s.1 s.2.1)
 
 pub returns-in-Err-end-clause-serves : goal.returns-in-Err-end-clause-serves
@@ -24,5 +25,6 @@ returns-in-Err-end-clause-serves g c = λ sure before st past went joins.
     let reported : Result (Unit {0}) DiskFault = Err c.in-Err-end.fault in
     let s = c.in-Ok-Lost.ensures.serves sure before st past ended went (rw c.in-Open.is at joins) in
     alone_after g.C.Connections sure before c.end.new.gateway st n past s.0
-    (λ p. PlaceJoins sure c.end.new.self ended' st p n) (λ p. PlaceFell sure c.end.new.self ended' st p n) reported s.2.0
+    (λ p. PlaceJoins sure c.end.new.self ended' st p n) (λ p. PlaceFell sure c.end.new.self ended' st p n) reported
+    s.2.0
     (c.in-Err-end.ensures.serves sure before st s.0 s.1 s.2.1)

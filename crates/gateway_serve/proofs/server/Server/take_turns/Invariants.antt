@@ -11,7 +11,8 @@ abbrev pub invariant-loop-left : goal.invariant-loop-left
 invariant-loop-left g l =
     let on : Result (Unit {0}) DiskFault = Ok tt in
     (g.C.Connections.failures l.gateway ≡ g.C.Connections.failures l.fn.gateway)
-    × StaysJoined g.C.Connections l.fn.gateway l.gateway on (places_of l.fn.self) (places_of l.self) (ended_of l.fn.self)
+    × StaysJoined g.C.Connections l.fn.gateway l.gateway on (places_of l.fn.self) (places_of l.self)
+    (ended_of l.fn.self)
     (ended_of l.self)
     × AllPreserve g.S.Read.remaining g.S.Write.contents (places_of l.fn.self) (places_of l.self) (ended_of l.fn.self)
     (ended_of l.self)

@@ -21,13 +21,15 @@ returns-in-Ok-clause-count g c m v catalog shows =
 pub returns-in-Err-clause-count : goal.returns-in-Err-clause-count
 returns-in-Err-clause-count g c m v catalog shows =
     let recorded = c.in-Some.ensures.recorded v m catalog shows in
-    let there = text_there m (upload_of m c.args.number) recorded.upload (text_of m.indexes recorded.upload) recorded.there refl in
+    let there = text_there m (upload_of m c.args.number) recorded.upload (text_of m.indexes recorded.upload)
+    recorded.there refl in
     subst (λ (o : Option UploadRefusal). IsLate o) (sym there.0) tt
 
 pub returns-in-Ok-clause-answer : goal.returns-in-Ok-clause-answer
 returns-in-Ok-clause-answer g c honest m v catalog shows encodes =
     let recorded = c.in-Some.ensures.recorded v m catalog shows in
-    let text = c.in-Some.ensures.text v m (g.D.Disk.current c.args.disk.now) catalog shows encodes recorded.upload recorded.there in
+    let text = c.in-Some.ensures.text v m (g.D.Disk.current c.args.disk.now) catalog shows encodes recorded.upload
+    recorded.there in
     let there = text_there m (upload_of m c.args.number) recorded.upload _ recorded.there text in
     let current = g.D.Disk.current c.args.disk.now in
     let layout : c.self.inside.layout ≡ c.args.self.now.layout = ap (λ (k : Holding). k.layout) c.self.view_is in
@@ -39,7 +41,8 @@ returns-in-Ok-clause-answer g c honest m v catalog shows encodes =
 pub returns-in-Err-clause-answer : goal.returns-in-Err-clause-answer
 returns-in-Err-clause-answer g c honest m v catalog shows encodes =
     let recorded = c.in-Some.ensures.recorded v m catalog shows in
-    let text = c.in-Some.ensures.text v m (g.D.Disk.current c.args.disk.now) catalog shows encodes recorded.upload recorded.there in
+    let text = c.in-Some.ensures.text v m (g.D.Disk.current c.args.disk.now) catalog shows encodes recorded.upload
+    recorded.there in
     let there = text_there m (upload_of m c.args.number) recorded.upload _ recorded.there text in
     subst (λ (o : Option UploadRefusal). IsLate o) (sym there.0) tt
 

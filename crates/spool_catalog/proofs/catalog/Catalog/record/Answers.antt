@@ -17,7 +17,8 @@ returns-in_err-slot-clause-recorded c v m catalog shows =
 pub returns-clause-valid : goal.returns-clause-valid
 returns-clause-valid c v m catalog shows =
     let n = c.args.number in
-    let recorded = found catalog shows (sym c.in_ok-catalog.ensures.slot) c.in_ok-slot.ensures.used c.record.ensures.slot_record
+    let recorded = found catalog shows (sym c.in_ok-catalog.ensures.slot) c.in_ok-slot.ensures.used
+    c.record.ensures.slot_record
     c.record.ensures.unpacked in
     some_valid m.indexes n (upload_of m n) recorded.0 c.record.result.now recorded.1 recorded.2
 

@@ -53,6 +53,7 @@ returns c v m catalog shows =
     let here = rw second at c.in_ok-slot.ensures.lookup.1 in
     let at = sym (here ∙ get_or_default h.order place entry (numbered 0 0) inside) in
     let used = named catalog shows n place is entry.number entry.slot inside at in
-    let recorded = found catalog shows (sym c.in_ok-catalog.ensures.slot) used c.record.ensures.slot_record c.record.ensures.unpacked in
+    let recorded = found catalog shows (sym c.in_ok-catalog.ensures.slot) used c.record.ensures.slot_record
+    c.record.ensures.unpacked in
     let next = some_after catalog shows n place is entry.number entry.slot inside at recorded.0 recorded.1 in
     subst (λ (o : Option (ℕ × Upload)). RepresentsOf m.indexes o (Some r)) (sym next) recorded.2.represents

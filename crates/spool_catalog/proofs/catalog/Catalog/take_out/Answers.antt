@@ -9,8 +9,11 @@ take_number-requires-clause-listed c =
     let h = the_view c.self.inside in
     let slot = c.args.slot in
     let used = subst (λ (k : Holding). IsUsedBy k.slots slot c.args.number) (sym c.self.view_is) c.requires.used in
-    let few = slot_below h slot c.args.number c.self.invariant used in
-    (slot, subst (λ (n : ℕ). IsListedAt h.order n slot) used.is (c.self.invariant.ordered.all slot used.used few used.there))
+    let few = slot_below h slot c.args.number c.self.invariant used in (
+      slot,
+      subst (λ (n : ℕ). IsListedAt h.order n slot) used.is
+          (c.self.invariant.ordered.all slot used.used few used.there),
+    )
 
 pub invariant_of-self : goal.invariant_of-self
 invariant_of-self c =

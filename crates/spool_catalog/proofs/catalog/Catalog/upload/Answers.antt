@@ -41,9 +41,11 @@ returns-clause-in_slot c = record {
 }
 
 -- what the record tells of
-abbrev recorded_of : (c : goal.After-record) (v : View) (m : Store) → HasView c.args.self.now v → Shows v m → (u : Upload)
+abbrev recorded_of : (c : goal.After-record) (v : View) (m : Store) → HasView c.args.self.now v → Shows v m
+    → (u : Upload)
     × (upload_of m c.args.number ≡ Some u) × RepresentsValid m.indexes c.args.number c.record.result.now u
-recorded_of c v m catalog shows = found catalog shows (record_there c) c.in_ok-slot.ensures.used refl c.record.ensures.unpacked
+recorded_of c v m catalog shows = found catalog shows (record_there c) c.in_ok-slot.ensures.used refl
+    c.record.ensures.unpacked
 
 pub returns-clause-recorded : goal.returns-clause-recorded
 returns-clause-recorded c v m catalog shows =
@@ -52,4 +54,5 @@ returns-clause-recorded c v m catalog shows =
 
 pub returns-clause-text : goal.returns-clause-text
 returns-clause-text c v m bytes catalog shows encodes u there =
-    rw c.list-list.ensures.blocks (text_recorded catalog shows (record_there c) c.in_ok-slot.ensures.used bytes encodes u there)
+    rw c.list-list.ensures.blocks (text_recorded catalog shows (record_there c) c.in_ok-slot.ensures.used bytes
+    encodes u there)

@@ -45,10 +45,12 @@ agrees : (new mid : List Bool) (old : List Bool) (bytes into was synced : List �
     → ((q : ℕ) → (In at n q → ⊥) → get_or bytes q 0 ≡ get_or into q 0) → into ≡ was
     → ((q : ℕ) → (get_or old q false ≡ true → ⊥) → get_or was q 0 ≡ get_or synced q 0)
     → (get_or new p false ≡ true → ⊥) → get_or bytes p 0 ≡ get_or synced p 0
-agrees new mid old bytes into was synced at n p all outside same unchanged back agree unmarked = elim (in_or_out at n p) [
-  | inl within ↦ absurd (unmarked (marked_in new mid at n p all within))
-  | inr out ↦ unchanged p out ∙ at_p into was p back ∙ agree p (λ is. unmarked (outside p out ∙ flag_p mid old p same ∙ is))
-]
+agrees new mid old bytes into was synced at n p all outside same unchanged back agree unmarked =
+    elim (in_or_out at n p) [
+      | inl within ↦ absurd (unmarked (marked_in new mid at n p all within))
+      | inr out ↦ unchanged p out ∙ at_p into was p back ∙ agree p
+          (λ is. unmarked (outside p out ∙ flag_p mid old p same ∙ is))
+    ]
 
 pub invariant_of-self-clause-agree : goal.invariant_of-self-clause-agree
 invariant_of-self-clause-agree c p unmarked =

@@ -13,10 +13,12 @@ returns-in_err-admits-clause-begun c x n u valid_record =
 pub returns-clause-begun : goal.returns-clause-begun
 returns-clause-begun c x n u valid_record = (
   c.in_ok-admits.ensures.rules x n u valid_record.represents,
-  begins x u n c.args.count c.args.declare c.args.upload.now c.args.list.now c.args.offset c.in-Some.progress valid_record
+  begins x u n c.args.count c.args.declare c.args.upload.now c.args.list.now c.args.offset c.in-Some.progress
+      valid_record
       (c.in_ok-admits.ensures.room refl) (c.in_ok-admits.ensures.small refl)
       (c.in-Some.ensures.state_after x n u valid_record.represents valid_record.encodable valid_record.valid)
-      (λ growing. open_still x u n c.args.count c.args.declare c.args.upload.now valid_record (c.in-Some.ensures.room growing))
+      (λ growing. open_still x u n c.args.count c.args.declare c.args.upload.now valid_record
+      (c.in-Some.ensures.room growing))
       c.in-Some.ensures.starts,
 )
 
@@ -24,4 +26,5 @@ pub returns-clause-content : goal.returns-clause-content
 returns-clause-content c x n u current first valid_record same =
     begins_carries x u n c.args.count c.args.declare current first c.args.upload.now.text_len c.args.list.now
     c.in-Some.progress c.requires.long c.in-Some.ensures.starts same valid_record.represents.text_len
-    (λ growing. open_still x u n c.args.count c.args.declare c.args.upload.now valid_record (c.in-Some.ensures.room growing))
+    (λ growing. open_still x u n c.args.count c.args.declare c.args.upload.now valid_record
+    (c.in-Some.ensures.room growing))

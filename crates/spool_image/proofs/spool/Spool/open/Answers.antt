@@ -13,7 +13,8 @@ use Rattle.spool_load.proofs.Faults.{loads_err}
 use Rattle.spool_load.proofs.Opens.{settled_reads}
 use Rattle.spool_load.proofs.ReadBys.{by_after}
 use Rattle.spool_image.proofs.Opens.{image_shows, lasts_shown, view_room}
-use Rattle.spool_image.proofs.Refused.{opened_is_spool, opened_is_known, opened_is_whole, refused_no_spool, refused_version}
+use Rattle.spool_image.proofs.Refused.{opened_is_spool, opened_is_known, opened_is_whole, refused_no_spool}
+use Rattle.spool_image.proofs.Refused.{refused_version}
 use Rattle.spool_image.proofs.Refused.{refused_damaged}
 use Rattle.spool_image.proofs.RepresentsOn.{represents_opened}
 use Rattle.spool_image.proofs.Opening.{opened_exactly, refused_exactly}
@@ -110,6 +111,7 @@ returns-in-Err-clause-given g c =
       exact = refused_exactly (g.D.Disk.size c.args.disk) before after c.in-Err.fault is.answer;
       memory = tt;
       opened =
-          λ v valid encodes_by. loads_err (λ (catalog : Holding). HasViewAlone catalog v) (λ s. SpoolHasView s v) c.in-Err.fault
+          λ v valid encodes_by. loads_err (λ (catalog : Holding). HasViewAlone catalog v) (λ s. SpoolHasView s v)
+          c.in-Err.fault
           (is.loads v valid encodes_by);
     })

@@ -18,7 +18,8 @@ pub returns-in_err-next-clause-answer : goal.returns-in_err-next-clause-answer
 returns-in_err-next-clause-answer g c sure st represents =
     let o = c.in_ok-link.ensures.open sure c.args.store.now st represents in
     rw (stop_is c.from_residual-in_err-next.result c.in_err-next.field-0.0 c.from_residual-in_err-next.ensures.1)
-    (stopped g.U.Uploads sure _ _ _ _ st (Came c.args.conn c.args.bytes.now) o.0 represents tt o.1 (came_turn st.world o.0
+    (stopped g.U.Uploads sure _ _ _ _ st (Came c.args.conn c.args.bytes.now) o.0 represents tt o.1
+    (came_turn st.world o.0
     c.args.bytes.now)
     c.in_err-next.field-0.0 _ _ c.in_ok-link.ensures.taken
     (c.in_err-next.ensures.answer sure st.world o.0 represents.shown o.2))
@@ -31,7 +32,8 @@ returns-clause-answer g c sure st represents =
     (came_turn st.world o.0 c.args.bytes.now) c.in_ok-next.answer _ _
     (is_put_back g.U.Uploads sure _ _ c.args.conn c.in_ok-next.next c.in_ok-link.ensures.taken
     c.in_ok-link.ensures.within)
-    (came_is st c.args.conn c.args.bytes.now o.0 o.1) (c.in_ok-next.ensures.answer sure st.world o.0 represents.shown o.2))
+    (came_is st c.args.conn c.args.bytes.now o.0 o.1) (c.in_ok-next.ensures.answer sure st.world o.0 represents.shown
+    o.2))
 
 pub returns-in_err-next-clause-crash : goal.returns-in_err-next-clause-crash
 returns-in_err-next-clause-crash g c st represents =

@@ -41,7 +41,8 @@ loop-place-preserved-in-Some-place g c =
       represents = λ sure st represents.
           let v = inv.represents sure st represents in
           after_open g.U.Uploads sure c.args.self.links.items c.loop-place.links.items c.pop.new.self.items
-          c.args.store.now st represents c.loop-place.store c.drop_link.new.store v.0 c.in-Some.place c.in-Some-place.link
+          c.args.store.now st represents c.loop-place.store c.drop_link.new.store v.0 c.in-Some.place
+          c.in-Some-place.link
           c.in-Some-place.is is v.1 (c.drop_link.ensures.represents sure v.0 v.1.shown);
       prefix = is.prefix;
       below = omega (arith, inv.below, is.count);

@@ -8,7 +8,8 @@ use Rattle.tus_session.proofs.session.Session.close.Given as goal
 
 abbrev pub invariant-loop-place : goal.invariant-loop-place
 invariant-loop-place g l = record {
-  represents : (sure : Bool) (st : State) → SessionRepresents g.U.Uploads sure l.fn.self.links.items l.fn.store st → (v : World)
+  represents : (sure : Bool) (st : State) → SessionRepresents g.U.Uploads sure l.fn.self.links.items l.fn.store st
+      → (v : World)
       × IsClosing g.U.Uploads sure st (length l.links.items) l.store v;
   prefix : l.links.items ≡ take (length l.links.items) l.fn.self.links.items;
   below : length l.links.items ≤ length l.fn.self.links.items;

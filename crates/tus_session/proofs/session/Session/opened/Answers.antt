@@ -20,7 +20,8 @@ pub returns-clause-answer : goal.returns-clause-answer
 returns-clause-answer g c sure store st represents =
     let lt : c.args.conn < length c.args.self.now.links.items =
     omega (arith, c.if-conn-len.false, c.len.ensures, c.args.self.now.links.ok.0) in
-    let none = not_open g.U.Uploads sure c.args.self.now.links.items store st represents c.args.conn c.index.result.now lt
+    let none = not_open g.U.Uploads sure c.args.self.now.links.items store st represents c.args.conn
+    c.index.result.now lt
     c.index.ensures (sym c.is_some.ensures ∙ c.if-is_some.false) in
     rw c.put_back.ensures (opened g.U.Uploads sure c.args.self.now.links.items store st represents c.args.conn _ lt none
     c.new.ensures)

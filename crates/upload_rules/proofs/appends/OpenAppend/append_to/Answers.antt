@@ -10,7 +10,14 @@ pub returns-in_err-state-clause-put : goal.returns-in_err-state-clause-put
 returns-in_err-state-clause-put c = λ next p u represents since open_still length_is slot_is.
     let x = c.args.indexes.now in
     let count : c.saturating_add-accepted.result ≡ reached p =
-    omega (arith, c.saturating_add-accepted.ensures, represents.came, represents.offset, reaches x next p c.args.self represents) in
+    omega (
+      arith,
+      c.saturating_add-accepted.ensures,
+      represents.came,
+      represents.offset,
+      reaches x next p c.args.self
+          represents,
+    ) in
     let e = err_from_is_err_and c.from_residual.result c.from_residual.ensures.1 in
     rw (sym count, sym c.is_length.ensures, since.1, e.1, e.2)
     (not_put x next p c.args.self represents since.0 c.args.slot.now (rw since.1 at slot_is) c.in_err-state.field-0.0
@@ -22,7 +29,14 @@ pub returns-in-Ok-clause-put : goal.returns-in-Ok-clause-put
 returns-in-Ok-clause-put c = λ next p u represents since open_still length_is slot_is.
     let x = c.args.indexes.now in
     let count : c.saturating_add-accepted.result ≡ reached p =
-    omega (arith, c.saturating_add-accepted.ensures, represents.came, represents.offset, reaches x next p c.args.self represents) in
+    omega (
+      arith,
+      c.saturating_add-accepted.ensures,
+      represents.came,
+      represents.offset,
+      reaches x next p c.args.self
+          represents,
+    ) in
     let v = with_length p.began since.0 in
     let known = rw since.1 at length_is in
     let still = rw since.1 at open_still in

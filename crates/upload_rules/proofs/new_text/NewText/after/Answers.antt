@@ -23,7 +23,8 @@ returns-clause-holds c x n u represents ok valid =
     let is : c.in_ok-unpack.field-0 ≡ transcoder_state (transcoder_with x u [] (is_complete u)) = cc in
     let encodable : (text_with x u [] false).fault ≡ None =
     ap (λ b. (text_with x u [] b).fault) (sym open_still) ∙ ok in (
-      reads x u [] c.in_ok-unpack.field-0 encodable (is ∙ ap (λ b. transcoder_state (transcoder_with x u [] b)) open_still),
+      reads x u [] c.in_ok-unpack.field-0 encodable (is ∙ ap (λ b. transcoder_state (transcoder_with x u [] b))
+          open_still),
       ap (λ l. (text_with x u [] false).bytes ++ l) c.new.ensures.items ∙ append-nil (text_with x u [] false).bytes,
     )
 
