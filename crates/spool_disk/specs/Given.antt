@@ -8,7 +8,7 @@ use Rattle.spool_disk.specs.declared.given.Given.{Given}
 abbrev pub given : ℕ → List ℕ → Given
 given at bs = record { at = at; bytes = trace_of bs }
 
--- Each of these reads gave the bytes that stand at its place.
+-- Each of these reads gave the bytes that are at its place.
 abbrev pub AllGave : (ℕ → ℕ) → List Given → Type 0
 AllGave bytes [] = Unit {0}
 AllGave bytes (g ∷ gs) = (span bytes g.at (length g.bytes.items) ≡ g.bytes.items) × AllGave bytes gs
