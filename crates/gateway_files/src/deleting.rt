@@ -108,8 +108,8 @@ pub fn delete_uploads<W: Write, U: Uploads>(
     uploads: &mut U,
     numbers: &[u64],
 ) -> Result<bool, Fault>
-    // On any disk, for the uploads that they represent: those of all other numbers are left, and the line of each number
-    // is by whether it had one.
+    // On any disk, for the uploads that they represent: those of all other numbers are left, and the line of each
+    // number is by whether it had one.
     ensures represents { (sure : Bool) (w : World) → U.represents uploads.old sure w
         → OnOk result (U.represents uploads.new sure (record w { store = left w.store numbers.now })) }
     ensures lines { (sure : Bool) (w : World) → U.represents uploads.old sure w

@@ -83,8 +83,8 @@ pub record PassesRun (n : ℕ) (m : Store) (bytes : List ℕ) (fault : Option Ru
 abbrev pub read_of : List ℕ → List ℕ
 read_of bytes = take 1073741825 bytes
 
--- A run as it was reported, from a disk to the disk that came back. It ends with `Script Io` exactly where what it wrote
--- was refused to grow
+-- A run as it was reported, from a disk to the disk that came back. It ends with `Script Io` exactly where what it
+-- wrote was refused to grow
 pub record IsRun {D : Type 0} (disk : Ghosts D) (n : ℕ) (given back : D) (before left : List Store)
     (run reported : RunOf) : Type 0 where
   pub script : reported.script ≡ run.script
