@@ -15,7 +15,7 @@ none_passes p xs e k inside =
     let past : length xs ≤ position_or_len p xs = grind (arith, nat_tests) in
     fails_before_first p xs k 0 (omega arith)
 
--- the mark stands at a place, and not before
+-- the mark is at a place, and at none before it
 cut_at : (mark : ℕ) (text : List ℕ) (i : ℕ) → i < length text → (get_or text i 0 == mark) ≡ true
     → ((k : ℕ) → k < i → (get_or text k 0 == mark) ≡ false)
     → (before mark text ≡ take i text) × (rest_after mark text ≡ drop (suc i) text)
@@ -25,7 +25,7 @@ cut_at mark (b ∷ text) (suc i) inside there none =
     let h = cut_at mark text i (omega arith) there (λ k l. none (suc k) (omega arith)) in
     (rw (none 0 (omega arith), h.0), rw (none 0 (omega arith), h.1))
 
--- the mark stands nowhere
+-- the mark is nowhere
 uncut : (mark : ℕ) (text : List ℕ) → ((k : ℕ) → k < length text → (get_or text k 0 == mark) ≡ false)
     → (before mark text ≡ text) × (rest_after mark text ≡ [])
 uncut mark [] none = (refl, refl)

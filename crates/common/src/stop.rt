@@ -16,7 +16,7 @@ impl From<io::Error> for DiskFault {
     }
 }
 
-/// Why a call stops that refuses nothing. What stays after it, each call says.
+/// Why a call stops that refuses nothing. Each call states what stays after it.
 #[derive(Clone, Copy, Debug, PartialEq, Eq, Drop, Error)]
 pub enum Stop {
     /// Out of memory: an allocation failed.

@@ -1,4 +1,4 @@
-//! Parts of texts: what stands before and after a mark, and numbers.
+//! Parts of texts: what is before and after a mark, and numbers.
 ghost use Rattle.std.specs.Prelude.{◌≡◌, ◌==◌};
 ghost use Rattle.std.specs.List.{position};
 ghost use Rattle.common.specs.Splits.{before, rest_after};

@@ -184,7 +184,7 @@ ascii_run f mode s (x ∷ xs) each a =
           (All-tail (λ b. b < 128) x xs a),
     ) refl
 
--- outside ISO-2022-JP it stands for itself
+-- outside ISO-2022-JP it is written as it is
 pub ascii_code : (t : Tables) (e : Encoding) (mode : Mode) (s : Shift) (xs : List ℕ) → (e ≡ encodings.Iso2022Jp → ⊥)
     → All (λ b. b < 128) xs →
     coded (encoder t e) mode s xs ≡ record { bytes = xs; state = s; fault = None }
@@ -192,7 +192,7 @@ ascii_code t e mode s xs n a =
     coded_is (encoder t e) (encoder_steady t e) mode s xs ∙ ascii_run (encoder t e) mode s xs
     (λ x l. ascii_as_is t e s x n l) a
 
--- A RUN OF ASCII THAT STANDS FOR ITSELF
+-- A RUN OF ASCII THAT IS WRITTEN AS IT IS
 
 own_as_is : (t : Tables) (e : Encoding) (s : Shift) (x : ℕ) → own_byte e s x ≡ true → WritesAsIs (encoder t e) s x
 unfolding shift_jis_encoder euc_jp_encoder single_encoder iso2022_encoder

@@ -65,7 +65,7 @@ two : (n : ℕ) → 10 ≤ n → n < 100 → (48 + n / 10) ∷ (48 + n % 10) ∷
 two n l h = sym (decimal_step n l (omega (arith, h))
     ∙ ap (λ z. z ++ (48 + n % 10) ∷ []) (decimal_digit (n / 10) (omega (arith, h))))
 
--- one digit behind those of the tenth
+-- one digit after those of the tenth
 digit_after : (n : ℕ) (digits : List ℕ) → 10 ≤ n → n < 100000 → digits ≡ decimal (n / 10)
     → digits ++ (48 + n % 10) ∷ [] ≡ decimal n
 digit_after n digits l h e = ap (λ z. z ++ (48 + n % 10) ∷ []) e ∙ sym (decimal_step n l (omega (arith, h)))

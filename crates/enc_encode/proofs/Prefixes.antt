@@ -82,7 +82,7 @@ prefix_of_prefix : (text lanes : List ℕ) (n : ℕ) → lanes ≡ take 32 text 
 prefix_of_prefix text lanes n e few = ap (take n) e ∙ take-take n 32 text few
 
 module _ (t : Tables) (e : EncoderState) {Z : Type 0} where
-  -- ASCII that stands for itself
+  -- ASCII that is written as it is
   pub ascii_held : (to : Encoding) (text lanes : List ℕ) (n : ℕ) (s : ShiftState) (old : Vec ℕ Z) (held : List ℕ)
       (new : Vec ℕ Z) (mid still_held : List ℕ) → to ≡ e.to →
       IsOwnPrefix to (shift_of s) text lanes n → Passed old held [] new mid → still_held ≡ mid ++ take n lanes →

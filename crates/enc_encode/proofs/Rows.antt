@@ -7,7 +7,7 @@ use Rattle.enc_model.specs.Encode.{InAscii, coded, coded_within, ended_coded, is
 use Rattle.enc_model.specs.Encode.{single_encoder}
 
 -- U+FF62 and U+FF61 where the katakana index has them the other way round and jis0208 has U+FF61 alone: the first is
--- looked up in full width, the second is an error for what stands in its place
+-- looked up in full width, the second is an error for the character in its place
 abbrev turned : Index
 turned = (0, 0xFF62) ∷ (1, 0xFF61) ∷ []
 

@@ -169,7 +169,7 @@ run_more gives text rest left held still_held new b u p q e =
       given = subst (λ z. AllGiven gives z b) (sym (char_one q.c own)) (b, [], sym (append-nil b), q.given, refl);
     })
 
--- ASCII that stands for itself
+-- ASCII that is written as it is
 pub run_ascii : (gives : ℕ → List ℕ → Type 0) → ((c : ℕ) → c < 128 → gives c (c ∷ [])) → (text : List ℕ) (n : ℕ)
     (held new : List ℕ) → All (λ b. b < 128) (take n text) → new ≡ held ++ take n text
     → RunPrefix gives text (drop n text) held new

@@ -44,7 +44,7 @@ own_byte Iso2022Jp InAscii = is_plain_2022
 own_byte Iso2022Jp _ = λ _. false
 own_byte _ _ = is_ascii
 
--- lanes at the start of a text, so many bytes of which are ASCII that stands for itself in the encoding
+-- lanes at the start of a text, so many bytes of which are ASCII that the encoding writes as it is
 pub record IsOwnPrefix (to : Encoding) (s : Shift) (text lanes : List ℕ) (n : ℕ) : Type 0 where
   pub lanes_are : lanes ≡ take 32 text
   pub some : 0 < n

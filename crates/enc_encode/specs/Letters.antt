@@ -2,8 +2,8 @@
 use Rattle.std.specs.Prelude.{ℕ, List, [], ◌∷◌, ◌≡◌, ◌<◌, ◌≤◌, ◌+◌, ◌*◌, ◌%◌, Some}
 use Rattle.enc_index.specs.Entries.{found_pointer}
 
--- characters of two bytes, told by what lead and trail count, where the lead counts 64: 12416 more than the code point.
--- From the lowest on so many have bytes one after another, the first this one
+-- characters of two bytes, as 64 times the lead and the trail, which is 12416 more than the code point. From the lowest
+-- one on so many have bytes one after another, and this is the first one's byte
 pub record AreLetters (at : List ℕ) (low byte count : ℕ) : Type 0 where
   pub lowest : 12416 ≤ low
   pub highest : low + count ≤ 14464

@@ -8,7 +8,7 @@ use Rattle.enc_encode.specs.Runs.{Stays}
 abbrev pub FewPointers : List ℕ → Type 0
 FewPointers at = (c : ℕ) → IfSome (found_pointer at c) (λ p. p < 128)
 
--- the byte of a character: ASCII stands for itself, and others have a pointer
+-- the byte of a character: ASCII is its own byte, and others have a pointer
 abbrev pub IsSingleByte : List ℕ → ℕ → List ℕ → Type 0
 IsSingleByte at c bytes = ((c < 0x80) × (bytes ≡ c ∷ []))
     ⊎ ((0x80 ≤ c) × (p : ℕ) × (found_pointer at c ≡ Some p) × (bytes ≡ (p + 0x80) ∷ []))

@@ -35,6 +35,6 @@ shifted e s = record e { shift = s }
 abbrev pub coder : EncoderState → List ℕ → Coder
 coder e out = record { state = e.shift; out = out }
 
--- the code of a text from where an encoder stands
+-- the code of a text from an encoder's state
 abbrev pub code_from : Tables → EncoderState → List ℕ → Coded
 code_from t e text = coded (encoder t e.to) e.mode e.shift text

@@ -242,7 +242,7 @@ impl Buffer {
 
     /// Puts the codes of characters that follow a reference, or bytes that switch in ISO-2022-JP, after the others, in
     /// html mode: references of unmappable ones, and bytes between them in a single-byte encoding. Gives the rest of
-    /// the text. Texts that need neither never come here, so it stands apart from their loop.
+    /// the text. Texts that need neither never come here, so it is outside their loop.
     #[inline(never)]
     pub fn push_coded<'a>(
         &mut self,

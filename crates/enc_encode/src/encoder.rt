@@ -95,7 +95,7 @@ fn starts_in_ascii(text: &str) -> bool {
     }
 }
 
-/// Whole lanes at the start of a text that begins with ASCII, and how much of it there is, where it stands for itself.
+/// Whole lanes at the start of a text that begins with ASCII, and how much ASCII there is, if it is written as it is.
 #[inline(always)]
 fn own_prefix(to: Encoding, shift: ShiftState, text: &str) -> Option<(&[u8; LANES], usize)>
     ensures { IfSome result (λ r. IsOwnPrefix to (shift_of shift) text.now r.0.now r.1) }
@@ -235,7 +235,7 @@ impl Encoder {
         Ok(shift)
     }
 
-    /// Appends the code of a run of ASCII, which stands for itself outside ISO-2022-JP.
+    /// Appends the code of a run of ASCII: outside ISO-2022-JP the run as it is.
     fn encode_ascii(&self, run: &[u8], out: &mut Vec<u8>) -> Result<ShiftState, EncodeError>
         requires { All (λ b. b < 128) run.now }
         ensures { (t : Tables) → Gave (code_from t self.now run.now) out.old out.new result }
@@ -269,8 +269,8 @@ impl Encoder {
     }
 
     /// Puts a character's code after bytes that are held, or appends both, and gives the state that it leads to. This
-    /// is for bytes that switch, for references and for errors. It stands apart, so that what holds all other
-    /// characters is small enough to go into the loop over them.
+    /// is for bytes that switch, for references and for errors. It is a function of its own, so that what
+    /// holds all other characters is small enough to go into the loop over them.
     #[inline(never)]
     fn hold_otherwise<const LOOP: usize>(
         &self,
@@ -304,9 +304,9 @@ impl Encoder {
         self.encode(set, shift, c, out)
     }
 
-    /// Puts the code of a text's start after bytes that are held, or appends both: of ASCII in lanes, or else of one
-    /// character, and in html mode, where that is a reference or switches, of those after it by `push_coded`. Gives the
-    /// state that it leads to, and the rest of the text.
+    /// Puts the code of a text's start after bytes that are held, or appends both. The start is ASCII in lanes, or else
+    /// one character. In html mode, if this one gives a reference or bytes that switch, `push_coded` takes those after
+    /// it too. Gives the state that the code leads to, and the rest of the text.
     #[inline(always)]
     fn hold_prefix<'a, const LOOP: usize>(
         &self,
@@ -417,7 +417,7 @@ impl Encoder {
         }
     }
 
-    /// Appends the code of a text, which stands for itself where texts are in UTF-8.
+    /// Appends the code of a text: the text as it is if the encoding is UTF-8.
     fn encode_text(
         &self,
         set: &IndexSet,

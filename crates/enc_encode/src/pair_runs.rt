@@ -18,9 +18,9 @@ use enc_model::Encoding;
 const THREE_BYTES: u32 = 0xE0 * 4096 + 0x80 * 64 + 0x80;
 
 /// The two bytes of a text's first character, whose first three bytes these are, if it is one that `pair` has. No
-/// character outside U+3000 to U+FF60 has first three bytes that count from 3000 to FF60. The first byte alone tells of
-/// most others, and is looked at before that. The two ranges stand apart, so that no code point is tested for a
-/// surrogate.
+/// character outside U+3000 to U+FF60 has first three bytes that count from 3000 to FF60. The first byte alone decides
+/// for most others, and is looked at before that. The two ranges are tested one by one, so that no code point is tested
+/// for a surrogate.
 #[inline(always)]
 fn first_pair(
     pointers: &Pointers,
@@ -47,7 +47,7 @@ fn first_pair(
 }
 
 /// Puts the bytes of characters at a text's start after the first so many: as many as `pair` has one after the other,
-/// and as there is room for. Gives the rest of the text, and how many bytes there are then. It is tried behind each
+/// and as there is room for. Gives the rest of the text, and how many bytes there are then. It is tried after each
 /// other character too, so nothing but the pointers is made ready before the first character is looked at.
 #[inline(always)]
 pub fn put_pairs<'a>(

@@ -10,7 +10,7 @@ use std::simd::prelude::*;
 /// The room that a reference is given: more bytes than the longest has. `put_any` stores so many at once.
 pub const REFERENCE_ROOM: usize = 16;
 
-/// A code point's digits and `;`, from a place up to the sixteenth byte. The bytes behind are `;` too.
+/// A code point's digits and `;`, from a place up to the sixteenth byte. The bytes after are `;` too.
 #[inline(always)]
 fn digits_at(number: u32) -> ([u8; LANES], usize)
     requires { number < 10000000 }
@@ -31,7 +31,7 @@ fn digits_at(number: u32) -> ([u8; LANES], usize)
     (bytes, place)
 }
 
-/// A character's reference, from a place up to the sixteenth byte. The bytes behind are `;`.
+/// A character's reference, from a place up to the sixteenth byte. The bytes after are `;`.
 #[inline(always)]
 fn reference_at(c: char) -> ([u8; LANES], usize)
     ensures place { result.1 < REFERENCE_ROOM }

@@ -15,7 +15,7 @@ use crate::written::{Bytes, Written};
 use enc_index::IndexSet;
 use enc_model::Encoding;
 
-/// The character whose reference stands for this one in html mode, if it is unmappable and the encoder stays in its
+/// The character whose reference is written for this one in html mode, if it is unmappable and the encoder stays in its
 /// state.
 #[inline(always)]
 fn unmappable(set: &IndexSet, to: Encoding, shift: ShiftState, c: char) -> Option<char>

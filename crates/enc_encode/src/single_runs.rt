@@ -12,8 +12,8 @@ use enc_index::Pointers;
 use lane_kernels::ascii_chunk;
 use std::simd::prelude::*;
 
-/// The byte that a single-byte encoding has for a text's first character, whose first two bytes these are, where it has
-/// two bytes.
+/// The byte that a single-byte encoding has for a text's first character, if this is one of two bytes. The two given
+/// bytes are the text's first ones.
 #[inline(always)]
 fn first_single(pointers: &Pointers, lead: u8, trail: u8) -> Option<u8>
     requires { FewPointers pointers.now }
@@ -144,7 +144,7 @@ fn store_letters(held: &mut [u8; ROOM], from: usize, bytes: &[u8; LETTERS_AT_ONC
     u8x16::from_array(*bytes).copy_to_slice(&mut held[from..]);
 }
 
-/// Puts the bytes of letters that a text begins with after the first so many, up to 16, where 16 may stand there and
+/// Puts the bytes of letters that a text begins with after the first so many, up to 16, where 16 may be there and
 /// there is room for them. Gives the rest of the text, and how many bytes there are then. Nothing but the places
 /// depends on how many, so that no branch waits for the end of a word.
 #[inline(always)]

@@ -1,4 +1,4 @@
--- Bytes that stand for themselves.
+-- Bytes that decode to themselves.
 use Rattle.std.proofs.Common.{Result, ℕ, ◌<◌, ◌≡◌, ◌++◌, false, List, [], Some, All, sym, ap, subst, arith, take, drop}
 use Rattle.std.proofs.Common.{take-append-drop, get_or}
 use Rattle.std.proofs.lemmas.Bool.Decides.{nat_tests}

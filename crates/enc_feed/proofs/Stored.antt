@@ -35,7 +35,7 @@ took_prefix old new bytes u a e =
       ap is_utf8 e ∙ text_more old bytes u v,
     )
 
--- bytes that stand for themselves
+-- bytes that decode to themselves
 pub own_map : (char : ℕ → ℕ) (bytes : List ℕ) → ((b : ℕ) → b < 128 → char b ≡ b) → All (λ b. b < 128) bytes
     → bytes ≡ map char bytes
 own_map char [] own a = refl
@@ -49,20 +49,20 @@ pub char_read : (table : List ℕ) (b c : ℕ) → length table ≡ 256 → Fits
 char_read table b c long small is =
     get_or_read_under table b (length table) c 0 is (let fits = small.fits in omega (arith, fits, long)) refl
 
--- what some bytes stand for, and the byte after them
+-- the characters of some bytes, and that of the byte after them
 pub map_more : (char : ℕ → ℕ) (bytes : List ℕ) (i : ℕ) → i < length bytes
     → map char (take i bytes) ++ char (get_or bytes i 0) ∷ [] ≡ map char (take (i + 1) bytes)
 map_more char bytes i l =
     sym (map-append char (take i bytes) (get_or bytes i 0 ∷ [])) ∙ ap (map char) (sym (take_more bytes i 0 l))
 
--- what some bytes stand for, and some after them
+-- the characters of some bytes, and those of some after them
 pub map_parts : (char : ℕ → ℕ) (bytes rest : List ℕ) (i n : ℕ) → rest ≡ take (length bytes - i) (drop i bytes)
     → map char (take i bytes) ++ map char (take n rest) ≡ map char (take (i + n) bytes)
 map_parts char bytes rest i n is =
     sym (map-append char (take i bytes) (take n rest))
     ∙ ap (map char) (ap (λ z. take i bytes ++ take n z) (is ∙ take_rest bytes i) ∙ sym (take-add i n bytes))
 
--- what some bytes stand for, and all after them
+-- the characters of some bytes, and those of all after them
 pub map_rest : (char : ℕ → ℕ) (bytes rest : List ℕ) (i : ℕ) → rest ≡ take (length bytes - i) (drop i bytes)
     → map char (take i bytes) ++ map char rest ≡ map char bytes
 map_rest char bytes rest i is =

@@ -151,7 +151,7 @@ pub fn decode_each<D: Decoder>(state: &mut D, tables: &D::Tables, bytes: &[u8], 
     }
 }
 
-/// The length of an ASCII prefix that decodes to itself, at most `FRONT_STEP`.
+/// The length of an ASCII prefix that decodes to itself, at most `PREFIX_STEP`.
 #[inline(always)]
 fn next_prefix<D: BlockDecoder>(state: &D, tables: &D::Tables, rest: &[u8]) -> usize
     ensures { IsAsciiPrefix (D.handler tables.now) state.now rest.now result }

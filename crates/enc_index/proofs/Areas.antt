@@ -234,7 +234,7 @@ code_small : (index : Option Index) (pointers p : ℕ) → IfSome index (IsIndex
 code_small None pointers p v = rw (code_of_none p) (lit< tt)
 code_small (Some index) pointers p v = small (code index p) (some_scalar index pointers p (code index p) v refl)
 
--- the words of a file, whose entries stand from one number on
+-- the words of a file, whose entries are from one number on
 words_is : (x : IndexSet) (area : List ℕ) (start pointers : ℕ) (index : Option Index) → IsAreaOf x area
     → start + pointers ≤ 22099 → IfSome index (IsIndex pointers) →
     ((k : ℕ) → k < pointers → entry_at x (start + k) ≡ entry_of index k) → (k : ℕ) → k < pointers

@@ -43,6 +43,6 @@ code_at q (Some c ∷ entries) p (suc k) e =
     let rest = code_at (suc q) entries p k (omega arith) in
     grind (arith, nat_tests, rest)
 
--- what stands at a pointer is its code point
+-- an entry, by its pointer, is its code point
 pub code_entry : (entries : List (Option ℕ)) (p : ℕ) → code (pairs_from 0 entries) p ≡ slice_index_or entries p None
 code_entry entries p = code_at 0 entries p p (omega arith)

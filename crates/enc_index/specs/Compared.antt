@@ -1,10 +1,10 @@
--- An area compared with a set: what stands around the entries, and the entries of each file.
+-- An area compared with a set: what is around the entries, and the entries of each file.
 use Rattle.std.specs.Prelude.{◌≡◌, ℕ, ◌+◌, ◌*◌, ◌<◌, ◌≤◌, List, Option, slice_index}
 use Rattle.enc_model.specs.Index.{Index}
 use Rattle.enc_model.specs.Indexes.{IndexSet}
 use Rattle.enc_index.specs.Area.{nth_file, flag, entry_of, word_of}
 
--- The file's entries stand in the area from `start` on.
+-- The file's entries are in the area from `start` on.
 abbrev pub HasEntries : List ℕ → ℕ → ℕ → Option Index → Type 0
 HasEntries area start pointers index = (k : ℕ) → k < pointers → word_of area (start + k) ≡ entry_of index k
 

@@ -230,7 +230,7 @@ fn has_zeros(area: &[u8], start: usize, end: usize) -> bool
     true
 }
 
-/// Whether an area has what stands around the set's entries.
+/// Whether an area has what belongs around the set's entries.
 fn has_margins(set: &IndexSet, area: &[u8]) -> bool
     requires { length area.now ≡ 90112 }
     ensures { IsTrue result ↔ HasMargins set.now area.now }

@@ -49,7 +49,7 @@ pub single_ends : (i : Index) (s : Single) → Always s → IsValid Always (sing
 unfolding single
 single_ends i s g = record { state = tt; answer = tt; restored = tt }
 
--- UTF-16: what is kept is a byte, and a lead
+-- UTF-16: the state has a byte and a lead
 
 abbrev IsByteOption : Option ℕ → Type 0
 IsByteOption None = Unit {0}

@@ -27,7 +27,7 @@ use Rattle.enc_stream.specs.StateBytes.{encoding_number, mode_number, phase_numb
 use Rattle.enc_stream.specs.StateBytes.{flag_number, place_number, place_lead, utf16_bytes, counted, decoder_bytes}
 use Rattle.enc_stream.specs.StateBytes.{phase_bytes, padded, state_bytes}
 
--- WHAT EACH NUMBER STANDS FOR
+-- WHICH VALUE EACH NUMBER IS OF
 
 encodings : List Encoding
 encodings =
@@ -94,7 +94,7 @@ place_back (Escape Paren) = refl
 
 -- A DECODER'S STATE, from the encoding in effect and the bytes
 
--- the kept bytes after their count
+-- the bytes of an unfinished character, after their count
 abbrev bytes_at : List ℕ → List ℕ
 bytes_at bytes = take (get_or bytes 0 0) (drop 1 bytes)
 

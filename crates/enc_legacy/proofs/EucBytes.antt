@@ -31,7 +31,7 @@ pub pointer_of : (a b : ℕ) → a < 256 → b < 256 → get_or PAIRS a 0 + get_
 pointer_of a b small below few =
     let e = pair_at PAIRS of_lead of_trail rows a b small below in grind (arith, nat_tests, e, few)
 
--- a character at a pair's pointer is what the pair stands for
+-- a character at a pair's pointer is what the pair decodes to
 pub euc_read : (codes : List (Option ℕ)) (a b p c : ℕ) → (p < NO_PAIR → IsRow a × IsRow b)
     → (p < NO_PAIR → p ≡ (a - 0xA1) * 94 + (b - 0xA1)) → slice_index_or codes p None ≡ Some c
     → IsEucJpPair codes a b c

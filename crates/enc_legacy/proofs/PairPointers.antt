@@ -6,7 +6,7 @@ use Rattle.std.proofs.lemmas.Bool.Decides.{nat_tests}
 use Rattle.std.specs.List.{range_with_len}
 use Rattle.enc_legacy.specs.declared.pairs.TheConstants.{TRAILS}
 
--- what stands at a row of a table of what bytes add, as leads and then as trails
+-- an entry of a table of what bytes add, as leads and then as trails
 abbrev row_of : (ℕ → ℕ) → (ℕ → ℕ) → ℕ → ℕ
 row_of lead trail n = if nat_lt n TRAILS then lead n else trail (n - TRAILS)
 

@@ -1,4 +1,4 @@
--- Where ASCII stands for itself.
+-- Where ASCII decodes to itself.
 use Rattle.std.proofs.Common.{Bool, inl, inr, ℕ, ◌<◌, ◌≤◌, ◌≡◌, List, [], Some, refl, arith, take, length}
 use Rattle.enc_model.specs.Stream.{Handler, IsCalm}
 use Rattle.enc_model.proofs.Steps.{steps_run}

@@ -46,7 +46,7 @@ pub same_encoding : {X E : Type 0} (t : Tables) (ended : Bool) (e new : Encoding
 same_encoding t ended e new bytes (Ok x) is = is ∙ ap (λ run. run.state) (single_in_steps t ended e bytes)
 same_encoding t ended e new bytes (Err x) is = tt
 
--- WHAT THE BYTES STAND FOR
+-- WHAT THE BYTES DECODE TO
 
 char_points : (t : Bool) (b : ℕ) (o : Option ℕ) → points_of
     (if t then Point b else point_or_error o) ++ [] ≡ (if t then b else unwrap_or o 0xFFFD) ∷ []
@@ -62,7 +62,7 @@ unfolding single_in
 byte_given t e b = ap (λ z. record { text = z; state = e }) (char_points (nat_lt b 0x80) b
     (code (t.single e) (b - 0x80)))
 
--- where a table has at each byte what it stands for
+-- where a table has at each byte its character
 pub single_chars : (t : Tables) (e : Encoding) (chars bytes : List ℕ)
     → ((b : ℕ) → b < 256 → slice_index chars b ≡ byte_char (t.single e) b) →
     All (λ b. b < 256) bytes → map (λ b. slice_index chars b) bytes ≡ (steps (single_in t) false e bytes).text
@@ -85,7 +85,7 @@ single_state t e bytes = sym (ap (λ run. run.state) (single_in_steps t false e 
 byte_own : (index : Index) (b : ℕ) → b < 128 → byte_char index b ≡ b
 byte_own index b l = grind (arith, nat_tests)
 
--- ASCII stands for itself
+-- ASCII decodes to itself
 pub own_chars : (index : Index) (chars : List ℕ) → ((b : ℕ) → b < 256 → slice_index chars b ≡ byte_char index b)
     → (b : ℕ) → b < 128 → slice_index chars b ≡ b
 own_chars index chars table b l = table b (omega (arith, l)) ∙ byte_own index b l

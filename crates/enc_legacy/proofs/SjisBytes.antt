@@ -34,7 +34,7 @@ pub pair_of : (a b : ℕ) → a < 256 → b < 256 → get_or PAIRS a 0 + get_or 
 pair_of a b small below few i =
     let e = pair_at PAIRS of_lead of_trail rows a b small below in grind (arith, nat_tests, e, few)
 
--- a character at a pair's pointer is what the pair stands for
+-- a character at a pair's pointer is what the pair decodes to
 pub sjis_read : (codes : List (Option ℕ)) (a b p c : ℕ) → (p < NO_PAIR → IsShiftJisLead a)
     → (p < NO_PAIR → (i : Index) → shift_jis_pair i a b ≡ code i p) → slice_index_or codes p None ≡ Some c
     → IsShiftJisPair codes a b c

@@ -56,7 +56,7 @@ module _ {S : Type 0} (h : Handler S) (calm : IsCalm h) where
   two_read s mid next rest c l e f =
       rw (take_two rest l) (steps_bytes h calm s (get_or rest 0 0 ∷ get_or rest 1 0 ∷ []) ∙ (rw (e, f) refl))
 
-  -- pairs that stand for characters from here and lead back here
+  -- pairs that decode to characters in this state and lead back to it
   pub pairs_run : (s : S) (P : ℕ → ℕ → ℕ → Type 0)
       → ((a b c : ℕ) → P a b c → steps h false s (a ∷ b ∷ []) ≡ record { text = c ∷ []; state = s })
       → (bytes given : List ℕ) → ArePairs P bytes given → steps h false s bytes ≡ record { text = given; state = s }

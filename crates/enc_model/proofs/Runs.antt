@@ -1,4 +1,4 @@
--- Runs of bytes that stand for themselves.
+-- Runs of bytes that decode to themselves.
 use Rattle.std.proofs.Common.{ℕ, ◌<◌, ◌≡◌, List, [], Some, false, All, arith}
 use Rattle.std.proofs.lemmas.Bool.Decides.{nat_tests}
 use Rattle.enc_model.specs.declared.Answer.TheVariants.{Point}

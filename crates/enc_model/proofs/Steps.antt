@@ -156,7 +156,7 @@ module _ {S : Type 0} (h : Handler S) where
   pub steps_end : IsCalm h → (s : S) → steps h true s [] ≡ run_to_end h s
   steps_end calm s = steps_are calm true s []
 
-  -- A RUN THAT STANDS FOR ITSELF, as a kernel finds it: from a state that such bytes leave.
+  -- A RUN THAT DECODES TO ITSELF, as a kernel finds it: from a state that such bytes leave.
   pub steps_run : IsCalm h → (P : ℕ → Type 0) (s : S) →
       ((b : ℕ) → P b → h s (Some b) ≡ record { state = s; answer = Point b; restored = [] }) →
       (run : List ℕ) → All P run → steps h false s run ≡ record { text = run; state = s }

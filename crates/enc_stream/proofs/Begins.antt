@@ -8,7 +8,7 @@ use Rattle.enc_model.proofs.Pieces.{decoded_none}
 use Rattle.enc_model.proofs.Transcoding.{coded_none}
 use Rattle.enc_stream.specs.TranscoderState.{start}
 
--- A transcoder that has read nothing stands where nothing was accepted.
+-- A transcoder that has read nothing has the state after no bytes.
 pub start_at : (t : Tables) (from to : Encoding) (mode : Mode) → IsStateAt t (start from to mode).transcoder []
 start_at t from to mode = record {
   phase = sym (ap phase_of (decoded_none t from));

@@ -7,7 +7,7 @@ use Rattle.enc_model.specs.Transcode.{Transcoder, Phase, Before, During, Over}
 use Rattle.enc_stream.specs.StateBytes.{IsPhaseOf, IsReached, IsReachedIn, IsValidState, encoding_number, mode_number}
 use Rattle.enc_stream.specs.StateBytes.{phase_number, shift_number, decoder_bytes, phase_bytes, padded, state_bytes}
 
--- WHAT A PHASE KEEPS HAS AT MOST FIVE BYTES
+-- WHAT A PHASE HOLDS HAS AT MOST FIVE BYTES
 
 few_held : (held : List ℕ) → undecided held ≡ true → length held ≤ 4
 few_held [] h = lit≤ tt
@@ -50,7 +50,7 @@ twelve (a ∷ b ∷ c ∷ d ∷ []) h = refl
 twelve (a ∷ b ∷ c ∷ d ∷ e ∷ []) h = refl
 twelve (a ∷ b ∷ c ∷ d ∷ e ∷ f ∷ xs) h = absurd (omega (arith, h))
 
--- what stands after them
+-- the bytes after them
 after : (n : ℕ) (xs rest : List ℕ) (i : ℕ) → get_or (padded n xs ++ rest) (n + i) 0 ≡ get_or rest i 0
 after zero xs rest i = grind arith
 after (suc n) [] rest i = grind (arith, after n [] rest i)

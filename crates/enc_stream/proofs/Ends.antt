@@ -12,7 +12,7 @@ use Rattle.enc_stream.specs.declared.error.TranscodeError.{TranscodeError}
 use Rattle.enc_stream.specs.declared.error.TranscodeError.TheVariants.{NoMemory, Unencodable, Spent}
 use Rattle.enc_stream.specs.TranscoderState.{StopsFor, IsPartWritten, IsAllWritten}
 
--- what stands at the start stays at the start
+-- what is at the start stays at the start
 ended_after : (x : List ℕ) (r : Coded) → ended_coded (led_by x r) ≡ led_by x (ended_coded r)
 ended_after x r = go r.fault refl
   where
@@ -35,7 +35,7 @@ decode_end t e b = go (undecided b) refl
         ap decoded_text (sym (conclude_all t e b) ∙ ap (conclude t e) d)
         ∙ sym (ap (λ z. decoded_text z ++ fed_end t e (phase_of z)) d)
 
--- From where a transcoder stands, the text with the end is the text so far and what the end adds.
+-- The text with the end is the text so far and what the end adds, by a transcoder's state.
 pub text_ended : (t : Tables) (s : Transcoder) (b : List ℕ) → IsStateAt t s b
     → text t s.from s.to s.mode b true ≡ led_by (so_far t s b).bytes (added_end t s)
 unfolding text encode

@@ -58,7 +58,7 @@ pub record IsAllWritten {Z : Type 0} (code : Coded) (old new : Vec ℕ Z) : Type
   pub fault : code.fault ≡ None
   pub items : new.items ≡ old.items ++ code.bytes
 
--- A prefix of the code was appended; e says why no more was.
+-- A prefix of the code was appended; e is why no more was.
 pub record IsPartWritten {Z : Type 0} (e : TranscodeError) (code : Coded) (old new : Vec ℕ Z) : Type 0 where
   pub reason : StopsFor e code old
   pub items : GrownByPrefix old.items code.bytes new.items

@@ -10,7 +10,7 @@ use Rattle.enc_model.specs.Utf8.{Utf8, utf8, utf8_start}
 use Rattle.enc_model.proofs.Texts.{utf8_text}
 use Rattle.enc_unicode.specs.Utf8State.{IsUtf8State}
 
--- where no byte is needed it stands at a character's start
+-- where no byte is needed it is at a character's start
 pub at_start : (needed lower upper point current : ℕ) (partial : List ℕ) (s : Utf8) → ◌≡◌ {A = Utf8} (record {
   needed = needed;
   lower = lower;

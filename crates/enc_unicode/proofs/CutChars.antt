@@ -110,7 +110,7 @@ more_cuts bytes rest n m t u is first then k some =
     ∙ ap (λ l. text_then t (from (take (m + k) l))) (sym same) ∙ ap (text_then t) (then k some)
     ∙ after_after t u (from (take k (drop m rest))) ∙ ap (λ l. text_then (t ++ u) (from (take k l))) left
 
--- a byte that cuts the character that is kept is read from the start
+-- a byte that cuts the unfinished character is read from the start
 pub unfinished_cut : (s : Utf8) (rest : List ℕ) (n : ℕ) → 0 < s.needed → 0 < n → 0 < length rest
     → within s.lower s.upper (get_or rest 0 0) ≡ false → steps utf8 false s (take n rest)
     ≡ text_then (0xFFFD ∷ []) (steps utf8 false utf8_start (take n rest))

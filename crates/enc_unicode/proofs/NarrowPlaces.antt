@@ -80,7 +80,7 @@ one_unit : (bytes : List ℕ) (p u : ℕ) → u < 2048 → get_or bytes p 0 ≡ 
 one_unit bytes p u small =
     short_unit bytes p u (narrow_word u) small (λ h. grind (arith, nat_tests, h)) (λ h. grind (arith, nat_tests, h))
 
--- what stands from a place on
+-- the bytes from a place on
 at_drop : (bytes : List ℕ) (p k : ℕ) (rest : List ℕ) → drop p bytes ≡ rest → get_or bytes (p + k) 0 ≡ get_or rest k 0
 at_drop bytes p k rest is = sym (get_or-drop p bytes k 0) ∙ ap (λ l. get_or l k 0) is
 

@@ -4,7 +4,7 @@ use Rattle.enc_model.specs.Stream.{steps, steps_within}
 use Rattle.enc_model.specs.Utf8.{utf8, utf8_start}
 use Rattle.enc_unicode.specs.Utf8State.{utf8_after}
 
--- two bytes of four are kept
+-- the state after two bytes of four
 two_of_four : utf8_after (0xF0 ∷ 0x90 ∷ []) ≡ record {
   needed = 2;
   lower = 0x80;

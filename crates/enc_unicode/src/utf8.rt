@@ -23,7 +23,7 @@ use std::marker::Model;
 const CUT: usize = 3;
 
 /// The UTF-8 decoder (Encoding Standard, section 8.1.1): how many bytes are still needed, the bounds of the next one,
-/// the code point so far, and the bytes that it came from. `faulty` says whether the last piece had faults; it only
+/// the code point so far, and the bytes that it came from. `faulty` is set if the last piece had faults; it only
 /// chooses the strategy for the next one.
 #[derive(Drop)]
 pub struct Utf8State {

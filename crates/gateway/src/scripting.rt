@@ -115,7 +115,7 @@ fn run_over_disk<D: Disk + Drop, R: CountedRead, W: CountedWrite>(
     ensures runs { (n : ℕ) (m : Store) → IsSpool D.Disk disk n m → IsOk result.1
         → HasRunSpool D.Disk n m (R.remaining reader.old) (W.contents writer.old) (W.contents writer.new) result.0 }
 
-    // The disk failed exactly where it says so.
+    // The disk failed exactly where the answer is a disk fault.
     ensures counts { Counts (result.1 ≡ Err (Fault.Stop Stop.DiskFault)) (D.failures disk) (D.failures result.0) }
 {
     let spool = match Spool::open(alloc, disk) {

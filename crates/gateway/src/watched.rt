@@ -1,4 +1,4 @@
-//! A gateway whose log is told what is left in its spool.
+//! A gateway that logs what is left in its spool.
 ghost use Rattle.std.specs.Prelude.{◌≡◌};
 ghost use Rattle.gateway_engine.specs.Gateways.{GatewayRepresents, is_down, store_of};
 

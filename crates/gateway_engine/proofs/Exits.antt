@@ -289,7 +289,7 @@ last_through u last now st past quiet shows = record {
   left = quiet.limits (last_blocks st past) shows.since (last_stores st past) shows.reached shows.left;
 }
 
--- of an unread script nothing is told
+-- where the bytes aren't known, any are a script
 pub some_script : (known : Option (List ℕ)) → (bytes : List ℕ) × IsScript known bytes
 some_script None = ([], tt {0})
 some_script (Some bytes) = (take 1073741825 bytes, refl)

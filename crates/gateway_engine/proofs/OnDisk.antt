@@ -59,11 +59,11 @@ pub view_room : {D : Type 0} (disk : Ghosts D) (d : D) (n : ℕ) (m : Store) (is
     → PAGE * all_pages is.shows.view.blocks ≤ disk.size d
 view_room disk d n m is = subst (λ (k : ℕ). PAGE * all_pages k ≤ disk.size d) (sym is.shows.blocks) is.room
 
--- as many blocks as are said
+-- the numbers of blocks are the same
 pub same_size : (n k : ℕ) → ◌≡◌ {A = Option ℕ} (Some n) (Some k) → k ≡ n
 same_size n k e = cc
 
--- a spool's images, by the number of blocks that is said
+-- a spool's images, by the given number of blocks
 pub left_shows : {D : Type 0} (disk : Ghosts D) (d : D) (k n t : ℕ) (ms : List Store) → SpoolLeft disk d k (Some n) t ms
     → LeftOnly disk d n t ms
 left_shows disk d k n t ms left = subst (λ (size : ℕ). LeftOnly disk d size t ms) (same_size n k left.0) left.1

@@ -1,4 +1,4 @@
--- What a gateway stands for.
+-- What a gateway represents.
 use Rattle.std.specs.Prelude.{◌≡◌, ℕ, Bool, false, Result, Ok, Err}
 use Rattle.spool_disk.specs.declared.disk.Disk as disks
 use Rattle.spool_image.specs.Spool.{disk_of, block_count_of}

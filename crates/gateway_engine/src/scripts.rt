@@ -19,7 +19,7 @@ use upload_rules::Uploads;
 /// The script is read whole before its first line is run.
 ///
 /// Refused with `Stop` where a growth outside the calls was refused or the disk failed, `Script` of the first line
-/// that is none or too long, and `Io`. What was committed and written before stands.
+/// that is none or too long, and `Io`. What was committed and written before stays.
 pub fn run_over<U: Uploads, R: CountedRead, W: CountedWrite>(
     alloc: Global,
     reader: &mut R,

@@ -41,7 +41,7 @@ impl<D: Disk> Gateway<Spool<D>> {
         ensures opened { (n : ℕ) (m : Store) → IsSpool D.Disk disk n m
             → OpensAs result (λ g. GatewayRepresents ⟦<Spool<D> as Uploads>⟧ g true (beginning m (Some n))) }
 
-        // Whatever the disk, what its spool has in memory is a view, which shows uploads, and it stands for these.
+        // On any disk its spool's catalog has a view, which shows uploads, and it represents these.
         ensures view { IfOk result (λ g. (v : View) × (m : Store) × SpoolHasView (store_of g) v × Shows v m) }
         ensures represents_view { (v : View) (m : Store) → Shows v m
             → IfOk result (λ g. SpoolHasView (store_of g) v
@@ -93,15 +93,15 @@ impl<D: Disk> Gateway<Spool<D>> {
 /// The script is read whole before its first line is run.
 ///
 /// Refused with `Stop` where a growth outside the calls was refused or the disk failed, `Script` of the first line
-/// that is none or too long, and `Io`. What was committed and written before stands.
+/// that is none or too long, and `Io`. What was committed and written before stays.
 pub fn run<D: Disk, R: CountedRead, W: CountedWrite>(
     alloc: Global,
     reader: &mut R,
     writer: &mut W,
     spool: Spool<D>,
 ) -> Result<D, (D, ScriptFault)>
-    // Whatever the disk: for the uploads that the spool stands for, those that its opening read, the exit and the
-    // output are the script's, by a mark for each call, but for the bytes of texts, which are as many.
+    // On any disk: the exit and the output are those of the script, with a mark for each call, over the uploads that
+    // the spool represents, which its opening read. Of a text only the number of its bytes is promised here.
     ensures writes { (m : Store) (blocks : Option ℕ) → SpoolRepresents spool false (at_rest m blocks)
         → (script : List ℕ) × IsScript (R.remaining reader.old) script
         × WritesRun result (W.contents writer.new) (W.contents writer.old) (beginning m blocks) script }

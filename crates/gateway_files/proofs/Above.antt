@@ -1,4 +1,4 @@
--- Uploads told one after the other, each by the least number above the one before.
+-- Uploads written one after the other, each by the least number above the one before.
 use Rattle.std.proofs.Common.{◌≡◌, ◌∙◌, ◌⊎◌, inl, inr, ap, sym, subst, refl, ℕ, suc, ◌<◌, ◌==◌, Bool}
 use Rattle.std.proofs.Common.{true, false, nat_lt, List, [], ◌∷◌, ◌++◌, if◌then◌else◌, map, Option, Some, None}
 use Rattle.std.proofs.Common.{arith, flat_map, append_assoc, append-nil}
@@ -87,13 +87,13 @@ all_above (x ∷ xs) some =
           absurd (some x.1 there)
     ]
 
--- before the first all are to be told
+-- before the first all are to be written
 pub reported_first : (f : ℕ × Upload → List ℕ) (out : List ℕ) (xs : List (ℕ × Upload))
     → ((u : Upload) → find 0 xs ≡ Some u → ⊥) → out ≡ [] → out ++ flat_map f (after 0 xs) ≡ flat_map f xs
 reported_first f out xs some e =
     ap (λ l. l ++ flat_map f (after 0 xs)) e ∙ ap (λ ys. flat_map f ys) (all_above xs some)
 
--- one more is told, of what is to be told in the end
+-- one more is written, of what is to be written in the end
 reported_more : (f : ℕ × Upload → List ℕ) (whole out : List ℕ) (xs : List (ℕ × Upload)) (n : ℕ) (entry : ℕ × Upload)
     → IsRising (numbers xs) → above n xs ≡ Some entry → out ++ flat_map f (after n xs) ≡ whole
     → (out ++ f entry) ++ flat_map f (after entry.0 xs) ≡ whole
@@ -101,13 +101,13 @@ reported_more f whole out xs n entry rising e before =
     append_assoc out (f entry) (flat_map f (after entry.0 xs))
     ∙ (ap (λ ys. out ++ flat_map f ys) (sym (some_above n xs entry rising e)) ∙ before)
 
--- all are told
+-- all are written
 reported_all : (f : ℕ × Upload → List ℕ) (whole out : List ℕ) (xs : List (ℕ × Upload)) (n : ℕ) → above n xs ≡ None
     → out ++ flat_map f (after n xs) ≡ whole → out ≡ whole
 reported_all f whole out xs n e before =
     sym (append-nil out) ∙ (ap (λ ys. out ++ flat_map f ys) (sym (none_above n xs e)) ∙ before)
 
--- a record says what the line of its upload says
+-- the line of a record is that of its upload
 pub record_is : (long : Bool) (x : IndexSet) (r : Record) (entry : ℕ × Upload) → Represents x entry.0 r entry.1
     → record_line long r ≡ upload_line long x entry
 record_is long x r entry t = rw (t.number_is, t.accepted, t.declared, t.text_len, t.from, t.to, t.mode, t.metadata) refl
@@ -128,7 +128,7 @@ pub represented : (x : IndexSet) (o : Option (ℕ × Upload)) (r : Record) → R
 represented x None r t = absurd t
 represented x (Some entry) r t = (entry, refl, t)
 
--- what is told of each upload, by its record
+-- what is written of each upload, by its record
 module _ (x : IndexSet) (f : ℕ × Upload → List ℕ) (whole out : List ℕ) (xs : List (ℕ × Upload)) (n : ℕ)
     (r : Option (Bor Record)) (t : RepresentsOf x (above n xs) (option_copied r))
     (before : out ++ flat_map f (after n xs) ≡ whole) where

@@ -102,7 +102,7 @@ surely_some holds m jobs files is = record {
   held = subst holds (surely m (take is.count jobs) files is.some.now is.some.are) is.some.held;
 }
 
--- WHETHER A FILE DIFFERS is told by the lengths of files, which are those of the store's texts
+-- WHETHER A FILE DIFFERS is decided by the lengths of files, which are those of the store's texts
 abbrev AsLong : Files → Files → Type 0
 AsLong files now = (name : List ℕ) → option_map length (files name) ≡ option_map length (now name)
 

@@ -62,7 +62,7 @@ module _ {D : Type 0} (holds : Disks D → Type 0) (disks : Disks D) (path : Lis
     held = rw (with_same disks path (disks path) refl) held;
   }
 
-  -- one disk stands under the path
+  -- one disk is at the path
   pub leaves_as : (there d : D) (Q : D → D → Type 0) → disks path ≡ Some there → disks path ≡ Some d
       → Leaves holds disks path (Q there) → Leaves holds disks path (Q d)
   leaves_as there d Q is this left = rw (one_disk there d (disks path) is this) at left

@@ -1,4 +1,4 @@
--- The uploads of a spool stand by ascending numbers, from 1 on.
+-- The uploads of a spool are in the order of their numbers, from 1 on.
 use Rattle.std.proofs.Common.{ℕ, arith}
 use Rattle.spool_disk.specs.declared.disk.Disk.{Ghosts}
 use Rattle.spool_image.specs.LeftOnly.{IsSpool}

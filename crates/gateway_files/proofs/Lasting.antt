@@ -26,7 +26,7 @@ abbrev pub CountsNow : {D : Type 0} → Ghosts D → D → Type 0
 CountsNow disk d = (t : ℕ) (image : ℕ → ℕ) → t ≤ disk.moment d → IsImage (disk.current d) (disk.unsynced d) image
     → disk.left_since d t image
 
--- a spool's images, by the number of blocks that is said
+-- a spool's images, by the given number of blocks
 left_shows : {D : Type 0} (disk : Ghosts D) (d : D) (k n t : ℕ) (ms : List Store) → SpoolLeft disk d k (Some n) t ms
     → LeftOnly disk d n t ms
 left_shows disk d k n t ms left = let size : k ≡ n = cc left.0 in rw size at left.1

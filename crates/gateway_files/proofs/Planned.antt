@@ -30,7 +30,7 @@ planned_all x all whole jobs xs n r e t before =
     sym (ap (λ ys. jobs_from all jobs ys) (none_above n xs (none_represented x (above n xs) (option_copied r)
     (ap (λ o. option_copied o) e) t))) ∙ before
 
--- a record says of its job what its upload says
+-- the job of a record is that of its upload
 job_is : (x : IndexSet) (all : Bool) (jobs : List Job) (r : Record) (entry : ℕ × Upload)
     → Represents x entry.0 r entry.1
     → with_job all jobs r.number (is_length r.declared r.accepted) r.metadata.bytes.items

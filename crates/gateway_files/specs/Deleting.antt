@@ -1,4 +1,4 @@
--- The uploads of some numbers, deleted one by one: what is left, what a crash leaves on the way, and what is said.
+-- The uploads of some numbers, deleted one by one: what is left, what a crash leaves on the way, and what is printed.
 use Rattle.std.specs.Prelude.{ℕ, Bool, true, false, List, [], ◌∷◌, ◌++◌, codes, decimal, filter, not, ◌==◌, ◌&&◌}
 use Rattle.std.specs.Prelude.{flat_map, if◌then◌else◌}
 use Rattle.upload_rules.specs.Lengths.{is_length}
@@ -39,7 +39,7 @@ incomplete_of m = flat_map incomplete_one m.uploads
 abbrev pub incomplete_record : Record → List ℕ
 incomplete_record r = unless_complete (is_length r.declared r.accepted) r.number
 
--- WHAT IS SAID of a number
+-- WHAT IS PRINTED of a number
 abbrev pub deletion_line : Bool → ℕ → List ℕ
 deletion_line true n = codes "deleted " ++ (decimal n ++ (10 ∷ []))
 deletion_line false n = codes "no upload " ++ (decimal n ++ (10 ∷ []))

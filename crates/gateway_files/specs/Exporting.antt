@@ -1,4 +1,4 @@
--- What `export` makes of a folder's files, and what it says of the uploads.
+-- What `export` makes of a folder's files, and what it prints of the uploads.
 use Rattle.std.specs.Prelude.{◌≡◌, ◌⊎◌, ◌||◌, ◌==◌, ℕ, Bool, true, false, not, List, [], ◌∷◌, ◌++◌, codes, decimal}
 use Rattle.std.specs.Prelude.{Option, Some, None, length, take}
 use Rattle.upload_rules.specs.Reading.{text_at}

@@ -1,4 +1,4 @@
--- Why the program ends before its work is done: what it says of it, and its status.
+-- Why the program ends before its work is done: what it prints of that, and its status.
 use Rattle.std.specs.Prelude.{ℕ, List, [], ◌∷◌, ◌++◌, codes, decimal, Option, Some, None}
 use Rattle.std.specs.Borrow.{Bor}
 use Rattle.std.specs.declared.io.ErrorKind.{ErrorKind}
@@ -64,7 +64,7 @@ exit_status_of (faults.Stop stops.DiskFault) = 3
 exit_status_of faults.FileDiffers = 4
 exit_status_of fault = 2
 
--- why a file isn't opened or made as a spool, where the system says this of it
+-- why a file isn't opened or made as a spool, by the system's error
 abbrev pub opening_fault : ErrorKind → Fault
 opening_fault kinds.ResourceBusy = faults.InUse
 opening_fault kinds.NotFound = faults.CannotOpen
@@ -82,7 +82,7 @@ opening_fault kinds.InvalidFilename = faults.CannotOpen
 opening_fault kinds.OutOfMemory = faults.Stop stops.NoMemory
 opening_fault kind = faults.Stop stops.DiskFault
 
--- WHAT THE CALLS BELOW REFUSE, as the program says it
+-- WHAT THE CALLS BELOW REFUSE, as the program's fault
 abbrev pub open_fault : OpenFault → Fault
 open_fault opens.NotASpool = faults.NotASpool
 open_fault opens.Damaged = faults.Damaged

@@ -25,7 +25,7 @@ abbrev pub spaced : List ℕ → List ℕ
 spaced [] = []
 spaced (b ∷ text) = 32 ∷ b ∷ text
 
--- the metadata, where it is to be told
+-- the metadata, where it is to be shown
 abbrev pub to_show : Bool → List ℕ → List ℕ
 to_show long metadata = if long then metadata else []
 
@@ -34,8 +34,8 @@ abbrev pub shown_name : Option (List ℕ) → List ℕ
 shown_name None = []
 shown_name (Some name) = if is_clean 0 name then codes " (filename: " ++ (name ++ codes ")") else []
 
--- the number, how many bytes were accepted and declared, the length of the text, both encodings, the mode, what is told
--- of the metadata, the file name that it gives, and LF
+-- the number, how many bytes were accepted and declared, the length of the text, both encodings, the mode, the metadata
+-- that is shown, the file name that it gives, and LF
 abbrev pub line : ℕ → ℕ → Option ℕ → ℕ → Encoding → Encoding → Mode → List ℕ → List ℕ
 line number accepted declared text_len from to mode metadata =
     decimal number ++ (32 ∷ (decimal accepted ++ (47 ∷ (length_text declared ++ (32 ∷ (decimal text_len ++ (32 ∷
@@ -52,12 +52,12 @@ upload_line long x entry =
 abbrev pub list_lines : Bool → Store → List ℕ
 list_lines long m = flat_map (upload_line long m.indexes) m.uploads
 
--- what a record says in its line
+-- the line of a record
 abbrev pub record_line : Bool → Record → List ℕ
 record_line long r =
     line r.number r.accepted r.declared r.text_len r.from r.to r.mode (to_show long r.metadata.bytes.items)
 
--- the uploads stand by ascending numbers, from 1 on
+-- the uploads are in the order of their numbers, from 1 on
 pub record IsInOrder (m : Store) : Type 0 where
   pub rising : IsRising (map (λ e. e.0) m.uploads)
   pub some : (u : Upload) → find 0 m.uploads ≡ Some u → ⊥

@@ -16,7 +16,7 @@ use Rattle.gateway_files.specs.declared.faults.Fault.{Fault}
 use Rattle.gateway_files.specs.declared.faults.Fault.TheVariants.{NotASpool, Version, Damaged, Stop}
 use Rattle.gateway_files.specs.declared.surveying.Survey.{Survey}
 
--- A LIST OF A DISK'S UPLOADS and its answer, from what the writer had to what it has: all that `list_on` says of them
+-- A LIST OF A DISK'S UPLOADS and its answer, from what the writer had to what it has: all that `list_on` promises
 pub record ListsAs {D : Type 0} (disk : Ghosts D) (d d' : D) (long : Bool) (before after : Option (List ℕ))
     (result : Result Survey Fault) : Type 0
   where

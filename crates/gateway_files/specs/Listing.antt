@@ -1,4 +1,4 @@
--- What is answered where the uploads of a spool are to be listed, and what a refusal says of the disk.
+-- What is answered where the uploads of a spool are to be listed, and what follows from a refusal of the disk.
 use Rattle.std.specs.Prelude.{◌≡◌, ◌⊎◌, ℕ, Result, Ok, Err, IfErr, OnOk}
 use Rattle.common.specs.declared.stop.Stop.TheVariants.{NoMemory, DiskFault}
 use Rattle.spool_journal.specs.Image.{overlaid}
@@ -9,7 +9,7 @@ use Rattle.upload_rules.specs.Store.{Store}
 use Rattle.gateway_files.specs.declared.faults.Fault.{Fault}
 use Rattle.gateway_files.specs.declared.faults.Fault.TheVariants.{Stop, Damaged, NotASpool, Version, Io}
 
--- what a refusal says of what the opening's reads gave, and of what a read gives before it
+-- what follows from a refusal of what the opening's reads gave, and of what a read gives before it
 abbrev pub ListRefusedBy : ℕ → (ℕ → ℕ) → (ℕ → ℕ) → Fault → Type 0
 ListRefusedBy size before after NotASpool = IsNoSpool size before
 ListRefusedBy size before after Version = ReadsOtherVersion size before after
@@ -21,7 +21,7 @@ ListRefusedBy size before after fault = ⊥
 abbrev pub ListRefusedFor : ℕ → (ℕ → ℕ) → Fault → Type 0
 ListRefusedFor size current = ListRefusedBy size current (overlaid current)
 
--- WHAT A COMMAND ANSWERS ON ANY DISK, by what its opening's reads gave: it is done, as this says of the uploads that
+-- WHAT A COMMAND ANSWERS ON ANY DISK, by what its opening's reads gave: it is done, and this holds of the uploads that
 -- the view shows, or each refusal has its reason there
 pub record AnswersAs {T : Type 0} (So : Store → Type 0) (size : ℕ) (result : Result T Fault) (before after : ℕ → ℕ)
     : Type 0

@@ -33,12 +33,12 @@ given_name metadata = name_in (find is_named (parts metadata))
 abbrev pub is_barred : ℕ → ℕ → Bool
 is_barred last b = nat_lt b 32 || b == 127 || b == 47 || b == 92 || last == 0xC2 && nat_lt b 0xA0
 
--- none of these stands among the bytes after this one
+-- none of these is among the bytes after this one
 abbrev pub is_clean : ℕ → List ℕ → Bool
 is_clean last [] = true
 is_clean last (b ∷ bytes) = if is_barred last b then false else is_clean b bytes
 
--- what stands before the first dot is a number
+-- what is before the first dot is a number
 abbrev pub is_digit : ℕ → Bool
 is_digit b = nat_le 48 b && nat_le b 57
 

@@ -18,7 +18,7 @@ served_line connections = codes "served " ++ (decimal connections ++ codes " con
 abbrev pub is_read : IndexFile → Bool
 is_read file = is_some file.entries
 
--- what is said of an index file of which so many entries were read, where the standard's has so many
+-- what is printed of an index file of which so many entries were read, where the standard's has so many
 abbrev pub entries_lines : IndexFile → Option ℕ → List ℕ
 entries_lines file None =
     codes "not offered: " ++ (file.encodings.now ++ (codes ", since " ++ (file.name.now ++ codes " isn't there\n")))
@@ -32,7 +32,7 @@ entries_lines file (Some count) =
 abbrev pub file_lines : IndexFile → List ℕ
 file_lines file = entries_lines file file.entries
 
--- how many index files were read, and what is said of each
+-- how many index files were read, and what is printed of each
 abbrev pub read_lines : List IndexFile → List ℕ
 read_lines files =
     (codes "index files read: " ++ (decimal (count_by is_read files) ++ (10 ∷ []))) ++ flat_map file_lines files

@@ -28,7 +28,7 @@ pub record LeavesOthers {D : Type 0} (holds : Disks D → Type 0) (disks : Disks
   pub there : Option D
   pub held : holds (with_disk disks path there)
 
--- why a file isn't opened: by what the system says
+-- why a file isn't opened: by the system's error
 abbrev pub IsNotOpened : Failure → Type 0
 IsNotOpened failure = (kind : ErrorKind) × (fault_in failure ≡ opening_fault kind)
 

@@ -1,16 +1,16 @@
--- Readers and writers that keep something of what their calls gave.
+-- Readers and writers that store something of what their calls gave.
 use Rattle.std.specs.Prelude.{Option}
 use Rattle.std.specs.declared.io.Error.{Error}
 use Rattle.gateway_files.specs.declared.losses.Tally.{Tally}
 use Rattle.gateway_files.specs.declared.streams.Noted.{Noted}
 
--- what one stands over that keeps why its latest call failed, and that
+-- the stream under one that stores why its latest call failed, and that reason
 abbrev pub noted_stream : {S : Type 0} → Noted S → S
 noted_stream noted = noted.stream
 
 abbrev pub latest_error_of : {S : Type 0} → Noted S → Option Error
 latest_error_of noted = noted.error
 
--- what one stands over that counts
+-- the stream under one that counts
 abbrev pub tallied : {S : Type 0} → Tally S → S
 tallied tally = tally.stream

@@ -24,7 +24,7 @@ use Rattle.gateway_files.specs.Faults.{upgrade_fault}
 use Rattle.gateway_files.specs.SpoolFiles.{OnlyRead}
 use Rattle.gateway_files.specs.declared.failures.Failure.{Failure}
 
--- AN UPGRADE OF A DISK and its answer: what `spool_image::upgrade` says of them
+-- AN UPGRADE OF A DISK and its answer: what `spool_image::upgrade` promises of them
 pub record Upgrades {T D : Type 0} (disk : Ghosts D) (d d' : D) (result : Result T UpgradeError) : Type 0 where
   pub size : disk.size d' ≡ disk.size d
   pub honest : disk.honest d ↔ disk.honest d'

@@ -62,7 +62,7 @@ pub fn delete_on<D: Disk + Drop, W: Write>(
     disk: D,
     numbers: &[u64],
 ) -> (D, Result<bool, Fault>)
-    // Each image then shows the uploads of all other numbers, and what was written tells which were there.
+    // Each image then shows the uploads of all other numbers, and the line of each number is by whether it had one.
     ensures shows { (n : ℕ) (m : Store) → IsSpool D.Disk disk n m → IsOk result.1
         → AllShow D.Disk result.0 n (left m numbers.now) }
     ensures lines { (n : ℕ) (m : Store) → IsSpool D.Disk disk n m
@@ -108,8 +108,8 @@ pub fn delete_uploads<W: Write, U: Uploads>(
     uploads: &mut U,
     numbers: &[u64],
 ) -> Result<bool, Fault>
-    // Whatever the disk, for the uploads that they stand for: those of all other numbers are left, and what was written
-    // tells which were there.
+    // On any disk, for the uploads that they represent: those of all other numbers are left, and the line of each
+    // number is by whether it had one.
     ensures represents { (sure : Bool) (w : World) → U.represents uploads.old sure w
         → OnOk result (U.represents uploads.new sure (record w { store = left w.store numbers.now })) }
     ensures lines { (sure : Bool) (w : World) → U.represents uploads.old sure w
@@ -179,7 +179,7 @@ fn terminate<U: Uploads>(uploads: &mut U, number: u64) -> Result<bool, Fault>
     }
 }
 
-// Says whether an upload was there, and so is deleted.
+// Prints whether an upload was there, and so is deleted.
 fn report_deleted<W: Write>(writer: &mut W, number: u64, there: bool) -> io::Result<()>
     ensures { OnOk result (Appends (W.contents writer.old) (W.contents writer.new) (deletion_line there number)) }
 {

@@ -35,9 +35,10 @@ use std::alloc::Global;
 use std::io::{self, Write};
 use upload_rules::Uploads;
 
-/// Writes the text of each complete upload of the spool in a file, or of all, into a file of a folder of its own, and
-/// prints a line for each upload. A file has its name once it is whole. One that is there stays as it is: the others
-/// are written all the same, and it is refused at the end, in other words where it hasn't the length of the text.
+/// Writes the text of each complete upload of a spool, or of each upload, into a file of its own in a folder, and
+/// prints a line for each upload. A file gets its name once it is whole. A file that was there before stays as it is,
+/// and the others are still written. At the end the call is refused then: with `FileDiffers` if such a file hasn't the
+/// length of its text, and else with `FileThere`.
 pub fn export_file<'a>(
     rt: &'a HostRuntime,
     alloc: Global,
@@ -84,7 +85,7 @@ pub fn export_on<D: Disk + Drop, F: Folder, W: Write>(
     ensures whole { (n : ℕ) (m : Store) → IsSpool D.Disk disk n m → (files : Files) → F.holds folder.old files
         → ExportsSome (F.holds folder.new) m (jobs_of all m) files }
 
-    // It is told whether a file that was there has another length than its upload's text.
+    // `differs` is whether a file that was there has another length than its upload's text.
     ensures differs { (n : ℕ) (m : Store) → IsSpool D.Disk disk n m → (files : Files) → F.holds folder.old files
         → IfOk result.1 (λ done. done.differs ≡ some_differ m files (jobs_of all m)) }
 
@@ -129,8 +130,8 @@ pub fn export_uploads<W: Write, F: Folder, U: Uploads>(
     uploads: &mut U,
     all: bool,
 ) -> Result<Done, Fault>
-    // Whatever the disk, for the uploads that they stand for: the folder holds a file of each text that is to be
-    // written, where there was none of its name. It has as many bytes as the text, and is the text if that is sure.
+    // On any disk, for the uploads that they represent: the folder holds a file of each text that is to be written,
+    // where there was none of its name. It has as many bytes as the text, and is the text if that is sure.
     ensures files { (sure : Bool) (w : World) → U.represents uploads.old sure w → IsInOrder w.store → (files : Files)
         → F.holds folder.old files
         → OnOk result (ExportsAs sure (F.holds folder.new) w.store (jobs_of all w.store) files) }
@@ -140,7 +141,7 @@ pub fn export_uploads<W: Write, F: Folder, U: Uploads>(
         → F.holds folder.old files → ExportsSomeAs sure (F.holds folder.new) w.store (jobs_of all w.store) files }
     ensures preserves { (files : Files) → F.holds folder.old files → HoldsAll (F.holds folder.new) files }
 
-    // It is told whether a file that was there has another length than its upload's text.
+    // `differs` is whether a file that was there has another length than its upload's text.
     ensures differs { (sure : Bool) (w : World) → U.represents uploads.old sure w → IsInOrder w.store → (files : Files)
         → F.holds folder.old files
         → IfOk result (λ done. done.differs ≡ some_differ w.store files (jobs_of all w.store)) }
@@ -274,7 +275,7 @@ fn do_job<'j, W: Write, F: Folder, U: Uploads>(
             Ok(outcome)
         }
         (Err(fault), Some(name)) => {
-            // where this can't be written either, the end tells of the fault alone
+            // if this can't be written either, only the program's end reports the fault
             let reported = report_outcome(writer, job.number, Outcome::Failed(name.as_str()));
             drop(reported);
             Err(fault)
@@ -370,7 +371,7 @@ fn write_text<F: Folder, U: Uploads>(
     }
 }
 
-// Says what became of an upload.
+// Prints what became of an upload.
 fn report_outcome<W: Write>(writer: &mut W, number: u64, outcome: Outcome) -> io::Result<()>
     ensures { OnOk result (Appends (W.contents writer.old) (W.contents writer.new)
         (outcome_line number outcome.entry)) }
@@ -386,7 +387,7 @@ fn report_outcome<W: Write>(writer: &mut W, number: u64, outcome: Outcome) -> io
     }
 }
 
-// Says how many texts were written, of how many uploads, and whether a file has another length than its text.
+// Prints how many texts were written, of how many uploads, and whether a file has another length than its text.
 fn report_done<W: Write>(writer: &mut W, done: Done, uploads: usize) -> io::Result<()>
     ensures { OnOk result (Appends (W.contents writer.old) (W.contents writer.new)
         (summary_line done.exported uploads done.differs)) }

@@ -1,4 +1,4 @@
-//! What the program says of its end: the fault, and what the system said where it was the system that failed.
+//! What the program reports at its end: the fault, and the system's error if it was the system that failed.
 ghost use Rattle.std.specs.Prelude.{◌≡◌};
 ghost use Rattle.std.specs.IoError.{error_kind};
 ghost use Rattle.gateway_files.specs.Faults.{opening_fault, exit_status_of};
@@ -59,7 +59,7 @@ impl fmt::Display for Task<'_> {
 pub enum Advice<'a> {
     /// The file at this path is no spool.
     NoSpool(&'a str),
-    /// The file at this path begins as a spool, but isn't as long as it says, or says nothing valid.
+    /// The file at this path begins as a spool, but hasn't the length that it names, or names no valid one.
     CutShort(&'a str),
     /// The file at this path holds what no gateway writes.
     Damaged(&'a str),
@@ -146,7 +146,7 @@ impl fmt::Display for TextAdvice<'_> {
     }
 }
 
-// What the second line says.
+// What is in the second line.
 #[derive(Clone, Copy, Debug, Drop)]
 enum Cause<'a> {
     // what the system failed at, and why
@@ -206,14 +206,14 @@ impl<'a> Failure<'a> {
         }
     }
 
-    /// Work on the spool at this path failed. Where it was for the disk, the disk says why.
+    /// Work on the spool at this path failed. If it was for the disk, the disk has the reason.
     pub fn on_spool(fault: Fault, path: &'a str, disk: &FileDisk) -> Self
         ensures { fault_in result ≡ fault }
     {
         Failure::on_disk(fault, path, disk.error())
     }
 
-    /// As `on_spool`, where this is what the disk says.
+    /// As `on_spool`, with the disk's error.
     pub(crate) fn on_disk(fault: Fault, path: &'a str, error: Option<io::Error>) -> Self
         ensures { fault_in result ≡ fault }
     {
@@ -227,7 +227,7 @@ impl<'a> Failure<'a> {
         }
     }
 
-    /// A run over what was read and written failed. Where it was for one of these, the one that failed last says why.
+    /// A run over what was read and written failed. If one of these failed, the one that failed last has the reason.
     pub fn on_streams(fault: Fault, input: Option<io::Error>, output: Option<io::Error>) -> Self
         ensures { fault_in result ≡ fault }
     {
@@ -253,8 +253,8 @@ impl<'a> Failure<'a> {
     }
 }
 
-/// The status that the program ends with. A failure is told to a writer; where that takes nothing, the status alone
-/// says it.
+/// The status that the program ends with. A failure is reported to a writer. If that takes nothing, only the status
+/// shows it.
 pub fn ended<W: Write>(writer: &mut W, outcome: Result<u8, Failure>) -> u8
     ensures { result ≡ status_with outcome.entry }
 {

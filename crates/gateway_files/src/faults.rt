@@ -71,7 +71,7 @@ impl fmt::Display for Fault {
 }
 
 impl Fault {
-    /// Why a file isn't opened or made as a spool, where the system says this of it.
+    /// Why a file isn't opened or made as a spool, by the system's error.
     pub fn of_opening(kind: ErrorKind) -> Self
         ensures { result ≡ opening_fault kind }
     {

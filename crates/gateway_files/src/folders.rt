@@ -47,12 +47,12 @@ pub trait Folder {
 // The name of the file that is being written. It begins with a dot, as the name of no upload's file does.
 const PART: &str = ".gateway-export";
 
-/// A folder of the file system. It keeps why its latest call failed. It has a file `.gateway-export` while one is
-/// written, and is locked against other exports. What an ended run left of that file goes with the next; where the file
-/// system has no locks it stays, since another export may be writing it, and no file can be begun.
+/// A folder of the file system, and why its latest call failed. It is locked against other exports. While a file is
+/// written, it has the name `.gateway-export`. If a run ended in between, the next run removes that file. If the file
+/// system has no locks, it isn't removed, since another export may be writing it, and then no file can be begun.
 ///
-/// No contract says what a file system keeps, so of no files it is proved that it holds them: that it behaves as a
-/// folder is a premise of whoever relies on it.
+/// No contract states which files a file system holds, so it isn't proved that this folder holds any. Whoever relies on
+/// it has the premise that it behaves as a `Folder`.
 #[derive(Drop)]
 pub struct FileFolder<'a> {
     rt: &'a HostRuntime,

@@ -55,7 +55,7 @@ pub fn format_on<D: Disk>(disk: &mut D, blocks: u32, indexes: &IndexSet) -> Resu
     ensures crash { D.honest disk.old → Lasts D.Disk disk.old disk.new
         (LeftByFormat blocks indexes.now (D.current disk.old) (D.unsynced disk.old)) }
 
-    // Else every image shows no uploads, these indexes and so many blocks; and so many pages are told.
+    // Else every image shows no uploads, these indexes and so many blocks, and the answer is the number of pages.
     ensures shows { D.honest disk.old → OnOk result (AllShow D.Disk disk.new blocks (no_uploads indexes.now)) }
     ensures pages { IfOk result (λ pages. pages ≡ all_pages blocks) }
 {
@@ -91,7 +91,7 @@ pub fn format_in<'a, F: SpoolFiles>(
         → F.File.honest d → HasMagic (F.File.size d) (F.File.current d)
         → IsErr result × Leaves (F.holds files.new) disks path.now (OnlyRead F.File.Disk d) }
 
-    // What is made shows no uploads, these indexes and so many blocks, and so many pages are told.
+    // What is made shows no uploads, these indexes and so many blocks, and the answer is the number of pages.
     ensures made { (disks : Disks F.File) → F.holds files.old disks → OnOk result (Leaves (F.holds files.new) disks
         path.now (λ d. AllShow F.File.Disk d blocks (no_uploads indexes.now))) }
     ensures pages { IfOk result (λ pages. pages ≡ all_pages blocks) }

@@ -43,7 +43,7 @@ pub fn delete_incomplete_file<'a>(
     }
     report_doomed(&mut io::writer(rt), &numbers)?;
     if !numbers.is_empty() {
-        // If standard error can't be written, this isn't said.
+        // If standard error can't be written, this is left out.
         let reported = eprintln!(rt; "nothing was deleted: --yes deletes them");
         drop(reported);
     }
@@ -90,7 +90,7 @@ pub fn incomplete_on<D: Disk + Drop>(alloc: Global, disk: D) -> (D, Result<Vec<u
 ///
 /// Refused with `Stop(NoMemory)` alone.
 pub fn incomplete_numbers<U: Uploads>(alloc: Global, uploads: &U) -> Result<Vec<u64>, Fault>
-    // Whatever the disk: for the uploads that they stand for.
+    // On any disk: for the uploads that they represent.
     ensures numbers { (sure : Bool) (w : World) → U.represents uploads.now sure w → IsInOrder w.store
         → IfOk result (λ numbers. numbers.items ≡ incomplete_of w.store) }
     ensures refused { IfErr result (λ fault. fault ≡ Fault.Stop Stop.NoMemory) }
@@ -118,7 +118,7 @@ fn push_incomplete(numbers: &mut Vec<u64>, record: &Record) -> Result<(), AllocE
     Ok(())
 }
 
-// Says of each of these uploads that it would be deleted.
+// Prints of each of these uploads that it would be deleted.
 fn report_doomed<W: Write>(writer: &mut W, numbers: &[u64]) -> io::Result<()>
     ensures { OnOk result (Appends (W.contents writer.old) (W.contents writer.new) (flat_map doomed_line numbers.now)) }
 {

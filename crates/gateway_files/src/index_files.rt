@@ -135,8 +135,8 @@ pub trait Readable {
 
 /// A folder of the file system that index files are in.
 ///
-/// No contract says what a file system keeps, so of no files it is proved that it has them: that it behaves as a folder
-/// is a premise of whoever relies on it.
+/// No contract states which files a file system holds, so it isn't proved that this folder has any. Whoever relies on
+/// it has the premise that it behaves as a folder.
 #[derive(Drop)]
 struct IndexFolder<'a> {
     rt: &'a HostRuntime,
@@ -164,7 +164,7 @@ impl Readable for IndexFolder<'_> {
     }
 }
 
-/// Reads the index files that stand in a folder, which has to be there. A file that isn't there isn't set.
+/// Reads the index files that are in a folder, which has to be there. A file that isn't there isn't set.
 pub(crate) fn read_indexes<'a>(
     rt: &HostRuntime,
     alloc: Global,

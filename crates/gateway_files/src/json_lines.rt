@@ -15,7 +15,7 @@ use std::alloc::Global;
 use std::io::{self, Write};
 use upload_rules::{Record, Uploads, is_length};
 
-/// An upload, as its line says it.
+/// An upload, as it is in its line.
 #[derive(Drop, Serialize)]
 struct UploadLine<'a> {
     number: u64,
@@ -33,7 +33,7 @@ struct UploadLine<'a> {
     filename: Option<String>,
     /// as the client sent it
     metadata: &'a str,
-    /// how often the text has U+FFFD, or the reference that stands for it
+    /// how often the text has U+FFFD, or its reference
     losses: u64,
 }
 

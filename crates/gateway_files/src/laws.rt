@@ -4,8 +4,8 @@ ghost use Rattle.spool_pages.specs.View.{View};
 ghost use Rattle.upload_rules.specs.Store.{Store};
 ghost use Rattle.gateway_files.specs.Lines.{IsInOrder};
 
-/// The uploads that a view shows stand by ascending numbers, from 1 on. So what is promised of the lines and the plan
-/// of uploads in order holds of those that an opening read, whatever the disk.
+/// The uploads that a view shows are in the order of their numbers, from 1 on. So what is promised of the lines and the
+/// plan of uploads in order holds of those that an opening read, whatever the disk.
 pub fn shown_in_order()
     ensures { (v : View) (m : Store) → Shows v m → IsInOrder m }
 {}

@@ -1,4 +1,4 @@
-//! Spools in files: made, listed, exported and upgraded; and what is said of what was done, and where that fails.
+//! Spools in files: made, listed, exported and upgraded; and what is printed of what was done, and of failures.
 #![tactic(auto)]
 
 mod copies;

@@ -38,8 +38,8 @@ use std::fmt;
 use std::io::{self, Write};
 use upload_rules::{Record, Uploads};
 
-/// Prints the uploads of the spool in a file, by number, with their metadata or without. On standard error it says how
-/// much of the spool is free, and, with the metadata, which texts have U+FFFD.
+/// Prints the uploads of the spool in a file, by number, with their metadata or without. On standard error it prints
+/// how much of the spool is free, and, with the metadata, which texts have U+FFFD.
 pub fn list_file<'a>(
     rt: &HostRuntime,
     alloc: Global,
@@ -87,7 +87,7 @@ pub fn list_in<'a, F: SpoolFiles, W: Write>(
     }
 }
 
-// Says on standard error which texts have U+FFFD, and how often.
+// Prints on standard error which texts have U+FFFD, and how often.
 fn report_losses_first<'a>(
     rt: &HostRuntime,
     alloc: Global,
@@ -107,7 +107,7 @@ fn report_losses_first<'a>(
     }
 }
 
-// Says of each text that has U+FFFD how often.
+// Prints of each text that has U+FFFD how often.
 fn report_all_losses<W: Write, U: Uploads>(writer: &mut W, uploads: &mut U) -> Result<(), Fault> {
     let mut number = 0;
     for _ in 0..SLOTS {
@@ -185,7 +185,7 @@ pub fn write_uploads<W: Write, U: Uploads>(
     uploads: &U,
     long: bool,
 ) -> Result<(), Fault>
-    // Whatever the disk: for the uploads that they stand for.
+    // On any disk: for the uploads that they represent.
     ensures lines { (sure : Bool) (w : World) → U.represents uploads.now sure w → IsInOrder w.store
         → OnOk result (Appends (W.contents writer.old) (W.contents writer.new) (list_lines long w.store)) }
     ensures refused { IfErr result IsLineFault }
@@ -252,7 +252,7 @@ impl fmt::Display for Declared {
     }
 }
 
-// What is told of an upload's metadata: all or nothing.
+// What is shown of an upload's metadata: all or nothing.
 fn to_show(record: &Record, long: bool) -> &str
     ensures { result.now ≡ to_show long record.now.metadata.bytes.items }
 {
@@ -290,7 +290,7 @@ impl fmt::Display for Named {
     }
 }
 
-/// A mode, as the metadata of an upload says it.
+/// A mode, as it is named in the metadata of an upload.
 pub(crate) fn mode_name(mode: Mode) -> &'static str
     ensures { result.now ≡ mode_text mode }
 {

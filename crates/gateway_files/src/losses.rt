@@ -1,4 +1,4 @@
-//! Signs of lost bytes in texts: U+FFFD, which stands for bytes that aren't of the encoding they were said to be of.
+//! Signs of lost bytes in texts: U+FFFD, which is in the place of bytes that aren't of the encoding that was named.
 ghost use Rattle.std.specs.Prelude.{IfErr, IsErrOf, OnOk, true};
 ghost use Rattle.common.specs.declared.stop.Stop.{Stop};
 ghost use Rattle.upload_rules.specs.Answers.{Counts, Quiet};
@@ -46,8 +46,8 @@ impl Signs {
 }
 
 /// A writer that counts the bytes that it takes, and the signs of lost bytes among them. It is only tested what it
-/// counts. A sign is U+FFFD in UTF-8, and in the other encodings, which lack it, the reference that stands for it; a
-/// text may have it for other reasons too.
+/// counts. A sign is U+FFFD in UTF-8, and in the other encodings, which lack it, its reference; a text may have it for
+/// other reasons too.
 #[derive(Drop)]
 pub struct Tally<W> {
     stream: W,

@@ -52,7 +52,7 @@ fn pair(part: &[u8]) -> &[u8]
     rest
 }
 
-// The text in UTF-8 that a value stands for.
+// The text in UTF-8 that a value encodes.
 fn text_in(alloc: Global, value: &[u8]) -> Result<Option<String>, AllocError>
     ensures { IfOk result (λ text. option_map string_bytes text ≡ text_in (value_of value.now)) }
 {
@@ -82,7 +82,7 @@ pub fn is_safe_name(name: &str) -> bool
     name.len() <= LONGEST && !is_numbered(name.as_bytes()) && is_clean(name.as_bytes())
 }
 
-// Whether nothing but digits stands before the first dot.
+// Whether nothing but digits is before the first dot.
 fn is_numbered(name: &[u8]) -> bool
     ensures { result ≡ is_numbered name.now }
 {

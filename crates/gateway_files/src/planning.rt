@@ -33,7 +33,7 @@ impl Job {
 /// All uploads by number. The text of one is written where it is complete, or where all are. Its file has the name that
 /// its metadata gives, where that is safe and no other file has it, and else its number.
 pub fn plan<U: Uploads>(alloc: Global, uploads: &U, all: bool) -> Result<Vec<Job>, AllocError>
-    // Whatever the disk: for the uploads that they stand for.
+    // On any disk: for the uploads that they represent.
     ensures { (sure : Bool) (w : World) → U.represents uploads.now sure w → IsInOrder w.store
         → IfOk result (λ jobs. map job_shown jobs.items ≡ jobs_of all w.store) }
 {

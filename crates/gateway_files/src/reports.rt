@@ -10,14 +10,14 @@ use crate::surveying::Survey;
 use common::SLOTS;
 use std::io::{self, Write};
 
-/// Says what `format` made.
+/// Prints what `format` made.
 pub fn report_formatted<W: Write>(writer: &mut W, blocks: u32, pages: u32) -> io::Result<()>
     ensures { OnOk result (Appends (W.contents writer.old) (W.contents writer.new) (formatted_line blocks pages)) }
 {
     writeln!(writer, "formatted {blocks} blocks, {pages} pages")
 }
 
-/// Says which index files were read, and which of them aren't whole.
+/// Prints which index files were read, and which of them aren't whole.
 pub fn report_read<W: Write>(writer: &mut W, files: &[IndexFile]) -> io::Result<()>
     ensures { OnOk result (Appends (W.contents writer.old) (W.contents writer.new) (read_lines files.now)) }
 {
@@ -35,21 +35,21 @@ fn count_read(files: &[IndexFile]) -> usize
     files.iter().filter(|file| file.entries.is_some()).count()
 }
 
-/// Says that a spool was upgraded.
+/// Prints that a spool was upgraded.
 pub fn report_upgraded<W: Write>(writer: &mut W) -> io::Result<()>
     ensures { OnOk result (Appends (W.contents writer.old) (W.contents writer.new) upgraded_line) }
 {
     writeln!(writer, "upgraded to version 2")
 }
 
-/// Says how many connections were served.
+/// Prints how many connections were served.
 pub fn report_served<W: Write>(writer: &mut W, connections: u64) -> io::Result<()>
     ensures { OnOk result (Appends (W.contents writer.old) (W.contents writer.new) (served_line connections)) }
 {
     writeln!(writer, "served {connections} connections")
 }
 
-/// Says how much of a spool is free.
+/// Prints how much of a spool is free.
 pub fn report_free<W: Write>(writer: &mut W, survey: &Survey) -> io::Result<()>
     ensures { OnOk result (Appends (W.contents writer.old) (W.contents writer.new) (free_line survey.now)) }
 {
@@ -60,21 +60,21 @@ pub fn report_free<W: Write>(writer: &mut W, survey: &Survey) -> io::Result<()>
     )
 }
 
-/// Says how often a text has U+FFFD.
+/// Prints how often a text has U+FFFD.
 pub fn report_losses<W: Write>(writer: &mut W, losses: u64) -> io::Result<()>
     ensures { OnOk result (Appends (W.contents writer.old) (W.contents writer.new) (losses_line losses)) }
 {
     writeln!(writer, "U+FFFD in the text: {losses}")
 }
 
-/// Says how often the text of an upload has U+FFFD.
+/// Prints how often the text of an upload has U+FFFD.
 pub fn report_losses_of<W: Write>(writer: &mut W, number: u64, losses: u64) -> io::Result<()>
     ensures { OnOk result (Appends (W.contents writer.old) (W.contents writer.new) (losses_line_of number losses)) }
 {
     writeln!(writer, "U+FFFD in the text of {number}: {losses}")
 }
 
-/// Says what is served, and where.
+/// Prints what is served, and where.
 pub fn report_up<W: Write>(
     writer: &mut W,
     spool: &str,

@@ -37,7 +37,7 @@ pub trait SpoolFiles {
         ensures failed { (disks : Disks Self.File) → holds self.old disks
             → OnErr result (LeavesOthers (holds self.new) disks path.now) };
 
-    /// Closes a file, which stands at this path then.
+    /// Closes a file, which is at this path then.
     fn close(&mut self, path: &str, disk: Self::File)
         ensures closed { (disks : Disks Self.File) → holds self.old disks
             → holds self.new (with_disk disks path.now (Some disk)) };
@@ -48,8 +48,8 @@ pub trait SpoolFiles {
 
 /// The files of the file system.
 ///
-/// No contract says what a file system keeps, so of no disks it is proved that it holds them: that it behaves as such
-/// files is a premise of whoever relies on it.
+/// No contract states which files a file system holds, so it isn't proved that this one holds any disks. Whoever relies
+/// on it has the premise that it behaves as `SpoolFiles`.
 #[derive(Drop)]
 pub struct SystemFiles<'a> {
     rt: &'a HostRuntime,
@@ -162,7 +162,7 @@ fn is_cut_short<D: Disk>(fault: Fault, disk: &mut D) -> bool
     fault == Fault::NotASpool && matches!(is_spool(disk), Ok(true))
 }
 
-// The refusal of a file, which begins as a spool where it is cut short, and where this is what the disk says.
+// The refusal of a file: `cut_short` if it begins as a spool but isn't one, with the disk's error.
 fn refusal<'a>(
     fault: Fault,
     path: &'a str,

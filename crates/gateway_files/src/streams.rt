@@ -1,9 +1,9 @@
-//! Readers and writers that keep why they failed.
+//! Readers and writers that store why they failed.
 ghost use Rattle.std.specs.Prelude.{◌≡◌, None};
 
 use std::io::{self, ErrorKind, Read, Write};
 
-/// A reader or a writer that keeps why its latest call failed.
+/// A reader or a writer that stores why its latest call failed.
 #[derive(Drop)]
 pub struct Noted<S> {
     stream: S,
@@ -24,7 +24,7 @@ impl<S> Noted<S> {
         }
     }
 
-    /// What it stands over.
+    /// The stream under it.
     pub fn into_stream(self) -> S
         ensures { result ≡ noted_stream self }
     {

@@ -42,7 +42,7 @@ pub fn open_surveyed<D: Disk>(alloc: Global, disk: D) -> Result<(Spool<D>, Surve
     ensures honest { D.honest disk ↔ D.honest (disk_left result) }
     ensures counts { Counts (IsOpenFault result) (D.failures disk) (D.failures (disk_left result)) }
 
-    // A spool is opened, unless memory or the disk refuses it, and stands for its uploads. The survey has its number of
+    // A spool is opened, unless memory or the disk refuses it, and represents its uploads. The survey has its number of
     // blocks and its version.
     ensures represents { (n : ℕ) (m : Store) → IsSpool D.Disk disk n m
         → OpensAs result (λ opened. SpoolRepresents opened.0 true (at_rest m (Some n))) }
@@ -50,7 +50,7 @@ pub fn open_surveyed<D: Disk>(alloc: Global, disk: D) -> Result<(Spool<D>, Surve
     ensures survey { (v : View) → IfOk result (λ opened. SpoolHasView opened.0 v
         → (opened.1.version ≡ version_number v.version) × (opened.1.blocks ≡ v.blocks)) }
 
-    // On any disk what it has in memory is a view, which shows uploads, and it stands for these.
+    // On any disk its catalog has a view, which shows uploads, and it represents these.
     ensures view { IfOk result (λ opened. (v : View) × (m : Store) × SpoolHasView opened.0 v × Shows v m) }
     ensures represents_view { (v : View) (m : Store) → Shows v m
         → IfOk result (λ opened. SpoolHasView opened.0 v → SpoolRepresents opened.0 false (at_rest m (Some v.blocks))) }

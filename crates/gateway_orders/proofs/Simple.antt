@@ -1,4 +1,4 @@
--- The program's commands are among those of which clap says the matches.
+-- The program's commands are among those whose matches clap's contract states.
 use Rattle.std.proofs.Common.{◌≡◌, ◌∷◌, [], Bool, List, map, true, false, refl}
 use Rattle.std.specs.Prelude.{◌&&◌, not, is_some}
 use Rattle.std.specs.List.{list_all}

@@ -27,7 +27,7 @@ WriteAll bits (text ∷ texts) (n ∷ numbers) = IsNumeralOf bits text n × Writ
 abbrev pub HasNumbers : ℕ → List Row → Text → List ℕ → Type 0
 HasNumbers bits given name numbers = IsSomeAnd (many_of name given) (λ texts. WriteAll bits texts numbers)
 
--- whether an argument without a value is given, which clap keeps as one of two texts
+-- whether an argument without a value is given, which clap stores as one of two texts
 abbrev pub HasFlag : List Row → Text → Bool → Type 0
 HasFlag given name flag = (one_of name given ≡ Some (codes "true") → flag ≡ true)
     × (one_of name given ≡ Some (codes "false") → flag ≡ false) × (one_of name given ≡ None → flag ≡ false)

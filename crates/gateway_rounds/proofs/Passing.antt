@@ -50,7 +50,7 @@ use Rattle.gateway_rounds.specs.Rounds.{PassesRun, UpgradeEnds, UpgradeLeaves}
 all_first : (past : List Marked) → IsFirst past past
 all_first past = ([], refl)
 
--- the output of all events but the latest stands at the start
+-- the output of all events but the latest is at the start
 output_prefix : (st : State) (past : List Marked)
     → output_of st past ≡ output_of st (drop 1 past) ++ last_output st past
 output_prefix st [] = refl
@@ -265,7 +265,7 @@ unfailed {a = a} {b = b} counts =
     elim (cases_lt a b) as (λ _. b ≡ a)
     [ inl less ↦ absurd (counts.nothing_else less) | inr most ↦ omega (arith, counts.later) ]
 
--- and the faults of the run are told
+-- and the faults of the run are reported
 pub counts_ran : {D : Type 0} {a b c : ℕ} (back : D) → Counts ⊥ a b → Counts (HasFailed {U = D} (Ok back)) b c
     → Counts (IsRunFault None) a c
 counts_ran {c = c} back first then = subst (λ n. Counts ⊥ n c) (unfailed first) then
@@ -380,7 +380,7 @@ refused_leaves e v image valid (inr (inl is)) rests here =
 refused_leaves e v image valid (inr (inr is)) rests here =
     subst (λ (x : UpgradeError). UpgradeLeaves (Some x) image) (sym is) tt
 
--- the failures of an upgrade are told
+-- the failures of an upgrade are reported
 none_some : (x : UpgradeError) → ◌≡◌ {A = Option UpgradeError} None (Some x) → ⊥
 none_some x e = cc
 

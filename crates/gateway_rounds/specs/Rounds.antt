@@ -83,8 +83,8 @@ pub record PassesRun (n : ℕ) (m : Store) (bytes : List ℕ) (fault : Option Ru
 abbrev pub read_of : List ℕ → List ℕ
 read_of bytes = take 1073741825 bytes
 
--- A run as it was told, from a disk to the disk that came back. It ends with `Script Io` exactly where what it wrote
--- was refused to grow
+-- A run as it was reported, from a disk to the disk that came back. It ends with `Script Io` exactly where what it
+-- wrote was refused to grow
 pub record IsRun {D : Type 0} (disk : Ghosts D) (n : ℕ) (given back : D) (before left : List Store)
     (run reported : RunOf) : Type 0 where
   pub script : reported.script ≡ run.script
@@ -116,7 +116,7 @@ abbrev pub left_by_upgrade : Option UpgradeError → Store → List Store → Li
 left_by_upgrade (Some (upgrades.Open (opens.Stop DiskFault))) m before = before
 left_by_upgrade reported m before = m ∷ []
 
--- an upgrade as it was told, from a disk to the disk that came back
+-- an upgrade as it was reported, from a disk to the disk that came back
 pub record IsUpgrade {D : Type 0} (disk : Ghosts D) (n : ℕ) (given back : D) (before left : List Store)
     (reported : Option UpgradeError) : Type 0 where
   pub ends : UpgradeEnds reported
@@ -148,7 +148,7 @@ IsEnd disk chosen Nothing back after left next = (after ≡ back) × (next ≡ l
 
 -- A ROUND
 
--- what is done as it was told
+-- what is done as it was reported
 abbrev pub IsWork : {D : Type 0} → Ghosts D → ℕ → D → D → List Store → List Store → Work → Work → Type 0
 IsWork disk n given back before left (Run run) (Run reported) = IsRun disk n given back before left run reported
 IsWork disk n given back before left (Upgrade error) (Upgrade reported) =
@@ -164,8 +164,8 @@ HasTextsOf image m = (k : ℕ) (u : Upload) → upload_of m k ≡ Some u → Has
 abbrev pub HaveAllBytes : List Store → Type 0
 HaveAllBytes stores = (m : Store) → Among m stores → HasAllBytes m
 
--- A round as it was told, from a disk of which each image shows one of some stores to one of which each image shows one
--- of the next, by way of the disk that came back
+-- A round as it was reported, from a disk of which each image shows one of some stores to one of which each image shows
+-- one of the next, by way of the disk that came back
 pub record IsRound {D C : Type 0} (disk : Ghosts D) (chosen : C → D → D → Type 0) (n : ℕ) (given after : D)
     (before next : List Store) (round reported : Round C) : Type 0 where
   pub back : D

@@ -9,9 +9,9 @@ ghost use Rattle.gateway_engine.specs.RanOn.{LastsOver};
 
 use spool_disk::Disk;
 
-/// What images since a moment before an opening were limited to, they still are after it, and after the run over the
-/// opened spool, once the uploads that were opened, and those after each change of the run, are among it. So what
-/// `Spool::open` (`lasts`, `shows`) and `run` (`runs`) promise joins.
+/// Let every image since a moment before an opening show one of some stores. This still holds after the opening, if the
+/// store that was opened is one of them, and after the run over the opened spool, if each store after a change of the
+/// run is one of them. So the promises of `Spool::open` (`lasts`, `shows`) and of `run` (`runs`) can be joined.
 pub fn runs_join<D: Disk>()
     ensures opened { (before opened : D) (n t : ℕ) (m : Store) (ms : List Store) → t ≤ D.moment before → Among m ms
         → LeftOnly D.Disk before n t ms → Lasts D.Disk before opened (LeftOrShows D.Disk before n m)

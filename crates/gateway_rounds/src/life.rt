@@ -17,8 +17,8 @@ use std::alloc::Global;
 
 /// Makes a spool of so many text blocks on a disk, and then lives through the rounds, one after the other. In each the
 /// disk is opened and the script is run over it, or it is brought to version 2, up to the end or the call at which the
-/// disk stops. Then it goes on with one of the images that a crash leaves, or as it is. What came of each round stands
-/// in it afterwards.
+/// disk stops. Then it goes on with one of the images that a crash leaves, or as it is. What came of each round is in
+/// it afterwards.
 ///
 /// # Errors
 ///

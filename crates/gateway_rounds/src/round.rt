@@ -25,7 +25,7 @@ pub struct Round<C> {
 pub enum Work {
     /// The spool is opened, and a script is run over it.
     Run(Run),
-    /// The spool is brought to version 2. After it stands why it wasn't.
+    /// The spool is brought to version 2. Afterwards it has why it wasn't.
     Upgrade(Option<UpgradeError>),
 }
 
@@ -43,7 +43,7 @@ pub enum End<C> {
 pub struct Run {
     /// The script.
     pub script: Vec<u8>,
-    /// What the run writes is put after what stands here. The run ends with `Script(Io)` where this is refused to grow.
+    /// What the run writes is put after what is here. The run ends with `Script(Io)` where this is refused to grow.
     pub written: Written,
     /// Why the run ended before its script did.
     pub fault: Option<RunFault>,

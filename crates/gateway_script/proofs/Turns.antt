@@ -30,7 +30,7 @@ leads : (r : Run) (n : ℕ) (e : Event) (m : Mark) → Leads (λ x. (call x n e)
 unfolding call
 leads r n e m = (m ∷ [], λ rest. refl)
 
--- without a disk fault the connections still stand
+-- without a disk fault the connections still represent a state
 unfailed : (T : Type 0) (f : SessionError) (X : Type 0) → (f ≡ errors.Stop stops.DiskFault → ⊥)
     → UnlessFailed {T = T} (Err f) X → X × (is_fault (Refused f) ≡ false)
 unfailed T (errors.Stop stops.NoMemory) X other x = (x, refl)

@@ -2,7 +2,7 @@
 use Rattle.std.specs.Prelude.{ℕ}
 use Rattle.gateway_script.specs.declared.streams.Counted.{Counted}
 
--- what it stands over
+-- the stream under the count
 abbrev pub counted_stream : {S : Type 0} → Counted S → S
 counted_stream c = c.stream
 

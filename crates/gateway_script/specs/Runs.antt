@@ -1,4 +1,4 @@
--- How the code's calls stand to a run of the definitions.
+-- How the code's calls relate to a run of the definitions.
 use Rattle.std.specs.Prelude.{◌≡◌, ℕ, suc, Bool, true, false, List, [], ◌∷◌, ◌++◌, ◌+◌, length, drop, if◌then◌else◌}
 use Rattle.std.specs.Prelude.{Option, Some, None, Result, Ok, Err}
 use Rattle.tus_session.specs.History.{State, Event, Mark, Marked, Outcome, Gave, Refused, step, history}
@@ -167,7 +167,7 @@ GivenOnce v (Ok None) k n bytes r = (s : Run) × Leads (give_within (suc k) n by
 GivenOnce v (Err (Stop stops.DiskFault)) k n bytes r = (s : Run) × Leads (give_within (suc k) n bytes) r s × IsDown v s
 GivenOnce v (Err e) k n bytes r = StopsAt v e run_past (give_within (suc k) n bytes) r
 
--- whether the line goes on after an answer: not told where a text is still to be given
+-- whether the line goes on after an answer: not known while a text is still to be given
 abbrev pub settles : Option Answer → Option Bool
 settles None = Some false
 settles (Some a) = if a.closes then Some false else if a.more then None else Some true

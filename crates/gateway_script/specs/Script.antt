@@ -140,7 +140,7 @@ pub record Flow : Type 0 where
 abbrev pub flow : Run → Bool → Flow
 flow r b = record { run = r; goes_on = b }
 
--- while an answer says `more`, the next call is `more`. A text has fewer than 2^64 bytes, so there are fewer such calls
+-- while an answer has `more`, the next call is `more`. A text has fewer than 2^64 bytes, so there are fewer such calls
 abbrev pub mores_after : (Run → Flow) → Called → Flow
 mores_after go c = elim c.outcome [
   | Gave bytes taken true more ↦ flow c.run false

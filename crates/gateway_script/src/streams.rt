@@ -10,7 +10,7 @@ use std::io::{ErrorKind, Read, Write};
 #[derive(Clone, Copy, Debug, PartialEq, Eq, Drop)]
 pub struct Refused;
 
-/// A reader that counts its refusals. Every `Read` is one, whose count tells nothing; `Counted` is one that counts.
+/// A reader that counts its refusals. Every `Read` is one, but nothing is known of its count; `Counted` counts them.
 pub trait CountedRead {
     /// The bytes that it has left, where they are known.
     ghost remaining: { Self → Option (List ℕ) };
@@ -28,7 +28,7 @@ pub trait CountedRead {
         ensures counts { Counts (IsErr result) (refusals self.old) (refusals self.new) };
 }
 
-/// A writer that counts its refusals. Every `Write` is one, whose count tells nothing; `Counted` is one that counts.
+/// A writer that counts its refusals. Every `Write` is one, but nothing is known of its count; `Counted` counts them.
 pub trait CountedWrite {
     /// The bytes that it holds, where they are known.
     ghost contents: { Self → Option (List ℕ) };

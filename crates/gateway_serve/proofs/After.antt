@@ -80,7 +80,7 @@ module _ {C : Type 0} (c : Ghosts C) (sure : Bool) (before old now : C) (st : St
           rw f at (down f),
         )
 
--- what holds of the events after a part of serving, from what it says of them
+-- what holds of the events after a part of serving, by what is promised of them
 pub followed : {C T : Type 0} (c : Ghosts C) (sure : Bool) (before now : C) (st : State)
     (On Down On' Down' : List Marked → Type 0) (reported : Result T DiskFault)
     → ServesPart c sure before now st reported On Down

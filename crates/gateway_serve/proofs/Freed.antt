@@ -76,7 +76,7 @@ module _ (sure : Bool) (ended : List Seen) (st : State) (past : List Marked) (n 
     connected = connected;
   }
 
-  -- the session was told that its client is gone
+  -- it was reported to the session that its client is gone
   reported_pairs : (latest : Latest) (reason : Reason) (m : Mark) (j : Joint) → IfWhole reason j
       → (reason ≡ Why.Closed → ⊥) → FewWait j.output → Joins sure j (current_of n ended) st past n
       → (cs : List Conversation) × AreTalks sure st ((Ended n, m) ∷ past) n cs

@@ -158,7 +158,7 @@ abbrev pub with_place : {S : Type 0} → ℕ → Reason → Place S → List See
 with_place n reason Free ended = ended
 with_place n reason (Open l) ended = with_link n reason l ended
 
--- a connection may be ended for this reason, and the session told: it is lost, or serving is over
+-- a connection may be ended for this reason, which is reported to the session: it is lost, or serving is over
 abbrev pub MayEnd : {S : Type 0} → Reason → Place S → Type 0
 MayEnd Why.Closed p = ⊥
 MayEnd (Why.Lost gone) Free = Unit {0}

@@ -20,7 +20,7 @@ abbrev pub HasEnd : List ℕ → Type 0
 HasEnd bytes =
     (line : List ℕ) × (n : ℕ) × (rest : List ℕ) × (bytes ≡ line ++ 10 ∷ replicate n 13 ++ 10 ∷ rest)
 
--- where the search for it stands after one more byte, and after some
+-- where the search for it is after one more byte, and after some
 abbrev pub head_after : HeadEnd → ℕ → HeadEnd
 head_after InLine byte = if byte == 10 then LineStart else InLine
 head_after LineStart byte = if byte == 10 then Found else if byte == 13 then LineStart else InLine

@@ -14,8 +14,8 @@ abbrev pub ImagesShow : {C : Type 0} → Ghosts C → C → C → State → List
 ImagesShow c before now st past = LimitsTo (c.moment before) (c.moment now) (c.left_only before) (c.left_only now)
     (stores_of st past)
 
--- these events came, and the connections are where their history is. Images are told of where the disk is known to be
--- honest
+-- these events came, and the connections are where their history is. What images show is claimed only where the disk is
+-- known to be honest
 pub record WentOn {C : Type 0} (c : Ghosts C) (sure : Bool) (before now : C) (st : State) (past : List Marked) :
     Type 0 where
   pub represents : c.represents now sure (history st past)

@@ -39,15 +39,15 @@ IsWholeReply (Lost gone) = IsQuietly gone
 IsWholeReply Over = ⊥
 
 -- all bytes that came, but for at most 4,096 at the end, are those that the session took, and those that went are the
--- first that it gave, all but at most 135,167 at the end: all of them, where the reason says so. Where it says that the
--- session closed the connection, the session wasn't told that the client is gone
+-- first that it gave, all but at most 135,167 at the end, and all of them for the reasons of `IsWholeReply`. If the
+-- session closed the connection, it wasn't reported to the session that the client is gone
 pub record Fits (s : Seen) (c : Conversation) : Type 0 where
   pub taken : IsAllBut PIECE c.took s.came.items
   pub written : IsAllBut most_waiting s.went.items c.gave
   pub emptied : IsWholeReply s.reason → s.went.items ≡ c.gave
   pub connected : s.reason ≡ Closed → c.told ≡ false
 
--- and all that it gave went, unless the session was told that the client is gone
+-- and all that it gave went, unless it was reported to the session that the client is gone
 pub record Served (s : Seen) (c : Conversation) : Type 0 where
   pub fits : Fits s c
   pub whole : c.told ≡ false → s.went.items ≡ c.gave

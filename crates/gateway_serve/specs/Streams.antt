@@ -12,7 +12,7 @@ use Rattle.gateway_serve.specs.declared.places.Place.{Place}
 use Rattle.gateway_serve.specs.declared.places.Place.TheVariants.{Free, Open}
 
 -- THE STREAM was accepted so, and is so now. Since then it was read and written and nothing else: the reads gave all
--- these bytes, and the writes took all those, each in order. What it has left and what it holds are as it tells them.
+-- these bytes, and the writes took all those, each in order. What it has left and what it holds are as it gives them.
 -- The latest of these calls answered so: it gave or took so many bytes, or failed
 pub data Carried {S : Type 0} (remaining contents : S → Option (List ℕ)) (accepted : S)
     : S → List ℕ → List ℕ → Latest → Type 0 where

@@ -17,7 +17,7 @@ pub trait Acceptor {
         ensures { answers self.new ≡ is_some result ∷ answers self.old };
 }
 
-/// A listener of the operating system, or one that stands for it. That each call of `accept` makes one of the inner
+/// A listener of the operating system, or one in its place. That each call of `accept` makes one of the inner
 /// listener, and answers what that gave, is trusted and not proved, since no contract of the kit states what a listener
 /// gives.
 #[derive(Drop)]

@@ -24,7 +24,7 @@ pub(crate) const PIECE: usize = 4096;
 /// Where so many bytes wait to be written, the session is given and asked for no more.
 const MOST_WAITING: usize = 65_536;
 
-/// So much memory a buffer of which all is written keeps, in bytes: a piece of a text needs none anew.
+/// A buffer of which all is written holds on to so many bytes of memory: a piece of a text needs none anew.
 const MOST_HELD: usize = 131_072;
 
 /// What was read from a socket: the session took a prefix part of it.

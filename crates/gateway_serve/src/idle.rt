@@ -84,7 +84,7 @@ pub(crate) struct Watch {
 }
 
 impl Watch {
-    /// Started at this time. With a clock that can't be read it stands still.
+    /// Started at this time. With a clock that can't be read the watch doesn't move.
     pub(crate) fn new(time: Option<Duration>) -> Self
         ensures read { IfSome time (λ now. result.now ≡ now) }
         ensures unread { IsNone time → as_nanos result.now ≡ 0 }

@@ -49,7 +49,7 @@ pub(crate) enum Left {
     Idle,
     /// The session closed it, and all is written.
     Closed,
-    /// It is lost: the session is still to be told.
+    /// It is lost, which is still to be reported to the session.
     Lost(Gone),
 }
 
@@ -361,8 +361,8 @@ impl<S: Read + Write> Link<S> {
         }
     }
 
-    // The request that it is in, once the session took so many bytes of what was read, where so many waited to be
-    // written before: none, if a reply was given.
+    // The request that the connection is in after the session took `taken` bytes of what was read. Before that, `owed`
+    // bytes waited to be written. There is no request if a reply was given.
     fn request_after(&self, taken: usize, owed: usize, now: Duration) -> Option<Request>
         ensures { result ≡ request_by self.now.request owed (length self.now.output) self.now.input taken now }
     {

@@ -101,7 +101,7 @@ impl<S: Read + Write + Drop> Place<S> {
         }
     }
 
-    /// Ends the connection for this reason, if one is open: the session is told.
+    /// Ends the connection for this reason, if one is open, and reports that to the session.
     ///
     /// Refused with `DiskFault` where the session was.
     pub(crate) fn end<C: Connections>(
@@ -127,7 +127,7 @@ impl<S: Read + Write + Drop> Place<S> {
         unless_failed(gateway.ended(conn))
     }
 
-    /// Lets the socket go for this reason, if one is there: the session isn't told.
+    /// Lets the socket go for this reason, if one is there. Nothing is reported to the session.
     pub(crate) fn free(&mut self, conn: usize, reason: Reason, ended: &mut Trace<Seen>)
         ensures waiting { PlaceWaits self.old }
         ensures streams { PlacePreserves S.remaining S.contents self.old self.new ended.old.items ended.new.items }

@@ -7,7 +7,7 @@ use std::io::ErrorKind;
 pub enum Reason {
     /// The session closed the connection, and all that it gave was written.
     Closed,
-    /// The connection was lost: the session was told.
+    /// The connection was lost, which was reported to the session.
     Lost(Gone),
     /// Serving was over, and the connection was open.
     Over,

@@ -10,7 +10,7 @@ use std::time::Duration;
 /// For so many seconds the speed of a body is measured, then anew.
 const MEASURED: u64 = 10;
 
-/// Where the search for the end of a head stands, which is its first empty line (RFC 9112, section 2.1).
+/// Where the search for the end of a head is: for its first empty line (RFC 9112, section 2.1).
 #[derive(Clone, Copy, Debug, PartialEq, Eq, Drop)]
 enum HeadEnd {
     /// Within a line.

@@ -160,7 +160,7 @@ pub(crate) fn end_each<S: Read + Write + Drop, C: Connections>(
     Ok(())
 }
 
-/// Lets all sockets go: the session isn't told.
+/// Lets all sockets go. Nothing is reported to the session.
 pub(crate) fn free_each<S: Read + Write + Drop>(places: &mut [Place<S>], ended: &mut Trace<Seen>)
     ensures streams { AllPreserve S.remaining S.contents places.old places.new ended.old.items ended.new.items }
     ensures once { AtMostOnce ended.old.items ended.new.items }

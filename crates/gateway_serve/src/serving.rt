@@ -61,16 +61,17 @@ pub fn serve_on<A: Acceptor, C: Connections, T: Clock>(
 where
     A::Stream: Read + Write + Drop,
 
-    // It is where the history of some events is; after a disk fault only its images are known. Where the disk is known
-    // to be honest, they show the uploads after these events, and what was given of a text is the text's; over any disk
-    // that is as many bytes, and all else is the same.
+    // The gateway is where the history of some events is. After a disk fault only its images are known. If the disk is
+    // known to be honest, they show the uploads after these events, and the bytes given of a text are the text's. Over
+    // any disk they are as many, and all else is the same.
     //
-    // Each connection's sockets are one for each time that these events opened it, in order. The session took what
-    // came from the socket, but for at most 4,096 bytes at its end, and what went to it is the prefix of what the
-    // session gave, but for at most 135,167 bytes at its end, since no more ever wait to be written; all of that,
-    // unless the session was told that the client is gone. Each connection is closed again. After a disk fault the
-    // last two are not promised, but where the reason is that the session closed the connection, or that it was late
-    // between requests or in one, all of that went.
+    // A connection has one socket for each time that these events opened it, in order. The session took all bytes that
+    // came from the socket, but for at most 4,096 at the end. The bytes that went to it are the first ones that the
+    // session gave. They are all of these, unless it was reported to the session that the client is gone. Then at most
+    // 135,167 are missing at the end, since no more ever wait to be written. Each connection is closed again.
+    //
+    // After a disk fault it isn't promised that all bytes went, nor that each connection is closed. All went even then
+    // if the reason is that the session closed the connection, or that it was late between requests or in one.
     ensures serves { (sure : Bool) (st : State) → C.represents gateway sure st
         → ServesPart C.Connections sure gateway result.gateway st result.served
         (AllServed sure result.ended.items st) (AllLeft sure result.ended.items st) }

@@ -161,8 +161,8 @@ pub struct Seen {
 impl<S: Drop> Socket<S> {
     ghost use Rattle.gateway_serve.specs.Bytes.{current};
 
-    /// What is seen of it, where it served the connection with this number and ends for this reason: nothing comes or
-    /// goes over it any more.
+    /// What is seen of the socket, which served the connection with this number and ends for this reason. Nothing comes
+    /// or goes over it any more.
     pub(crate) fn ended(self, conn: usize, reason: Reason) -> Seen
         ensures { result ≡ current conn self reason }
     {

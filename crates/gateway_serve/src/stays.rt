@@ -1,4 +1,4 @@
-//! How long a connection keeps its place.
+//! How long a connection has its place.
 ghost use Rattle.std.specs.Prelude.{◌≡◌, ◌↔◌, IsTrue};
 ghost use Rattle.gateway_serve.specs.Stays.{HasIdled, HasPaused, IsSlow, GivesWay, IsOver, seconds_from};
 

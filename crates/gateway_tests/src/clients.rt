@@ -24,7 +24,7 @@ pub(crate) struct Manner<'a> {
     pub(crate) pauses: u32,
 }
 
-/// A client as the server's socket shows it. `told` counts the bytes that it accepted.
+/// A client as the server's socket shows it. `replied` counts the bytes that it accepted.
 #[derive(Drop)]
 pub(crate) struct Client<'a> {
     manner: Manner<'a>,
@@ -75,7 +75,7 @@ impl OpenStream for Client<'_> {
 
 /// Clients that connect one after the other: the first one, others, and the last one. `left` counts those that are
 /// still to come. Clients are numbered downwards: the first one is number `all`, and the last one is number 1. The
-/// bytes that the client `watched` accepts are counted in `told`, and those of all others in `rest`.
+/// bytes that the client `watched` accepts are counted in `replied`, and those of all others in `rest`.
 #[derive(Drop)]
 pub(crate) struct Clients<'a> {
     pub(crate) left: Cell<usize>,

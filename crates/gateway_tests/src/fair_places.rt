@@ -1,4 +1,4 @@
-//! Tests that a client can't keep its place for ever while another one waits: when each kind of idle or slow client is
+//! Tests that a client can't hold its place for ever while another one waits: when each kind of idle or slow client is
 //! closed.
 
 use crate::clients::{Clients, Manner, Steps, served};
@@ -85,7 +85,7 @@ static KEEPERS: [(First, u64, u64, bool); 17] = [
     ((BODY, b"a", true), 100 * MILLIS, 110, true),
     ((EXPECTS, b"", true), 100 * MILLIS, 100, false),
     ((EXPECTS, b"", true), 100 * MILLIS, 110, true),
-    // It sends 5,120 bytes of a body a second: it keeps its place until the body ends.
+    // It sends 5,120 bytes of a body a second: it has its place until the body ends.
     ((BODY, &[b'a'; 1024], true), 100 * MILLIS, 250, false),
     // It doesn't read a reply: a minute.
     ((OPTIONS, b"", false), 100 * MILLIS, 600, false),

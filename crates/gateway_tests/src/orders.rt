@@ -115,7 +115,7 @@ static LINES: [(&str, &str); 52] = [
 /// The line that names all commands.
 const COMMANDS: &str = "Commands: format, up, list, delete, export, text, upgrade, serve, script";
 
-/// Wrong command lines, and a line of what each one's message says: the usage of the command that was given, the names
+/// Wrong command lines, and a line of each one's message: the usage of the command that was given, the names
 /// of all commands where none was, or what is wrong.
 static MESSAGES: [(&str, &str); 18] = [
     (

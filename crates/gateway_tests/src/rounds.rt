@@ -201,7 +201,7 @@ fn stop_at_each_call(rt: &impl Abort, alloc: Global, kind: Crash, deeds: &Deeds)
     panic!(rt; "the round makes too many calls")
 }
 
-/// The crash loses the unsynced bytes, keeps them, or turns them into the byte of an open gate.
+/// The crash loses the unsynced bytes, leaves them, or turns them into the byte of an open gate.
 #[test]
 fn stop_at_each_call_and_crash(rt: HostRuntime) {
     for kind in [Crash::Old, Crash::New, Crash::Torn(165)] {

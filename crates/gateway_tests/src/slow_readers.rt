@@ -18,7 +18,7 @@ const TOLD: &[Wanted] = &[Wanted::Made(1), Wanted::Patched(5), Wanted::Text(b"he
 
 const SECOND: u64 = 1_000_000;
 
-/// `count` clients. The first one sends `says`, accepts ten bytes and then pauses for `pauses` writes. The others send
+/// `count` clients. The first one sends `sends`, accepts ten bytes and then pauses for `pauses` writes. The others send
 /// `others`.
 fn comers<'a>(
     count: usize,

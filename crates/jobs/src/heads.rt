@@ -8,7 +8,7 @@ use std::alloc::{AllocError, Global};
 pub(crate) enum Client {
     Curl,
     Tuspy,
-    /// A browser behind a proxy.
+    /// A browser, through a proxy.
     Browser,
 }
 

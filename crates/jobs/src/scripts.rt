@@ -39,7 +39,7 @@ impl Script {
         self.put(b"cut 1\n")
     }
 
-    /// Says the lines of a head.
+    /// Gives the connection the lines of a head, an order for each.
     pub(crate) fn say(&mut self, head: &[u8]) -> Result<(), AllocError> {
         for line in head.split(|byte| *byte == b'\n') {
             let line = line.strip_suffix(b"\r").unwrap_or(line);

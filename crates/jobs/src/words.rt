@@ -132,7 +132,7 @@ fn read_indexes(rt: &HostRuntime, alloc: Global) -> Result<IndexSet, Fault> {
     Ok(set)
 }
 
-/// The words of a language, the frequent ones first, and what stands between two and after the last one of a line.
+/// The words of a language, the frequent ones first, and what is between two and after the last one of a line.
 #[derive(Drop)]
 pub(crate) struct Words<'a> {
     list: Vec<&'a str>,

@@ -1,4 +1,4 @@
--- What is kept tells of the uploads that a view shows.
+-- The catalog represents the uploads that a view shows.
 use Rattle.std.proofs.lemmas.Grind.{common_steps}
 use Rattle.std.proofs.Common.{◌≡◌, inl, inr, ℕ, ◌<◌, ◌≤◌, List, [], Option, None, Some, MatchOption, length, get_or}
 use Rattle.std.proofs.Common.{refl, sym, ◌∙◌, ap, subst, arith}
@@ -85,7 +85,7 @@ module _ {h : Holding} {v : View} {m : Store} (catalog : HasView h v) (shows : S
           let there = ap (λ (xs : List (Option SlotRecord)). get_or xs has.slot None) catalog.slots ∙ has.there in
           absurd (free has.slot (record { used = has.used; there = there; is = has.number }))
 
-  -- the slot of a number tells of its upload
+  -- the slot of a number represents its upload
   module _ {s n : ℕ} {q : SlotRecord} (here : get_or h.slots s None ≡ Some q) (used : IsUsedBy h.slots s n) where
     there : slot_at v s ≡ Some q
     there = ap (λ (xs : List (Option SlotRecord)). get_or xs s None) (sym catalog.slots) ∙ here
@@ -116,7 +116,7 @@ module _ {h : Holding} {v : View} {m : Store} (catalog : HasView h v) (shows : S
         (catalog.sizes s q there) ∙ sym (encodes.texts s q there) ∙ recorded.represents.text
         ∙ ap (text_of m.indexes) (same_Some recorded.upload u (sym upload_is ∙ found_there)))
 
-  -- each upload stands in the order
+  -- each upload is in the order
   pub listed : (j : ℕ) (w : Upload) → find j m.uploads ≡ Some w
       → (i : ℕ) × (i < length h.order) × (number_at h.order i ≡ j)
   listed j w e =

@@ -57,7 +57,7 @@ fed_none t e (During s) is =
     ap (λ (r : DecoderRun Decoding). record { text = r.text; phase = During r.state }) (decoding_none t s)
 fed_none t e Over is = refl
 
--- THE UPLOAD THAT A SLOT'S RECORD AND TEXT TELL OF
+-- THE UPLOAD THAT A SLOT'S RECORD AND TEXT REPRESENT
 
 abbrev found_upload : SlotRecord → Transcoder → List ℕ → Upload
 found_upload r t text = record {
@@ -207,7 +207,7 @@ module _ (f : ℕ → Upload) where
 module _ (h : Holding) (v : View) (has_view : HasView h v) (valid : IsValid v) (image : ℕ → ℕ) (first : ℕ)
     (texts : (s : ℕ) (r : SlotRecord) → slot_at v s ≡ Some r → v.texts s ≡ text_shown image first v.rows s r.text_len)
   where
-    -- each text is as long as its record says
+    -- each text has the length in its record
     sizes : (s : ℕ) (r : SlotRecord) → slot_at v s ≡ Some r → length (v.texts s) ≡ r.text_len
     sizes s r there =
         let list = get_or h.lists s [] in

@@ -1,4 +1,4 @@
--- What a record tells of an upload, and its state.
+-- How a record represents an upload, and its state.
 use Rattle.std.proofs.Common.{◌≡◌, ℕ, ◌==◌, Bool, true, false, if◌then◌else◌, List, [], ◌∷◌, Option, length, refl, sym}
 use Rattle.std.proofs.Common.{◌∙◌, ap, subst, arith, ◌+◌, ◌≤◌, ◌++◌, Some, None, length-append}
 use Rattle.std.proofs.lemmas.List.{append-nil}
@@ -128,7 +128,7 @@ patched_after x u declare bytes few fits = with_origin u.origin
     with_origin (Some o) = patched_fits x u declare bytes (all_fit x u fits) few
 
 module _ (x : IndexSet) (r : SlotRecord) (shown : List ℕ) (u : Upload) (is : IsRecordOf x r shown u) where
-  -- a record that tells of an upload has a state
+  -- a record that represents an upload has a state
   pub recorded_state : HasState r
   unfolding state_with
   recorded_state = record {
@@ -138,7 +138,7 @@ module _ (x : IndexSet) (r : SlotRecord) (shown : List ℕ) (u : Upload) (is : I
     phase = rw (is.accepted, is.declared) (all_fit x u is.phase);
   }
 
--- STATES SAY THEIR ENCODINGS
+-- THE ENCODINGS IN STATE BYTES
 
 -- the encoding of a number
 pub encoding_at : ℕ → Encoding
@@ -179,7 +179,7 @@ pub with_mode : (x : IndexSet) (u : Upload) (done : Bool) → (transcoder_with x
 with_mode x u true = refl
 with_mode x u false = refl
 
--- what its slot says tells of the upload, and so does the record
+-- where the slot's record represents the upload, this one does
 module _ (x : IndexSet) (q : SlotRecord) (shown : List ℕ) (u : Upload) (is : IsRecordOf x q shown u) (r : Record)
     (slot_record : slot_record_of r ≡ q) (unpacked : IsUnpacked r) where
   states : state_bytes unpacked.transcoder ≡ state_bytes (transcoder_with x u [] (is_complete u))

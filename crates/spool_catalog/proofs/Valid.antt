@@ -1,4 +1,4 @@
--- What a valid view says of a slot and of a row.
+-- What a slot and a row of a valid view are.
 use Rattle.std.proofs.lemmas.Grind.{common_steps}
 use Rattle.std.proofs.Common.{◌≡◌, ℕ, ◌+◌, ◌-◌, ◌*◌, ◌^◌, ◌<◌, ◌≤◌, refl, subst, List, Option, None, Some}
 use Rattle.std.proofs.Common.{length, get_or, ltb, true, sym, ◌∙◌, ap, arith}
@@ -32,7 +32,7 @@ module _ (v : View) (valid : IsValid v) (slots : List (Option SlotRecord)) (same
 pub is_less : (a b : ℕ) → a < b → ltb a b ≡ true
 is_less a b h = grind (arith, nat_tests)
 
--- WHERE IT STANDS, for n blocks
+-- WHERE IT IS, for n blocks
 
 module _ (bytes : ℕ → ℕ) (v : View) (n : ℕ) (blocks : v.blocks ≡ n) (encodes : Encodes bytes v) where
   pub area_passes : (i : ℕ) → i < 90112 → bytes (index_place n + i) ≡ area_byte v.indexes i

@@ -1,4 +1,4 @@
--- What is kept in memory of what a view says.
+-- The catalog of a view: its records, in memory.
 use Rattle.std.specs.Prelude.{◌≡◌, ℕ, [], Some, false, length, get_or, replicate}
 use Rattle.common.specs.declared.limits.TheConstants.{SLOTS}
 use Rattle.spool_texts.specs.TextOn.{IsListed}
@@ -6,7 +6,8 @@ use Rattle.upload_rules.specs.Room.{blocks_of}
 use Rattle.spool_pages.specs.View.{SlotRecord, View, slot_at}
 use Rattle.spool_catalog.specs.Holding.{Holding, Orders}
 
--- it says what the view says, the slots in use stand by ascending numbers, and the blocks of each one's text are listed
+-- its fields are the view's, the slots in use are in the order of their numbers, and the blocks of each one's text are
+-- listed
 pub record HasView (h : Holding) (v : View) : Type 0 where
   pub blocks : h.layout ≡ v.blocks
   pub version : h.version ≡ v.version

@@ -1,4 +1,4 @@
--- What is kept of a spool in memory, and how its parts fit one another, whatever the disk said.
+-- The catalog of a spool, and how its parts fit one another, whatever the disk's reads gave.
 use Rattle.std.specs.Prelude.{◌≡◌, ◌⊎◌, ℕ, ◌<◌, ◌≤◌, List, [], Option, None, Some, length, get_or}
 use Rattle.common.specs.declared.limits.TheConstants.{SLOTS}
 use Rattle.enc_model.specs.Indexes.{IndexSet}
@@ -24,7 +24,7 @@ number_at order k = (get_or order k (numbered 0 0)).number
 abbrev pub Rises : List NumberedSlot → Type 0
 Rises order = (i k : ℕ) → i < k → k < length order → number_at order i < number_at order k
 
--- the number stands there with this slot
+-- the number is in the order, with this slot
 pub record IsListedAt (order : List NumberedSlot) (number slot : ℕ) : Type 0 where
   pub place : ℕ
   pub below : place < length order
@@ -93,7 +93,7 @@ abbrev pub OwnsText : List Row → ℕ → Option SlotRecord → Type 0
 OwnsText rows slot None = Unit {0}
 OwnsText rows slot (Some r) = OwnsOneEach rows slot (blocks_of r.text_len)
 
--- ALL THAT IS KEPT
+-- THE WHOLE CATALOG
 
 pub record Holding : Type 0 where
   pub layout : ℕ
@@ -105,7 +105,7 @@ pub record Holding : Type 0 where
   pub lists : List (List ℕ)
   pub blocks : Held
 
--- what the fields of a `Kept` hold
+-- the model of a `Catalog`, of its fields
 abbrev pub held_of : Inside → Holding
 held_of k = record {
   layout = k.layout;

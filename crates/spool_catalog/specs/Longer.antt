@@ -1,4 +1,4 @@
--- An upload that is kept gets longer, or its length.
+-- An upload of the catalog gets longer, or its length.
 use Rattle.std.specs.Prelude.{◌≡◌, ◌≢◌, ℕ, ◌+◌, ◌/◌, ◌<◌, List, Some, None, Bool, false, length, get_or, slice_set}
 use Rattle.spool_journal.specs.declared.TheConstants.{PAGE}
 use Rattle.upload_rules.specs.Room.{blocks_of}
@@ -30,7 +30,7 @@ pub record HandsOn (old new : List Bool) (list : List ℕ) : Type 0 where
   pub handed : (i : ℕ) → i < length list → get_or new (get_or list i 0) false ≡ false
   pub others : (b : ℕ) → ((i : ℕ) → i < length list → get_or list i 0 ≢ b) → get_or new b false ≡ get_or old b false
 
--- what is kept has the longer upload, of which `used` was the record
+-- the catalog has the longer upload, of which `used` was the record
 pub record HasLonger (h : Holding) (used : SlotRecord) (longer : Longer) (more : List ℕ) (new : Holding) : Type 0 where
   pub layout : new.layout ≡ h.layout
   pub version : new.version ≡ h.version

@@ -12,7 +12,7 @@ use Rattle.spool_pages.specs.View.{SlotRecord}
 use Rattle.spool_catalog.specs.Shows.{HasState}
 use Rattle.std.specs.Prelude.{get_or}
 
--- what its slot says
+-- the record as it is in its slot's bytes
 abbrev pub slot_record_of : Record → SlotRecord
 slot_record_of r = record {
   number = r.number;

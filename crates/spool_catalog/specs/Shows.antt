@@ -1,4 +1,4 @@
--- A view shows uploads: all that is kept of them stands there, and all checks hold.
+-- A view shows uploads: all that is stored of them is there, and all checks hold.
 use Rattle.std.specs.Prelude.{◌≡◌, ℕ, ◌^◌, ◌<◌, ◌≤◌, true, false, All, List, [], Option, Some, None, length, map}
 use Rattle.common.specs.declared.limits.TheConstants.{LEAST_BLOCKS, MOST_BLOCKS, MOST_LENGTH, MOST_METADATA, SLOTS}
 use Rattle.enc_model.specs.Indexes.{IndexSet}
@@ -22,7 +22,7 @@ FitsPhase (Before held) accepted declared = (accepted ≡ length held) × (is_le
 FitsPhase (During s) accepted declared = (1 ≤ accepted) × (is_length declared accepted ≡ false)
 FitsPhase Over accepted declared = is_length declared accepted ≡ true
 
--- the state bytes are those of a transcoder that may stand after so many bytes
+-- the state bytes are those of a transcoder whose state may be that after so many bytes
 pub record HasState (r : SlotRecord) : Type 0 where
   pub transcoder : Transcoder
   pub valid : IsValidState transcoder
@@ -67,7 +67,7 @@ abbrev pub FitsAfter : IndexSet → Upload → Option Origin → Type 0
 FitsAfter x u None = Unit {0}
 FitsAfter x u (Some o) = FitsPhase (transcoder_with x u [] (is_complete u)).phase (accepted_count u) u.declared
 
--- a record and a text tell of an upload
+-- a record and a text represent an upload
 pub record IsRecordOf (x : IndexSet) (r : SlotRecord) (shown : List ℕ) (u : Upload) : Type 0 where
   pub declared : r.declared ≡ u.declared
   pub accepted : r.accepted ≡ accepted_count u
@@ -79,13 +79,13 @@ pub record IsRecordOf (x : IndexSet) (r : SlotRecord) (shown : List ℕ) (u : Up
   pub phase : FitsAfter x u u.origin
   pub state : r.state ≡ state_of x u
 
--- the upload that a record tells of
+-- the upload that a record represents
 pub record IsRecorded (m : Store) (r : SlotRecord) (shown : List ℕ) : Type 0 where
   pub upload : Upload
   pub there : find r.number m.uploads ≡ Some upload
   pub represents : IsRecordOf m.indexes r shown upload
 
--- the slot that tells of a number
+-- the slot of a number
 pub record HasSlot (v : View) (n : ℕ) : Type 0 where
   pub slot : ℕ
   pub used : SlotRecord

@@ -1,4 +1,4 @@
--- A new upload comes into what is kept.
+-- A new upload comes into the catalog.
 use Rattle.std.specs.Prelude.{◌≡◌, ℕ, ◌^◌, ◌+◌, ◌<◌, ◌≤◌, false, [], None, Some, get_or, slice_set}
 use Rattle.common.specs.declared.limits.TheConstants.{SLOTS}
 use Rattle.enc_model.specs.Indexes.{IndexSet}

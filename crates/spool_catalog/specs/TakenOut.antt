@@ -1,4 +1,4 @@
--- An upload goes out of what is kept.
+-- An upload goes out of the catalog.
 use Rattle.std.specs.Prelude.{◌≡◌, ◌≢◌, ℕ, List, None, slice_set}
 use Rattle.spool_catalog.specs.Holding.{Holding, IsListedAt, Rises}
 use Rattle.spool_catalog.specs.Rows.{FreesRows}

@@ -1,4 +1,4 @@
-//! What is told of the uploads.
+//! What a catalog answers of its uploads.
 ghost use Rattle.std.specs.Prelude.{◌≡◌, ◌<◌, ◌≤◌, ◌↔◌, ◌-◌, ◌*◌, ℕ, None, length, min};
 ghost use Rattle.std.specs.Prelude.{IsErrOf, MatchOption, IfSome, option_copied};
 ghost use Rattle.common.specs.Given.{MoreReads};
@@ -28,7 +28,7 @@ use spool_journal::PAGE;
 use spool_texts::read_text;
 use upload_rules::{Record, UploadError, UploadRefusal};
 
-/// An upload as it is kept.
+/// An upload of a catalog.
 #[derive(Clone, Copy)]
 pub struct CatalogUpload<'a> {
     /// Its record.

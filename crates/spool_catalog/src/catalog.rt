@@ -1,4 +1,4 @@
-//! All that is kept of a spool in memory: its type, made of what was read, and its parts.
+//! The catalog, all of a spool that is in memory: its type, made of what was read, and its parts.
 ghost use Rattle.std.specs.Prelude.{◌≡◌, ◌≤◌, ◌<◌, ℕ, None, Some, false, IfOk, OnOk, IfSome, MatchResult};
 ghost use Rattle.std.specs.Prelude.{[], IsSome, replicate, length, get_or, option_copied};
 ghost use Rattle.spool_blocks.specs.Chains.{OwnsOneEach};
@@ -22,7 +22,7 @@ use spool_pages::{BorrowedRecord, Version};
 use std::alloc::Global;
 use std::marker::Model;
 
-/// What is kept of a spool in memory: all but the texts. Three of its parts are public, since a draft borrows them at
+/// What is in memory of a spool: all but the texts. Three of its parts are public, since a draft borrows them at
 /// once and reserves blocks. Whoever changes one has to prove that it still fits the others.
 #[derive(Drop)]
 pub struct Catalog {
@@ -56,7 +56,7 @@ impl Model for Catalog {
 }
 
 impl Catalog {
-    /// All that is kept, of what was read.
+    /// The catalog of what was read.
     ///
     /// # Errors
     ///

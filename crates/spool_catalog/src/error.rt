@@ -1,4 +1,4 @@
-//! Why a spool is not opened, and why what was read is not kept.
+//! Why a spool is not opened, and why no catalog is made of what was read.
 ghost use Rattle.std.specs.Prelude.{◌≡◌};
 
 use common::Stop;
@@ -50,10 +50,10 @@ impl From<RecoverError> for OpenFault {
     }
 }
 
-/// Why what was read of a spool is not kept.
+/// Why no catalog is made of what was read of a spool.
 #[derive(Clone, Copy, Debug, PartialEq, Eq, Drop, Error)]
 pub enum CheckError {
-    /// It is not what a spool may say.
+    /// It is not what a spool may contain.
     #[error("the spool is damaged")]
     Damaged,
     /// Out of memory.

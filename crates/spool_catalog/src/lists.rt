@@ -45,7 +45,7 @@ impl BlockList {
         self.blocks.clear();
     }
 
-    /// Keeps the first so many blocks, and puts these in place of the others. Err only where memory runs out.
+    /// Leaves the first so many blocks, and puts these in place of the others. Err only where memory runs out.
     pub(crate) fn replace_from(&mut self, first: usize, more: &[BlockNo]) -> Result<(), AllocError>
         ensures done { OnOk result (self.new ≡ take first self.old ++ more.now) }
         ensures unmade { OnErr result (self.new ≡ self.old) }

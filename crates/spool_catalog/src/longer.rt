@@ -30,7 +30,7 @@ pub struct Longer {
     pub accepted: u64,
     /// The length of the text in bytes.
     pub text_len: u64,
-    /// Where transcoding stands, as `Transcoder::pack` writes it.
+    /// The state of transcoding, as `Transcoder::pack` writes it.
     pub state: [u8; 32],
 }
 
@@ -129,7 +129,7 @@ impl Catalog {
         )
     }
 
-    /// What is kept gets longer. It changes nothing where memory runs out.
+    /// The slot's upload gets longer in the catalog. It changes nothing where memory runs out.
     pub fn take_over(&mut self, longer: &Longer, more: &[BlockNo]) -> Result<(), AllocError>
         requires may { MayExtend self.old longer.now more.now }
         requires reserved { IsReserved self.old.blocks more.now }

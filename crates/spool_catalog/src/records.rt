@@ -1,4 +1,4 @@
-//! The record of an upload, kept in memory.
+//! The record of an upload, in memory.
 ghost use Rattle.std.specs.Prelude.{◌≡◌, ◌≤◌, All, None, Some, length, get_or, option_copied, IfOk, OnOk, IfSome};
 ghost use Rattle.std.specs.Prelude.{IsOkUnless, IsTrue, ◌↔◌};
 ghost use Rattle.upload_rules.specs.Records.{IsShort};
@@ -16,7 +16,7 @@ use std::alloc::Global;
 use std::marker::Model;
 use upload_rules::Record;
 
-/// The record of an upload, with the encodings and the mode that its state says.
+/// The record of an upload, with the encodings and the mode that its state bytes encode.
 #[derive(Drop)]
 pub struct CatalogRecord {
     record: Record,
@@ -66,7 +66,7 @@ impl CatalogRecord {
         })
     }
 
-    /// What is told of the upload.
+    /// The record, with the encodings and the mode unpacked.
     pub fn record(&self) -> &Record
         ensures slot_record { slot_record_of result.now ≡ self.now }
         ensures unpacked { IsUnpacked result.now }
@@ -75,7 +75,7 @@ impl CatalogRecord {
         &self.record
     }
 
-    /// A record that is kept.
+    /// A record of the catalog.
     pub(crate) fn new(upload: Record) -> CatalogRecord
         requires { FitsMemory upload }
         ensures { result ≡ slot_record_of upload }
@@ -94,7 +94,7 @@ impl CatalogRecord {
         self.record.state = longer.state;
     }
 
-    /// The record as its slot's bytes say it.
+    /// The record as its slot's bytes encode it.
     pub fn slot_record(&self) -> BorrowedRecord<'_>
         ensures slot_record { result ≡ self.now }
         ensures short { length result.metadata ≤ MOST_METADATA }
@@ -120,7 +120,7 @@ pub fn record_at(slots: &[Option<CatalogRecord>], slot: usize) -> Option<&Catalo
     }
 }
 
-/// The record of a slot as its bytes say it, none where the slot is free or isn't there.
+/// The record of a slot as its bytes encode it, none where the slot is free or isn't there.
 pub(crate) fn slot_record_at(
     slots: &[Option<CatalogRecord>],
     slot: usize,

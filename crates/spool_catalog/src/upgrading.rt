@@ -1,4 +1,4 @@
-//! What is kept, brought to version 2.
+//! The catalog, brought to version 2.
 ghost use Rattle.std.specs.Prelude.{◌≡◌, ◌≤◌, ℕ, None, IfOk, IfSome, length, get_or};
 ghost use Rattle.spool_journal.specs.Image.{journal_pages, InArea};
 ghost use Rattle.spool_catalog.specs.Catalog.{HasView};
@@ -20,7 +20,7 @@ pub fn upgraded_shows()
     ensures shows { (v : View) (m : Store) → Shows v m → Shows (upgraded v) m }
 {}
 
-// The records of the slots, as their bytes say them.
+// The records of the slots, as their bytes encode them.
 fn slot_records(
     alloc: Global,
     slots: &[Option<CatalogRecord>],

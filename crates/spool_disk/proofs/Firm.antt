@@ -11,7 +11,7 @@ pub apart_at : (at n at' n' p : ℕ) → Apart at n at' n' → In at n p → In 
 apart_at at n at' n' p (inl before) here there = omega (arith, here.below, there.from)
 apart_at at n at' n' p (inr after) here there = omega (arith, here.from, there.below)
 
--- what was written stands there once it is synced
+-- what was written is there once it is synced
 pub written_synced : {current mid current' : ℕ → ℕ} {unsynced between unsynced' : ℕ → Type 0} {at : ℕ} {bytes : List ℕ}
     {wrote synced : Type 0} → Writes at bytes wrote current mid unsynced between
     → Syncs synced mid current' between unsynced'

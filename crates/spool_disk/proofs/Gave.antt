@@ -83,14 +83,14 @@ both {bytes = bytes} f g = record {
   all = all_both bytes g.since.added f.since.added g.all f.all;
 }
 
--- A single read gave what stands there.
+-- A single read gave what is there.
 pub one : {bytes : ℕ → ℕ} {old new : List Given} {at : ℕ} {bs : List ℕ} → new ≡ given at bs ∷ old
     → ReadsGave bytes old new
     → span bytes at (length bs) ≡ bs
 unfolding grew_one
 one e gave = (all_added (grew_one e) gave).0
 
--- What stands there, a single read gave.
+-- What is there was given by a single read.
 pub of_one : {bytes : ℕ → ℕ} {old new : List Given} {at : ℕ} {bs : List ℕ} → new ≡ given at bs ∷ old
     → span bytes at (length bs) ≡ bs
     → ReadsGave bytes old new

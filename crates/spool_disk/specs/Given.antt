@@ -4,7 +4,7 @@ pub use Rattle.common.specs.Given.{MoreReads, given}
 use Rattle.common.specs.declared.given.Given.{Given}
 use Rattle.spool_disk.specs.Disk.{span}
 
--- Each of these reads gave the bytes that stand at its place.
+-- Each of these reads gave the bytes that are at its place.
 abbrev pub AllGave : (ℕ → ℕ) → List Given → Type 0
 AllGave bytes [] = Unit {0}
 AllGave bytes (g ∷ gs) = (span bytes g.at (length g.bytes.items) ≡ g.bytes.items) × AllGave bytes gs

@@ -154,7 +154,7 @@ impl<F: Positioned> Disk for PositionedDisk<F> {
 
     ghost failures = { failed_in };
 
-    // The calls of the file say which reads there were.
+    // The trace of the file's calls has the reads.
     ghost reads = { λ d. reads_in (F.calls (file_of d)) };
 
     ghost fails_by = { λ failed old new. Unit {0} };

@@ -1,4 +1,4 @@
--- How many blocks a text needs after the committed one's full blocks, and what the lengths of an upload say.
+-- How many blocks a text needs after the committed one's full blocks, and what the lengths of an upload decide.
 use Rattle.std.proofs.Common.{◌≡◌, ℕ, ◌+◌, ◌-◌, ◌/◌, ◌%◌, ◌<◌, ◌≤◌, false, length, List, Option, Some, None, refl}
 use Rattle.std.proofs.Common.{arith, ap, inl, inr, ◌∙◌}
 use Rattle.std.proofs.lemmas.Bool.{cases_eq, ne_eqb}

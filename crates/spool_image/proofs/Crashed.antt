@@ -18,13 +18,13 @@ synced_shows disk d n m is is_synced = record {
       subst (λ (f : ℕ → ℕ). ImageShows n f m) (sym (same_function image (disk.current d) same)) is.shows;
 }
 
--- the upload that a slot tells of is that of its number
+-- the upload that a slot represents is that of its number
 recorded_upload : (m : Store) (k number : ℕ) (u recorded : Upload) → number ≡ k → upload_of m number ≡ Some recorded
     → upload_of m k ≡ Some u → recorded ≡ u
 recorded_upload m k number u recorded same there is =
     let there' : upload_of m k ≡ Some recorded = subst (λ (j : ℕ). upload_of m j ≡ Some recorded) same there in cc
 
--- the text of each upload stands in an image that shows it
+-- the text of each upload is in an image that shows it
 pub text_shown : (n : ℕ) (image : ℕ → ℕ) (m : Store) (k : ℕ) (u : Upload) → ImageShows n image m
     → upload_of m k ≡ Some u
     → HasText image m.indexes k u

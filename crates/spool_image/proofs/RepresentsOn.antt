@@ -1,4 +1,4 @@
--- A spool that stands for a world, at its opening and from call to call.
+-- A spool that represents a world, at its opening and from call to call.
 use Rattle.std.proofs.Common.{◌≡◌, ◌↔◌, inl, inr, Result, Ok, Err, OnOk, IsErrOf, ℕ, ◌*◌, ◌≤◌, Bool, false, true}
 use Rattle.std.proofs.Common.{List, [], Option, None, Some, length, get_or, replicate, refl, sym, ◌∙◌, ap, subst}
 use Rattle.std.proofs.Common.{arith}

@@ -1,4 +1,4 @@
--- The store that a spool stands for is on its disk.
+-- The store that a spool represents is on its disk.
 use Rattle.std.specs.Prelude.{◌≡◌, ◌≤◌, ◌*◌, ℕ, true, List, Option, Some, length}
 use Rattle.std.proofs.Common.{refl, sym, ◌∙◌, ap}
 use Rattle.spool_journal.specs.declared.TheConstants.{PAGE}
@@ -16,7 +16,7 @@ use Rattle.spool_image.specs.LeftOnly.{SpoolLeft}
 use Rattle.spool_catalog.specs.Shows.{ImageShows}
 use Rattle.spool_kept.specs.Stored.{Stored}
 
--- Every crash image of a spool that is known to stand for a store shows it.
+-- Every crash image of a spool that is known to represent a store shows it.
 pub stored_shows : {D : Type 0} (disk : Ghosts D) (d : D) (h : Holding) (m : Store) (image : ℕ → ℕ)
     → Stored true disk d h m → IsImage (disk.current d) (disk.unsynced d) image → ImageShows h.layout image m
 stored_shows disk d h m image stored is = record {

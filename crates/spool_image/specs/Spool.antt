@@ -1,4 +1,4 @@
--- An opened spool, and what it stands for.
+-- An opened spool, and what it represents.
 use Rattle.std.specs.Prelude.{◌≡◌, ◌⊎◌, ℕ, Bool, Result, Ok, Err}
 use Rattle.common.specs.declared.stop.Stop.TheVariants.{NoMemory, DiskFault}
 use Rattle.spool_disk.specs.declared.disk.Disk.{Ghosts}
@@ -20,15 +20,15 @@ disk_of s = s.disk
 abbrev pub block_count_of : {D : Type 0} {disk : Ghosts D} → Spool D disk → ℕ
 block_count_of s = s.catalog.layout
 
--- Its memory has this view, with no block reserved.
+-- Its catalog has this view, with no block reserved.
 abbrev pub SpoolHasView : {D : Type 0} {disk : Ghosts D} → Spool D disk → View → Type 0
 SpoolHasView s v = HasViewAlone s.catalog v
 
--- Its memory has a valid view, the one that a read of a disk of this size gave.
+-- Its catalog has a valid view, the one that a read of a disk of this size gave.
 abbrev pub OpensFrom : {D : Type 0} {disk : Ghosts D} → ℕ → (ℕ → ℕ) → Spool D disk → Type 0
 OpensFrom size current s = OpenedFrom size current s.catalog
 
--- Its memory and its drafts stand for the world. If that is sure, the disk does too.
+-- Its catalog and its drafts represent the world. If that is sure, the disk does too.
 abbrev pub SpoolRepresents : {D : Type 0} {disk : Ghosts D} → Spool D disk → Bool → World → Type 0
 SpoolRepresents {disk = disk} s sure w = StandsFor sure disk s.disk s.catalog s.drafts.items w
 

@@ -26,7 +26,7 @@ use spool_pages::Version;
 use std::alloc::Global;
 use upload_rules::{New, Record, UploadError, Uploads};
 
-/// The uploads on a disk, with the appends that are under way. After a `DiskFault` it stands for no uploads any more:
+/// The uploads on a disk, with the appends that are under way. After a `DiskFault` it represents no uploads any more:
 /// drafts can be dropped, and the disk can be taken back and opened again.
 ///
 /// An upload of five bytes, received in two pieces and committed at once:
@@ -114,11 +114,11 @@ impl<D: Disk> Spool<D> {
         ensures shows { (n : ℕ) (m : Store) → IsSpool D.Disk disk n m
             → IfOk result (λ s. AllShow D.Disk (disk_of s) n m) }
 
-        // It stands for these uploads, with no append under way.
+        // It represents these uploads, with no append under way.
         ensures represents { (n : ℕ) (m : Store) → IsSpool D.Disk disk n m
             → IfOk result (λ s. SpoolRepresents s true (at_rest m (Some n))) }
 
-        // On any disk what it has in memory is a view, which shows uploads, and it stands for these.
+        // On any disk its catalog has a view, which shows uploads, and it represents these.
         ensures view { IfOk result (λ s. (v : View) × (m : Store) × SpoolHasView s v × Shows v m) }
         ensures represents_view { (v : View) (m : Store) → Shows v m
             → IfOk result (λ s. SpoolHasView s v → SpoolRepresents s false (at_rest m (Some v.blocks))) }

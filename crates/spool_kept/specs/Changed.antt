@@ -28,7 +28,7 @@ slot_of n [] = 0
 slot_of n (None ∷ slots) = suc (slot_of n slots)
 slot_of n (Some r ∷ slots) = if r.number == n then 0 else suc (slot_of n slots)
 
--- that slot tells of the upload, and owns the blocks of its text
+-- that slot represents the upload, and owns the blocks of its text
 pub record HasUpload (v : View) (x : IndexSet) (n : ℕ) (u : Upload) : Type 0 where
   pub used : SlotRecord
   pub there : slot_at v (slot_of n v.slots) ≡ Some used

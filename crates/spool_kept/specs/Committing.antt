@@ -1,4 +1,4 @@
--- What a commit finds, and when it stands for one.
+-- What a commit finds, and when its draft represents a patch.
 use Rattle.std.specs.Prelude.{◌≡◌, ◌⊎◌, ◌≤◌, ◌<◌, ◌+◌, ◌^◌, ℕ, true, false, List, Option, None, Some, Result, Ok, Err}
 use Rattle.std.specs.Prelude.{[], get_or}
 use Rattle.std.specs.Prelude.{Bool}
@@ -44,7 +44,7 @@ pub record HasOtherLength (slots : List (Option SlotRecord)) (o : SpoolDraft) (e
   pub refused : length_refusal same.used.declared (declare_of o) (offset_of o + appended_count o) ≡ Some e
 
 -- The draft's upload is in the slot, with that count, and goes with the draft's length and bytes. The text stays where
--- no bytes came and no length says now that the accepted ones are all.
+-- no bytes came and no length makes the accepted ones all.
 pub record IsFound (slots : List (Option SlotRecord)) (o : SpoolDraft) (found : Found) : Type 0 where
   pub same : HasSameCount slots o found.slot
   pub state : IsState same.used.state
@@ -79,7 +79,7 @@ pub record MayDeclare (slots : List (Option SlotRecord)) (slot : ℕ) (declared 
 abbrev pub with_length_at : World → ℕ → Option ℕ → World
 with_length_at w n declared = record w { store = patched_store w.store n declared [] }
 
--- The draft of a number stands for a patch that goes with its upload, and changes the text.
+-- The draft of a number represents a patch that goes with its upload, and changes the text.
 pub record IsCommit {D : Type 0} (sure : Bool) (disk : Ghosts D) (d : D) (h : Holding)
     (drafts : List (Option SpoolDraft)) (number : ℕ) (o : SpoolDraft) (w : World) (p : Patch) : Type 0 where
   pub represents : StandsFor sure disk d h drafts w

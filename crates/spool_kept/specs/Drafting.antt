@@ -1,4 +1,4 @@
--- The open drafts on a disk by their numbers, and the patches that they stand for.
+-- The open drafts on a disk by their numbers, and the patches that they represent.
 use Rattle.std.specs.Prelude.{◌≡◌, ◌≢◌, ◌<◌, ◌≤◌, ℕ, List, [], Option, None, Some, true, false, Result, Ok}
 use Rattle.std.specs.Prelude.{Err, length, get_or}
 use Rattle.std.specs.Prelude.{Bool}
@@ -54,19 +54,19 @@ pub record IsOfUpload (slots : List (Option SlotRecord)) (o : SpoolDraft) : Type
 abbrev pub EachDraft : (SpoolDraft → Type 0) → List (Option SpoolDraft) → Type 0
 EachDraft P drafts = (d : ℕ) (o : SpoolDraft) → draft_at drafts d ≡ Some o → P o
 
--- The drafts fit what is kept, whatever the disk said. An upload may be gone while its drafts are open; its number is
+-- The drafts fit the catalog, whatever the disk gave. An upload may be gone while its drafts are open; its number is
 -- not given again.
 pub record DraftsFit (h : Holding) (drafts : List (Option SpoolDraft)) : Type 0 where
   pub blocks : DraftsHold h.layout h.blocks drafts
   pub below : EachDraft (λ o. upload_number_of o < h.next) drafts
   pub uploads : EachDraft (IsOfUpload h.slots) drafts
 
--- all that is kept is as it was but for what is reserved
+-- the catalog is as it was but for what is reserved
 pub record OnlyReserves (old new : Holding) : Type 0 where
   pub same : new ≡ record old { blocks = new.blocks }
   pub rows : new.blocks.rows ≡ old.blocks.rows
 
--- WHAT THE DRAFTS STAND FOR
+-- WHAT THE DRAFTS REPRESENT
 
 -- The patch's upload is what it was when the patch began, but for a length that another one may have declared since,
 -- and isn't complete.
@@ -96,8 +96,8 @@ pub record DraftsRepresent (sure : Type 0) (x : IndexSet) (current : ℕ → ℕ
   pub limit : w.blocks ≡ Some (length h.rows)
   pub all : (b : ℕ) → get_or h.reserved b false ≡ true → IsInSome (lists_at drafts) b
 
--- What is kept and the drafts stand for the world. Where that is sure, the disk does too: it is honest, and holds the
--- texts; where it isn't, nothing is said of the disk.
+-- The catalog and the drafts represent the world. Where that is sure, the disk does too: it is honest, and holds the
+-- texts. Where it isn't, nothing is claimed of the disk.
 pub record StandsFor {D : Type 0} (sure : Bool) (disk : Ghosts D) (d : D) (h : Holding)
     (drafts : List (Option SpoolDraft)) (w : World) : Type 0 where
   pub stored : Stored sure disk d h w.store

@@ -1,4 +1,4 @@
--- What a patch makes of what is kept in memory.
+-- What a patch makes of the catalog.
 use Rattle.std.specs.Prelude.{◌≡◌, ◌⊎◌, ℕ, ◌*◌, ◌+◌, ◌-◌, ◌/◌, ◌%◌, ◌<◌, ◌≤◌, ◌++◌, List, [], Some, None, Bool}
 use Rattle.std.specs.Prelude.{true, false, Option, length, drop}
 use Rattle.spool_journal.specs.declared.TheConstants.{PAGE}
@@ -53,7 +53,7 @@ pub record IsExtension (sure : Type 0) (x : IndexSet) (u : Upload) (declare : Op
       (text_of x u))) ≡
       drop (full_bytes (length (text_of x u))) (text_of x u) ++ added
 
--- the disk and what is kept stand for the store, and this is what a patch makes of the slot's upload
+-- the disk and the catalog represent the store, and this is what a patch makes of the slot's upload
 pub record IsAppend {D : Type 0} (sure : Bool) (disk : Ghosts D) (d : D) (h : Holding) (m : Store) (n : ℕ)
     (declare : Option ℕ) (bytes : List ℕ) (longer : Longer) (more : List ℕ) : Type 0 where
   pub stored : Stored sure disk d h m

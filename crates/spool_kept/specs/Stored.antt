@@ -1,4 +1,4 @@
--- What a disk and what is kept of it stand for: a store of uploads.
+-- What a disk and its catalog represent: a store of uploads.
 use Rattle.std.specs.Prelude.{◌⊎◌, ℕ}
 use Rattle.std.specs.Prelude.{◌≡◌, Bool, true}
 use Rattle.spool_disk.specs.declared.disk.Disk.{Ghosts}
@@ -9,9 +9,8 @@ use Rattle.spool_catalog.specs.Holding.{Holding}
 use Rattle.spool_catalog.specs.Catalog.{HasView}
 use Rattle.spool_catalog.specs.Shows.{Shows, ImageShows}
 
--- This is kept of a view that shows the uploads. Where that is sure, the disk is honest, and at rest with the view;
--- where
--- it isn't, nothing is said of the disk.
+-- The catalog has a view that shows the uploads. Where that is sure, the disk is honest, and at rest with the view.
+-- Where it isn't, nothing is claimed of the disk.
 pub record Stored {D : Type 0} (sure : Bool) (disk : Ghosts D) (d : D) (h : Holding) (m : Store) : Type 0 where
   pub honest : sure ≡ true → disk.honest d
   pub view : View

@@ -1,4 +1,4 @@
--- What a deletion makes of a view, and of what is kept in memory.
+-- What a deletion makes of a view, and of the catalog.
 use Rattle.std.specs.Prelude.{◌≡◌, ◌≢◌, ℕ, List, [], Option, None, Some}
 use Rattle.enc_model.specs.Indexes.{IndexSet}
 use Rattle.spool_blocks.specs.Blocks.{Row}

@@ -43,11 +43,11 @@ struct Found {
     declares: bool,
     // Its length with the draft's, where one is known.
     declared: Option<u64>,
-    // Whether its text stays: no bytes came, and no length says now that the accepted ones are all.
+    // Whether its text stays: no bytes came, and no length makes the accepted ones all.
     stays: bool,
 }
 
-// Whether a text stays: no bytes came, and no new length says that the accepted ones are all.
+// Whether a text stays: no bytes came, and no new length makes the accepted ones all.
 fn stays(declares: bool, declared: Option<u64>, accepted: u64, came: u64) -> bool
     ensures stays { result ≡ true → (came ≡ 0) × (declares ≡ true → length_is declared accepted ≡ false) }
     ensures goes { result ≡ false → (0 < came) ⊎ ((declares ≡ true) × (length_is declared accepted ≡ true)) }
@@ -257,10 +257,10 @@ fn set_length<D: Disk>(
     Ok(longer.accepted)
 }
 
-/// Puts the text of the draft of a number after its upload's, gives that the length that the draft declares where it
-/// had none, and answers the new offset: refused with `NoSuch`, `Offset`, `LengthSet`, `TooLong`, `Unencodable`,
-/// `Full`, `NoMemory`, `DiskFault`. The draft is spent in every case. After a disk fault what is kept may be
-/// ahead of the disk: the spool must be opened again.
+/// Puts the text of a draft after the text of its upload, and answers the new offset. If the draft declares a length
+/// and the upload has none, the upload gets it. It is refused with `NoSuch`, `Offset`, `LengthSet`, `TooLong`,
+/// `Unencodable`, `Full`, `NoMemory`, `DiskFault`. The draft is spent in every case. After a disk fault the catalog may
+/// be ahead of the disk: the spool must be opened again.
 pub fn commit<D: Disk>(
     alloc: Global,
     disk: &mut D,
@@ -278,8 +278,8 @@ pub fn commit<D: Disk>(
     ensures counts { Counts (IsErrOf result (UploadError.Stop Stop.DiskFault)) (D.failures disk.old)
         (D.failures disk.new) }
 
-    // Whatever the disk said, it is refused with these exactly where the draft's upload is gone, and where it is there
-    // without as many bytes as when the draft began.
+    // Whatever the disk gave: it is refused with `NoSuch` exactly if the draft's upload is gone, and with `Offset`
+    // exactly if the upload has another count of bytes than when the draft began.
     ensures no_such { (o : Draft) → draft_at drafts.old.items number ≡ Some o
         → (IsErrOf result (UploadError.Refused UploadRefusal.NoSuch)
         ↔ ((s : ℕ) → IsUsedBy catalog.old.slots s (upload_number_of o) → ⊥)) }

@@ -24,7 +24,7 @@ use std::alloc::Global;
 use upload_rules::{New, UploadError, UploadRefusal, is_too_large};
 
 /// Makes an upload without bytes, and answers its number: refused with `TooLarge`, `Slots`, `NoMemory`, `DiskFault`.
-/// Every growth comes before the first write. After a disk fault what is kept is ahead of the disk: the spool
+/// Every growth comes before the first write. After a disk fault the catalog is ahead of the disk: the spool
 /// must be opened again.
 pub fn create<D: Disk>(
     alloc: Global,

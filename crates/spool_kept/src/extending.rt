@@ -27,8 +27,8 @@ use std::alloc::Global;
 ///
 /// # Errors
 ///
-/// `NoMemory` when out of memory, and then nothing has changed. `DiskFault` where the disk failed: then what
-/// is kept is ahead of the disk, and the spool has to be opened again.
+/// `NoMemory` when out of memory, and then nothing has changed. `DiskFault` where the disk failed: then the
+/// catalog is ahead of the disk, and the spool has to be opened again.
 pub(crate) fn extend<D: Disk>(
     alloc: Global,
     disk: &mut D,
@@ -52,7 +52,7 @@ pub(crate) fn extend<D: Disk>(
         → get_or catalog.old.slots longer.now.slot None ≡ Some r
         → HasLonger catalog.old r longer.now more.now catalog.new }
 
-    // The disk and what is kept stand for the store with the longer upload.
+    // The disk and the catalog represent the store with the longer upload.
     ensures answer { (sure : Bool) (m : Store) (n : ℕ) (declare : Option ℕ) (bytes : List ℕ)
         → IsPending sure D.Disk disk.old catalog.old m n declare bytes longer.now more.now last.now
         → OnOk result (Stored sure D.Disk disk.new catalog.new (patched_store m n declare bytes)) }

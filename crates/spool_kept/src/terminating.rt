@@ -45,8 +45,8 @@ fn forget_tails(drafts: &mut Vec<Option<SpoolDraft>>, number: u64)
 }
 
 /// Takes the upload of a number away: refused with `NoSuch`, `NoMemory`, `DiskFault`. Its drafts keep their blocks, and
-/// forget its text. Every growth comes before the first write. After a disk fault what is kept is ahead of the
-/// disk: the spool must be opened again.
+/// forget its text. Every growth comes before the first write. After a disk fault the catalog is ahead of the disk: the
+/// spool must be opened again.
 pub fn terminate<D: Disk>(
     alloc: Global,
     disk: &mut D,
@@ -65,7 +65,7 @@ pub fn terminate<D: Disk>(
     ensures layout { catalog.new.layout ≡ catalog.old.layout }
     ensures version { catalog.new.version ≡ catalog.old.version }
 
-    // Whatever the disk said, it is refused so exactly where no slot has the number.
+    // Whatever the disk gave, it is refused so exactly where no slot has the number.
     ensures no_such { IsErrOf result (UploadError.Refused UploadRefusal.NoSuch)
         ↔ ((slot : ℕ) → IsUsedBy catalog.old.slots slot number → ⊥) }
     ensures taken_out { (IsErrOf result (UploadError.Stop Stop.NoMemory) → ⊥) → (slot : ℕ)

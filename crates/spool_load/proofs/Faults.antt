@@ -12,7 +12,7 @@ use Rattle.spool_load.specs.Faults.{IsStopError, check_fault, load_fault}
 use Rattle.spool_load.specs.declared.error.LoadError.{LoadError}
 use Rattle.spool_load.specs.declared.error.LoadError.TheVariants.{Stop, Damaged}
 
--- a check meets no disk fault, and out of memory it tells nothing of the disk
+-- a check meets no disk fault, and out of memory nothing follows of the disk
 pub check_sound : (e : CheckError) → check_fault e ≡ Stop DiskFault → ⊥
 check_sound checks.Damaged is = cc
 check_sound checks.NoMemory is = cc
@@ -37,13 +37,13 @@ counts_reported e there back counts = record {
       back (ap load_fault device);
 }
 
--- it tells nothing of the disk in both
+-- nothing follows of the disk in both
 pub is_stop_error : {T : Type 0} (e : LoadError) (P : T → Type 0) → IsStopError e
     → LoadsAs {T = T} (Err (load_fault e)) P
 is_stop_error (Stop stop) P nothing = tt
 is_stop_error Damaged P nothing = absurd nothing
 
--- a refusal to open that tells nothing of it, handed on
+-- a refusal to open from which nothing follows of the disk, handed on
 pub loads_err : {T U : Type 0} (P : T → Type 0) (Q : U → Type 0) (e : OpenFault) → LoadsAs {T = T} (Err e) P
     → LoadsAs {T = U} (Err e) Q
 loads_err P Q (opens.Stop stop) h = tt

@@ -122,7 +122,7 @@ pub still_span : (current bytes : ℕ → ℕ) {unsynced : ℕ → Type 0} (plac
     → span bytes place n ≡ span current place n
 still_span current bytes place n still = ap (λ (f : ℕ → ℕ). span f place n) (λ i p. sym (still.reads p) i)
 
--- what stands on the disk stands in the buffer
+-- what is on the disk is in the buffer
 pub read_padded : (bytes : ℕ → ℕ) (place at : ℕ) (buf xs : List ℕ) (size : ℕ) → IsReadAt bytes place buf
     → length buf ≡ size → place ≡ at → length xs ≤ size → AreAt bytes at size xs → IsPadded buf xs
 read_padded bytes place at buf xs size read long same few are_at = record {
@@ -148,7 +148,7 @@ prefix_all whole prefix is long = ext_get_or None prefix whole long (λ i lt. is
 pub ok_no_fault : {T E : Type 0} (r : Result T E) (t : T) {fault : E} → r ≡ Ok t → r ≡ Err fault → ⊥
 ok_no_fault r t is err = cc
 
--- what stands on the disk within the range stands in the buffer
+-- what is on the disk within the range is in the buffer
 pub read_at_place : (bytes : ℕ → ℕ) (place at off size : ℕ) (buf xs : List ℕ) → IsReadAt bytes place buf
     → off + size ≤ length buf → at ≡ place + off → AreAt bytes at size xs → AreAt (byte_of buf) off size xs
 read_at_place bytes place at off size buf xs read room is are_at = record {
@@ -157,7 +157,7 @@ read_at_place bytes place at off size buf xs read room is are_at = record {
       read.each (off + i) (omega (arith, lt, room)) ∙ ap bytes same ∙ are_at.each i lt;
 }
 
--- and what stands in the buffer stands on the disk
+-- and what is in the buffer is on the disk
 pub read_back : (bytes : ℕ → ℕ) (place at off size : ℕ) (buf xs : List ℕ) → IsReadAt bytes place buf
     → off + size ≤ length buf → at ≡ place + off → AreAt (byte_of buf) off size xs → AreAt bytes at size xs
 read_back bytes place at off size buf xs read room is are_at = record {

@@ -48,7 +48,7 @@ valid_rows v valid b slot ordinal owns =
 
 -- A SOUND VIEW IS READ
 
--- of bytes that say it: what holds of each next number, index set, slots and rows that may be there holds of its own
+-- of bytes that encode it: what holds of each next number, index set, slots and rows that may be there holds of its own
 module _ (bytes : ℕ → ℕ) (n : ℕ) (v : View) (valid : IsValid v) (blocks : v.blocks ≡ n) (encodes : Encodes bytes v)
   where
     pub area_encoded : {Q : IndexSet → Type 0} → ((x : IndexSet) → IsIndexSet x
@@ -143,7 +143,7 @@ module _ (bytes : ℕ → ℕ) (n : ℕ) (version : Version) (next : ℕ) (x : I
         lists = lists;
       }
 
-      -- it is kept, and it shows uploads
+      -- the catalog has it, and it shows uploads
       module _ (reserved : List Bool) (h : Holding) (none : reserved ≡ replicate n false)
           (catalog : (v : View) → IsValid v → v.blocks ≡ n → version ≡ v.version → next ≡ v.next → x ≡ v.indexes
           → slots ≡ v.slots → rows ≡ v.rows → reserved ≡ replicate v.blocks false → HasViewAlone h v) where

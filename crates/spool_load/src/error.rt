@@ -14,7 +14,7 @@ pub enum LoadError {
     /// Out of memory, or a disk fault.
     #[error(transparent)]
     Stop(Stop),
-    /// What was read is not what a spool may say.
+    /// What was read is not what a spool may contain.
     #[error("the spool is damaged")]
     Damaged,
 }

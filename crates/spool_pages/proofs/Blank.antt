@@ -1,4 +1,4 @@
--- Zeros after what stands at the start of a page.
+-- Zeros after what is at the start of a page.
 use Rattle.std.proofs.Common.{◌≡◌, ℕ, ◌+◌, ◌-◌, ◌≤◌, List, [], length, take, drop, arith}
 use Rattle.std.proofs.lemmas.Bool.{cases_lt}
 use Rattle.std.proofs.lemmas.Grind.{common_steps}
@@ -7,7 +7,7 @@ use Rattle.spool_journal.specs.Image.{byte_of}
 use Rattle.spool_pages.specs.Bytes.{IsPadded}
 use Rattle.spool_pages.specs.View.{AreAt}
 
--- a range is blank where nothing stands in it
+-- a range is blank where nothing is in it
 module _ (bytes : List ℕ) (at end : ℕ) where
   pub range_blank : AreAt (byte_of bytes) at (end - at) [] → IsPadded (slice_range bytes at end) []
   range_blank are_at = record { each = λ i. grind (arith, common_steps, cases_lt, are_at.each i) }

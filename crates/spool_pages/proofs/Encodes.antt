@@ -1,4 +1,4 @@
--- Two images that say the same.
+-- Two images that encode the same view.
 use Rattle.std.proofs.Common.{◌≡◌, inl, inr, ℕ, zero, suc, ◌+◌, ◌*◌, ◌/◌, ◌<◌, ◌≤◌, ◌++◌, List, Option, None, Some}
 use Rattle.std.proofs.Common.{take, refl, sym, ◌∙◌, ap, arith}
 use Rattle.spool_journal.specs.declared.TheConstants.{PAGE}
@@ -38,7 +38,7 @@ module _ (a b : ℕ → ℕ) (first : ℕ) (same : (p : ℕ) → PAGE * first �
       rows slot len
   shown_same rows slot len = ap (λ (xs : List ℕ). take len xs) (joined_same rows slot 0 ((len + 4095) / PAGE))
 
--- WHAT AN IMAGE SAYS
+-- WHAT AN IMAGE ENCODES
 
 pub at_same : {a b : ℕ → ℕ} {place size : ℕ} {bytes : List ℕ} → ((i : ℕ) → i < size → a (place + i) ≡ b (place + i))
     → AreAt b place size bytes → AreAt a place size bytes

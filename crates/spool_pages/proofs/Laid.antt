@@ -95,7 +95,7 @@ module _ (pages : List (ℕ × List ℕ)) (base : ℕ → ℕ) where
             ∙ encodes.each i lt;
       }
 
--- WHAT THE CHANGED PAGES SAY
+-- WHAT THE CHANGED PAGES ENCODE
 
 module _ (pages : List (ℕ × List ℕ)) (current : ℕ → ℕ) (v v' : View)
     (inside : InArea (journal_pages v.blocks) pages) (ascends : Ascends pages) (changes : Changes pages v v')

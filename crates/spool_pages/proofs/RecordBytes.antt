@@ -82,7 +82,7 @@ at_both xs ys k m long first second = record {
 pub length-range : (bytes : List ℕ) (at end : ℕ) → end ≤ length bytes → length (slice_range bytes at end) ≡ end - at
 length-range bytes at end fits = grind (arith, common_steps)
 
--- the bytes of a range stand there
+-- the bytes of a range are at its place
 pub range_at : (bytes : List ℕ) (at end size : ℕ) → at + size ≡ end
     → AreAt (byte_of bytes) at size (slice_range bytes at end)
 range_at bytes at end size is = record { each = λ i lt. grind (arith, common_steps) }
@@ -90,7 +90,7 @@ range_at bytes at end size is = record { each = λ i lt. grind (arith, common_st
 pub padded_at : {page xs : List ℕ} (size : ℕ) → IsPadded page xs → AreAt (byte_of page) 0 size xs
 padded_at size padded = record { each = λ i lt. grind (arith, padded.each i) }
 
--- zeros stand where nothing stands
+-- where nothing is there are zeros
 module _ {f : ℕ → ℕ} {place : ℕ} (n : ℕ) where
   pub to_zeros : AreAt f place n [] → AreAt f place n (replicate n 0)
   to_zeros are_at = record { each = λ i lt. grind (arith, common_steps, are_at.each i) }
@@ -108,7 +108,7 @@ number_fits version (Some n) fits = omega (arith, fits)
 number_fits One None fits = omega arith
 number_fits Two None fits = omega arith
 
--- where a record's parts stand
+-- where a record's parts are
 pub record PartsAt (f : ℕ → ℕ) (version : Version) (r : SlotRecord) : Type 0 where
   pub number : AreAt f 0 8 (to_be_bytes w64 r.number)
   pub declared : AreAt f 8 8 (to_be_bytes w64 (length_number version r.declared))

@@ -1,4 +1,4 @@
--- A spool at rest: images that agree but for blocks that no row owns say the same.
+-- A spool at rest: images that agree but for blocks that no row owns encode the same view.
 use Rattle.std.proofs.Common.{◌≡◌, inl, inr, ℕ, zero, suc, ◌+◌, ◌*◌, ◌/◌, ◌≤◌, ◌++◌, Bool, true, false, cond, List, []}
 use Rattle.std.proofs.Common.{◌∷◌, Option, None, Some, get_or, take, refl, sym, ◌∙◌, ap, arith, ⊎_elim}
 use Rattle.spool_journal.specs.declared.TheConstants.{PAGE}
@@ -17,7 +17,7 @@ use Rattle.spool_pages.proofs.Encodes.{some_journal, at_same, encodes_same}
 -- TEXTS
 
 module _ (a b : ℕ → ℕ) (first : ℕ) where
-  -- from this block on, the two agree on the blocks that the rows say are owned
+  -- from this block on, the two agree on the blocks that are owned by the rows
   abbrev AgreeFrom : ℕ → List (Option (ℕ × ℕ)) → Type 0
   AgreeFrom x rows = (k p : ℕ) → (get_or rows k None ≡ None → ⊥) → first + (x + k) ≡ p / PAGE → a p ≡ b p
 
@@ -57,7 +57,7 @@ module _ (a b : ℕ → ℕ) (first : ℕ) where
       ap (λ (xs : List ℕ). take len xs)
       (owned_joined rows (λ k p owned e. agree k p owned (omega (arith, e))) slot 0 ((len + 4095) / PAGE))
 
--- WHAT AN IMAGE SAYS
+-- WHAT AN IMAGE ENCODES
 
 -- no place before the text blocks is in one
 pub not_free : (v : View) (p : ℕ) → p / PAGE + 1 ≤ text_page v.blocks → OnFree v p → ⊥

@@ -74,7 +74,7 @@ all_free page full rows = record {
       grind (arith, get_or_past, cases_lt i PAGE);
 }
 
--- a row that stands where all is zeros
+-- a row at a place where all is zeros
 pub free_only : (page : List ℕ) (at : ℕ) (row : Option (ℕ × ℕ)) → IsPadded page [] → FitsRow row
     → AreAt (byte_of page) at 8 (row_bytes row) → row ≡ None
 free_only page at None blank fits are_at = refl

@@ -16,7 +16,7 @@ const GATE: u64 = 4096;
 /// The size of the disk in bytes.
 const SIZE: usize = 557 * 4096;
 
-/// A crash loses the unsynced bytes, keeps them, makes them zeros, or makes them the byte of an open gate.
+/// A crash loses the unsynced bytes, leaves them, makes them zeros, or makes them the byte of an open gate.
 const KINDS: [Crash; 4] = [Crash::Old, Crash::New, Crash::Torn(0), Crash::Torn(0xA5)];
 
 /// The bytes of a disk.

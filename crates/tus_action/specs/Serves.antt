@@ -20,7 +20,7 @@ use Rattle.tus_action.specs.declared.acts.Given.TheVariants.{Piece, Last, Gone}
 use Rattle.common.specs.declared.stop.Stop.{Stop}
 use Rattle.common.specs.declared.stop.Stop.TheVariants.{NoMemory, DiskFault}
 
--- The open draft stands for the open patch, or there is none.
+-- The open draft represents the open patch, or there is none.
 abbrev pub DraftIs : {U B : Type 0} → Ghosts U B → World → Option B → Option ℕ → Type 0
 DraftIs u w None None = Unit {0}
 DraftIs u w (Some b) (Some d) = (u.number_of b ≡ d) × ((p : Patch) × (find d w.patches ≡ Some p) × u.holds b p)

@@ -34,7 +34,7 @@ some_conn None d e = absurd (none-some d e)
 some_conn (Some k) d e = (k, refl, e)
 
 module _ (st : State) (valid : Valid st) (w' : World) (c : ℕ) (o' : Option Conn) where
-  -- what a turn of one connection keeps
+  -- what a turn of one connection preserves
   pub record IsTurnOf : Type 0 where
     pub indexes : w'.store.indexes ≡ st.world.store.indexes
     pub others : (e : ℕ) (p : Patch) → find e st.world.patches ≡ Some p → (draft_of_conn (st.conns c) ≡ Some e → ⊥)

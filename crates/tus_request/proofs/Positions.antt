@@ -1,4 +1,4 @@
--- The first place of a byte, as a search tells it.
+-- The first place of a byte, as a search gives it.
 use Rattle.std.specs.Prelude.{◌≡◌, ℕ, ◌<◌, ◌≤◌, Bool, true, false, List, length, Option, Some, None}
 use Rattle.std.proofs.Common.{arith, ap, refl, get_or}
 use Rattle.std.specs.List.{position, position_or_len}

@@ -56,7 +56,7 @@ print_more old status lines i d mid new inside was is =
     (is ∙ ap (λ t. t ++ line_shown (get_or lines i d)) was)
     ∙ ap (λ t. old ++ begun status t) (sym (lines_more lines i d inside))
 
--- the line of the body's length may be told apart from a reply's own lines
+-- the line of the body's length may be counted among a reply's own lines
 pub with_length : (status own size : List ℕ) (n : Option ℕ) (closes : Bool) → size ≡ length_line n
     → reply status (own ++ (size ++ [])) None closes ≡ reply status own n closes
 with_length status own size n closes is = rw is (simp (append_assoc, append-nil))

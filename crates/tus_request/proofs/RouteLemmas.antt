@@ -42,12 +42,12 @@ module _ {K : Type 0} where
   abbrev pub both : List ℕ → K → K → RowsOf K
   both word f u = (word ++ 47 ∷ param_token ∷ [], u) ∷ (word, f) ∷ []
 
-  -- what stands after the slash is a parameter where it is one segment
+  -- what follows the slash is a parameter where it is one segment
   abbrev pub after_slash : List ℕ → K → Option K
   after_slash [] u = None
   after_slash (c ∷ rest) u = cond (has_slash (c ∷ rest)) None (Some u)
 
-  -- what stands after the word decides
+  -- what follows the word decides
   abbrev pub after : List ℕ → K → K → Option K
   after [] f u = Some f
   after (b ∷ rest) f u = cond (47 == b) (after_slash rest u) None

@@ -25,7 +25,7 @@ has : {A : Type 0} → Option A → Bool
 has None = false
 has (Some x) = true
 
--- whether the end of the head stands in the lines that are left
+-- whether the end of the head is in the lines that are left
 sees : Search → Lines → Bool
 sees Leading ls = has (head_lines ls)
 sees LeadingCr ls = has (head_lines (onto_first 13 ls))

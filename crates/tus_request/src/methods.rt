@@ -5,7 +5,7 @@ ghost use Rattle.tus_request.specs.Methods.{verb_of};
 use http::Method;
 use std::alloc::Global;
 
-// The most bytes of a method's name that `http` keeps without memory. No method of tus is longer.
+// The most bytes of a method's name that `http` stores without memory. No method of tus is longer.
 const SHORT: usize = 15;
 
 /// The methods that tus uses, and all others as one.

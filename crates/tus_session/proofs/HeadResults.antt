@@ -97,7 +97,7 @@ module _ {U B : Type 0} (u : Ghosts U B) (sure : Bool) where
       (conn.stream ++ take t.count bytes) t.rest shown moves link_is left_is t.rest_is
       (answer_is ∙ ap (λ i. took i a.closes) count) bytes_are))
 
--- WHAT READING TELLS
+-- WHAT FOLLOWS FROM READING
 pub within_bytes : (x : IndexSet) (h bytes : List ℕ) (n : ℕ) (v : Verdict)
     → Judged n v ≡ answer_of (offers x) (h ++ bytes) → n - length h ≤ length bytes
 within_bytes x h bytes n v e =

@@ -125,7 +125,7 @@ module _ {U B : Type 0} (u : Ghosts U B) (sure : Bool) where
   module _ (places : List (Option (Link B))) (store : U) (st : State)
       (represents : SessionRepresents u sure places store st)
     where
-      -- what a connection's place tells
+      -- what follows from a connection's place
       place_at : (k : ℕ) (x : Option (Link B)) → k < length places → x ≡ get_or places k x
           → PlaceIs u st.world x (st.conns k)
       place_at k x lt e =

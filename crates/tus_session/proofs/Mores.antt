@@ -33,7 +33,7 @@ more_is : (w : World) (conn : Conn) (o : Option Giving) → conn.pending ≡ o �
 unfolding more_turn
 more_is w conn o e = ap (more_on w conn) e
 
--- WHAT WAS GIVEN TELLS OF THE UPLOAD
+-- WHAT WAS GIVEN IS OF THE UPLOAD
 
 -- a piece is given of an upload that is there
 piece_of_upload : (sure : Bool) (m : Store) (g : given.Giving) (old new : List ℕ) (h : Giving) (o : Option Upload)

@@ -32,7 +32,7 @@ abbrev pub UnlessFailed : {T : Type 0} → Result T SessionError → Type 0 → 
 UnlessFailed (Err (Stop DiskFault)) represents = Unit {0}
 UnlessFailed result represents = represents
 
--- The history has this outcome, and the connections stand for its next state.
+-- The history has this outcome, and the connections represent its next state.
 pub record FollowsStep {T : Type 0} (represents : State → Type 0) (result : Result T SessionError) (outcome : Outcome)
     (now : Step) : Type 0 where
   pub answer : now.outcome ≡ outcome

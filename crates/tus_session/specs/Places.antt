@@ -18,7 +18,7 @@ pub record IsLinkPut {B : Type 0} (places all : List (Option (Link B))) (k : ℕ
   pub here : get_or all k None ≡ next
   pub others : (j : ℕ) → j ≢ k → get_or all j None ≡ get_or places j None
 
--- Connection c is open in the history, and this link stands for it.
+-- Connection c is open in the history, and this link represents it.
 abbrev pub IsOpen : {U B : Type 0} → Ghosts U B → State → ℕ → Link B → Type 0
 IsOpen u st c k =
     (conn : Conn) × (st.conns c ≡ Some conn) × LinkIs u st.world (head_bytes k.head) k.awaiting conn

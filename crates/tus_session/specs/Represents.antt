@@ -1,4 +1,4 @@
--- The abstraction relation of a session: the state that it stands for.
+-- The abstraction relation of a session: the state that it represents.
 use Rattle.std.specs.Prelude.{◌≡◌, ◌+◌, ◌≤◌, ◌<◌, ◌-◌, ℕ, List, [], length, get_or, Option, Some, None, Bool}
 use Rattle.tus_request.specs.Requests.{Request, Asks, body_length}
 use Rattle.tus_request.specs.Buffers.{head_bytes}
@@ -75,14 +75,14 @@ pub record IsGivingText (w : World) (conn : Conn) (head : List ℕ) (g : given.G
   pub pending : conn.pending ≡ Some h
   pub gives : IsGiving w.store g h
 
--- What a connection awaits stands for the connection of the history.
+-- What a connection awaits represents the connection of the history.
 abbrev pub LinkIs : {U B : Type 0} → Ghosts U B → World → List ℕ → Awaiting B → Conn → Type 0
 LinkIs u w head awaits.Head conn = InsideHead w conn head
 LinkIs u w head (awaits.Patch b left) conn = IsPatching u w conn head b left
 LinkIs u w head (awaits.Skip left) conn = IsSkipping w conn head left
 LinkIs u w head (awaits.Text g left) conn = IsGivingText w conn head g left
 
--- A place stands for an open connection or for none.
+-- A place represents an open connection or none.
 abbrev pub PlaceIs : {U B : Type 0} → Ghosts U B → World → Option (Link B) → Option Conn → Type 0
 PlaceIs u w None None = Unit {0}
 PlaceIs u w (Some k) (Some conn) = LinkIs u w (head_bytes k.head) k.awaiting conn
@@ -93,7 +93,7 @@ abbrev pub draft_of_conn : Option Conn → Option ℕ
 draft_of_conn None = None
 draft_of_conn (Some conn) = conn.draft
 
--- The store stands for the history's world and each place for its connection. No two connections share a draft.
+-- The store represents the history's world and each place its connection. No two connections share a draft.
 pub record SessionRepresents {U B : Type 0} (u : Ghosts U B) (sure : Bool) (places : List (Option (Link B))) (store : U)
     (st : State) : Type 0 where
   pub count : length places ≡ MOST_OPEN

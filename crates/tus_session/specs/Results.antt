@@ -10,7 +10,7 @@ use Rattle.tus_session.specs.declared.errors.SessionError.{SessionError}
 use Rattle.tus_session.specs.declared.errors.SessionError.TheVariants.{Stop}
 use Rattle.common.specs.declared.stop.Stop.TheVariants.{NoMemory, DiskFault}
 
--- The session stands for the state after the event, and the history's outcome is the given one.
+-- The session represents the state after the event, and the history's outcome is the given one.
 pub record Follows {U B : Type 0} (u : Ghosts U B) (sure : Bool) (places : List (Option (Link B))) (store : U)
     (now : State) (answered given : Outcome) : Type 0 where
   pub represents : SessionRepresents u sure places store now

@@ -12,7 +12,7 @@ use Rattle.tus_action.specs.Serves.{Appends}
 use Rattle.common.specs.declared.stop.Stop.{Stop}
 use Rattle.common.specs.declared.stop.Stop.TheVariants.{NoMemory, DiskFault}
 
--- The store stands for the turn's world and the link for its connection, and the answer has its numbers and bytes.
+-- The store represents the turn's world and the link its connection, and the answer has its numbers and bytes.
 pub record TurnedAs {U B : Type 0} (u : Ghosts U B) (sure : Bool) (store : U) (link : Option (Link B)) (a : Answer)
     (old new : List ℕ) (w : World) (own : Option ℕ) (t : Turn) : Type 0 where
   pub shown : u.represents store sure t.world

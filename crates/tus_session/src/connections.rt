@@ -15,7 +15,7 @@ use crate::{Answer, SessionError};
 /// After one call was refused with `DiskFault` they are down: each further call is refused with `Down`, doesn't ask the
 /// disk, and leaves `out` unchanged.
 pub trait Connections {
-    /// The connections stand for this state. If that is sure, the disk is honest and holds the texts; otherwise nothing
+    /// The connections represent this state. If that is sure, the disk is honest and holds the texts; otherwise nothing
     /// is claimed of the disk.
     ghost represents: { Self → Bool → State → Type 0 };
 
@@ -100,10 +100,10 @@ pub trait Connections {
         ensures unasked { down self.old ≡ true → Unasked (moment self.old) (moment self.new) (left_only self.old)
             (left_only self.new) (failures self.old) (failures self.new) };
 
-    /// If the connections are known to stand for a state, each crash image from now on shows its uploads.
+    /// If the connections are known to represent a state, each crash image from now on shows its uploads.
     ghost durable: { (core : Self) (st : State) (ms : List Store) → represents core true st → Among st.world.store ms
         → left_only core st.world.blocks (moment core) ms };
 
-    /// Connections that stand for a state aren't down.
+    /// Connections that represent a state aren't down.
     ghost up: { (core : Self) (sure : Bool) (st : State) → represents core sure st → down core ≡ false };
 }

@@ -36,7 +36,7 @@ complete_patched u declare bytes =
     omega (arith, length-append u.accepted bytes) in
     ap (is_length (known_or u.declared declare)) long
 
--- its text, where transcoding stands after it, and the state
+-- its text, the transcoder after it, and the state bytes
 pub whole_patched : (x : IndexSet) (u : Upload) (declare : Option ℕ) (bytes : List ℕ)
     → text_with x (patched u declare bytes) [] (is_complete (patched u declare bytes)) ≡ text_with x u bytes
     (is_complete (patched u declare bytes))

@@ -1,4 +1,4 @@
--- Open drafts and the patches that they stand for, number by number.
+-- Open drafts and the patches that they represent, number by number.
 use Rattle.std.proofs.Common.{◌≡◌, ℕ, ◌<◌, true, List, [], ◌∷◌, length, set, Option, Some, None, refl, sym}
 use Rattle.std.proofs.Common.{subst, arith, inl, inr, eq-eqb, get_or-set_same, get_or-set_other}
 use Rattle.std.proofs.lemmas.List.{get_or_past, length-set}

@@ -1,4 +1,4 @@
--- The slots of a table and the uploads that they stand for, place by place.
+-- The slots of a table and the uploads that they represent, place by place.
 use Rattle.std.proofs.Common.{◌≡◌, ℕ, zero, suc, ◌<◌, ◌≤◌, List, [], ◌∷◌, ◌++◌, length, get_or, slice_index, Some, None}
 use Rattle.std.proofs.Common.{refl, sym, ◌∙◌, arith, set, eq-eqb}
 use Rattle.std.proofs.lemmas.Bool.{ne_eqb, lt-ltb, le-ltb}

@@ -1,4 +1,4 @@
--- A transcoder that stands at an upload's bytes, one piece further and at the end.
+-- A transcoder that has read an upload's bytes: one piece further, and at the end.
 use Rattle.std.proofs.Common.{◌≡◌, ℕ, Bool, true, false, List, [], ◌++◌, Option, Some, None, refl, sym, ◌∙◌, ap}
 use Rattle.std.proofs.Common.{append_assoc, append-nil, Vec, Global}
 use Rattle.enc_model.specs.Indexes.{IndexSet, tables}
@@ -18,7 +18,7 @@ over : (s r : Transcoder) → s.from ≡ r.from → s.to ≡ r.to → s.mode ≡
     → s ≡ r
 over s r e1 e2 e3 e4 e5 = rw (e1, e2, e3, e4, e5) refl
 
--- a transcoder that stands where an open text's bytes end
+-- a transcoder in the state after an open text's bytes
 pub reads : (x : IndexSet) (u : Upload) (bytes : List ℕ) (t : TranscoderState)
     → (text_with x u bytes false).fault ≡ None
     → t ≡ transcoder_state (transcoder_with x u bytes false)
@@ -35,7 +35,7 @@ reads x u bytes t ok is =
     })
 
 module _ (x : IndexSet) (u : Upload) (bytes : List ℕ) (t : TranscoderState) (here : IsReading x u bytes t) where
-  -- where it stands is the state
+  -- its state is that after the bytes
   still_open : t.transcoder ≡ transcoder_with x u bytes false
   still_open = over t.transcoder (transcoder_with x u bytes false) here.from here.to here.mode here.phase here.shift
 

@@ -1,4 +1,4 @@
--- What each call makes of a table and of the world that it stands for.
+-- What each call makes of a table and of the world that it represents.
 use Rattle.std.proofs.Common.{◌≡◌, ℕ, ◌+◌, ◌<◌, true, List, [], ◌∷◌, ◌++◌, length, set}
 use Rattle.std.proofs.Common.{Option, Some, None, sym, ◌∙◌, ap, arith, Vec, Global}
 use Rattle.std.proofs.lemmas.Bool.{cases_lt}

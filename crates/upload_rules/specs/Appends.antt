@@ -13,7 +13,7 @@ use Rattle.upload_rules.specs.Texts.{HoldsText}
 use Rattle.upload_rules.specs.declared.slot.Slot.{Slot}
 use Rattle.upload_rules.specs.declared.appends.OpenAppend.{OpenAppend}
 
--- The append stands for the patch, whose upload is below the next number.
+-- The append represents the patch, whose upload is below the next number.
 pub record AppendRepresents (x : IndexSet) (next : ℕ) (p : Patch) (o : OpenAppend) : Type 0 where
   pub number : o.number ≡ p.number
   pub offset : o.offset ≡ accepted_count p.began

@@ -39,14 +39,14 @@ pub record IsFirstAt (ns : List ℕ) (n place : ℕ) : Type 0 where
 abbrev pub IsNowhere : List ℕ → ℕ → Type 0
 IsNowhere ns n = (k : ℕ) → k < length ns → slice_index ns k ≡ n → ⊥
 
--- The slot stands for the upload: its record represents it, and its text is stored.
+-- The slot represents the upload: its record does, and the text is stored.
 pub record SlotRepresents (x : IndexSet) (n : ℕ) (u : Upload) (s : Slot) : Type 0 where
   pub represents : Represents x n s.record u
   pub text : s.text.items ≡ text_of x u
   pub encodable : (text_with x u [] (is_complete u)).fault ≡ None
   pub valid : IsValidState (transcoder_with x u [] (is_complete u))
 
--- Each slot stands for its upload.
+-- Each slot represents its upload.
 abbrev pub AllRepresent : IndexSet → List (ℕ × Upload) → List Slot → Type 0
 AllRepresent x [] [] = Unit {0}
 AllRepresent x (entry ∷ entries) (s ∷ slots) = SlotRepresents x entry.0 entry.1 s × AllRepresent x entries slots

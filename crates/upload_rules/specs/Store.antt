@@ -136,7 +136,7 @@ new_upload new = record {
 abbrev pub created_store : Store → New → Store
 created_store m new = record m { uploads = m.uploads ++ (m.next, new_upload new) ∷ []; next = m.next + 1 }
 
--- `terminate` keeps the uploads of other numbers. The next number stays, so no upload gets that number again.
+-- `terminate` leaves the uploads of other numbers. The next number stays, so no upload gets that number again.
 abbrev pub deleted_store : Store → ℕ → Store
 deleted_store m n = record m { uploads = others n m.uploads }
 

@@ -1,4 +1,4 @@
--- The world that a table stands for.
+-- The world that a table represents.
 use Rattle.std.specs.Prelude.{◌≡◌, ℕ, Option, Some, None, Result, Ok, Err}
 use Rattle.enc_model.specs.Indexes.{IndexSet}
 use Rattle.upload_rules.specs.declared.errors.UploadRefusal.{UploadRefusal}
@@ -14,7 +14,6 @@ use Rattle.upload_rules.specs.Drafts.{DraftOf, draft_at}
 use Rattle.upload_rules.specs.Appends.{AppendRepresents}
 use Rattle.upload_rules.specs.declared.table.Table.{Table}
 
--- The table stands for the world.
 pub record TableRepresents (t : Table) (w : World) : Type 0 where
   pub indexes : t.indexes ≡ w.store.indexes
   pub next : t.next ≡ w.store.next
@@ -27,7 +26,7 @@ pub record TableRepresents (t : Table) (w : World) : Type 0 where
   pub grown : IsGrown w
   pub unlimited : w.blocks ≡ None
 
--- The slot stands for the upload, or neither is there.
+-- The slot represents the upload, or neither is there.
 abbrev pub IsSlotOf : IndexSet → ℕ → Option Upload → Option Slot → Type 0
 IsSlotOf x n None None = Unit {0}
 IsSlotOf x n (Some u) (Some s) = SlotRepresents x n u s

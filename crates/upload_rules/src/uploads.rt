@@ -1,4 +1,4 @@
-//! The trait of stores of uploads. Each result is stated for every world that the store stands for.
+//! The trait of stores of uploads. Each result is stated for every world that the store represents.
 ghost use Rattle.std.specs.Prelude.{◌≡◌, ◌≤◌, ◌<◌, ◌+◌, ℕ, Bool, true, List, length, Option, Some, None, IfSome};
 ghost use Rattle.std.specs.Prelude.{IsErrOf, option_copied};
 ghost use Rattle.common.specs.Given.{MoreReads};
@@ -23,7 +23,7 @@ pub trait Uploads {
     /// An append under way. It has to be spent, by `commit` or `drop_open`.
     type Draft;
 
-    /// The store stands for a world. This is a relation, since accepted bytes aren't stored. If it is sure, the disk is
+    /// The store represents a world. This is a relation, since accepted bytes aren't stored. If it is sure, the disk is
     /// honest and holds the texts; otherwise nothing is claimed of the disk.
     ghost represents: { Self → Bool → World → Type 0 };
 
@@ -167,7 +167,7 @@ pub trait Uploads {
         ensures counts { Counts (IsErrOf result (UploadError.Stop Stop.DiskFault)) (failures self.old)
             (failures self.new) };
 
-    /// Drops a draft. This also works after a disk fault, when the store stands for no world.
+    /// Drops a draft. This also works after a disk fault, when the store represents no world.
     fn drop_open(&mut self, draft: Self::Draft)
         ensures represents { (sure : Bool) (w : World) → represents self.old sure w
             → represents self.new sure (dropped w (Self.number_of draft)) }
@@ -196,7 +196,7 @@ pub trait Uploads {
     ghost below: { (store : Self) (sure : Bool) (w : World) (number : ℕ) (u : Upload) → represents store sure w
         → upload_of w.store number ≡ Some u → number < w.store.next };
 
-    /// If the store is known to stand for a world, each crash image from now on shows it.
+    /// If the store is known to represent a world, each crash image from now on shows it.
     ghost durable: { (store : Self) (w : World) (ms : List Store) → represents store true w → Among w.store ms
         → left_only store w.blocks (moment store) ms };
 }

@@ -1,4 +1,4 @@
--- What is kept says what a valid view says.
+-- A catalog has a valid view.
 use Rattle.std.proofs.lemmas.Grind.{common_steps}
 use Rattle.std.proofs.Common.{◌≡◌, ℕ, List, [], Option, None, Some, false, get_or, replicate, sym, subst}
 use Rattle.std.proofs.Common.{arith, length}

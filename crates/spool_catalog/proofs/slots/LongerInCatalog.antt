@@ -1,4 +1,4 @@
--- What is kept, with a longer upload, fits together.
+-- The catalog, with a longer upload, fits together.
 use Rattle.std.proofs.lemmas.Grind.{common_steps}
 use Rattle.std.proofs.Common.{◌≡◌, ℕ, ◌+◌, ◌/◌, ◌<◌, ◌≤◌, List, [], ◌++◌, None, Some, length, get_or, set, take, drop}
 use Rattle.std.proofs.Common.{refl, ◌∙◌, arith}

@@ -1,4 +1,4 @@
--- What is kept fits together where one slot changes: a record comes, is replaced or goes.
+-- The catalog fits together where one slot changes: a record comes, is replaced or goes.
 use Rattle.std.proofs.lemmas.Grind.{common_steps}
 use Rattle.std.proofs.Common.{◌≡◌, ◌≢◌, inl, inr, ◌⊎◌, ℕ, ◌<◌, ◌≤◌, List, [], Option, None, Some, length, get_or, set}
 use Rattle.std.proofs.Common.{◌∙◌, arith}

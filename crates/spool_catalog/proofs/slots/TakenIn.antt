@@ -1,4 +1,4 @@
--- A new record among those that are kept.
+-- A new record in the catalog.
 use Rattle.std.proofs.lemmas.Grind.{common_steps}
 use Rattle.std.proofs.Common.{◌≡◌, inl, inr, ℕ, ◌+◌, List, [], Some, length, get_or, slice_set, refl, sym, ◌∙◌}
 use Rattle.std.proofs.Common.{ap, arith}

@@ -1,4 +1,4 @@
--- What is kept, with an upload taken out, fits together.
+-- The catalog, with an upload taken out, fits together.
 use Rattle.std.proofs.lemmas.Grind.{common_steps}
 use Rattle.std.proofs.Common.{◌≡◌, ℕ, ◌<◌, List, [], None, Some, length, get_or, set, ◌∙◌, arith}
 use Rattle.std.proofs.lemmas.List.{get_or-set_other, get_or-set_same, length-set}

@@ -50,7 +50,7 @@ pub only_blocks : (h : Holding) (blocks : Held) → blocks.rows ≡ h.blocks.row
     → OnlyReserves h (record h { blocks = blocks })
 only_blocks h blocks rows = record { same = refl; rows = rows }
 
--- the same of what is kept, told otherwise
+-- the same of an equal catalog
 pub on_unchanged : {D : Type 0} {sure : Bool} {disk : Ghosts D} {d : D} {h k : Holding}
     {drafts : List (Option SpoolDraft)}
     {number : ℕ} {o : SpoolDraft} {w : World} {p : Patch} → k ≡ h → IsCommit sure disk d h drafts number o w p
@@ -111,7 +111,7 @@ module _ {D : Type 0} {sure : Bool} {disk : Ghosts D} {d d' : D} {h h' : Holding
   held : Holds w.store.indexes p o
   held = own_draft.holds
 
-  -- what its slot's record tells of its upload
+  -- what follows of its upload from its slot's record
   module _ {found : Found} (finds : IsFound h.slots o found) where
     abbrev has : HasSameCount h.slots o found.slot
     has = finds.same

@@ -1,4 +1,4 @@
--- The drafts that a commit leaves fit what is kept.
+-- The drafts that a commit leaves fit the catalog.
 use Rattle.std.proofs.Common.{◌≡◌, ℕ, List, Option, None, Some, get_or, set, refl, ◌∙◌, ap}
 use Rattle.spool_blocks.specs.Blocks.{Held}
 use Rattle.spool_drafts.specs.Drafts.{IsTailPlaced, list_of}

@@ -72,7 +72,7 @@ pub found_open : (slots : List (Option SlotRecord)) (o : SpoolDraft) (found : Fo
     → found.stays ≡ false → is_length finds.same.used.declared finds.same.used.accepted ≡ false
 found_open slots o found finds goes = search (arith, common_steps)
 
--- the draft of a number stands for a patch
+-- the draft of a number represents a patch
 pub record IsOpen {D : Type 0} (sure : Bool) (disk : Ghosts D) (d : D) (h : Holding)
     (drafts : List (Option SpoolDraft)) (number : ℕ) (o : SpoolDraft) (w : World) (p : Patch) : Type 0 where
   pub represents : StandsFor sure disk d h drafts w
@@ -94,7 +94,7 @@ module _ {D : Type 0} {sure : Bool} {disk : Ghosts D} {d : D} {h : Holding} {dra
   held : Holds w.store.indexes p o
   held = own_draft.holds
 
-  -- what a slot's record tells
+  -- the upload of a slot's record
   recorded : (slot : ℕ) (used : SlotRecord) → get_or h.slots slot None ≡ Some used
       → IsRecorded w.store used (k.represents.stored.view.texts slot)
   recorded slot used there = k.represents.stored.shows.recorded slot used (cc)
@@ -231,7 +231,7 @@ module _ {D : Type 0} {sure : Bool} {disk : Ghosts D} {d : D} {h : Holding} {dra
         pub used_is : IsUsedBy h.slots found.slot p.number
         used_is = search (arith, common_steps)
 
--- WHATEVER THE DISK SAID
+-- WHATEVER THE DISK GAVE
 
 -- it is refused so exactly where the draft's upload is gone
 abbrev pub IsGoneFor : {T : Type 0} → List (Option SlotRecord) → SpoolDraft → Result T UploadError → Type 0

@@ -1,4 +1,4 @@
--- A commit's draft is spent: what the disk and what is kept stand for then.
+-- A commit's draft is spent: what the disk and the catalog represent then.
 use Rattle.std.proofs.lemmas.Grind.{common_steps}
 use Rattle.std.proofs.Common.{Err, ◌≡◌, ◌≢◌, ◌⊎◌, Bool, true, false, ℕ, ◌*◌, ◌<◌, ◌≤◌, List, []}
 use Rattle.std.proofs.Common.{Option, None, Some, length, get_or, set, refl, sym, ◌∙◌, ap, subst, arith}
@@ -74,7 +74,7 @@ pub stopped : {T : Type 0} (refusal : Option UploadRefusal) (stop : WhyStopped) 
 stopped refusal NoMemory done same none unmade = (subst IsLate (sym none) tt, unmade refl)
 stopped refusal DiskFault done same none unmade = subst IsLate (sym none) tt
 
--- WHAT IT STANDS FOR
+-- WHAT IT REPRESENTS
 
 pub on_disk : {D : Type 0} {sure : Bool} (disk : Ghosts D) (d d' : D) (h : Holding) (drafts : List (Option SpoolDraft))
     (w : World) → d' ≡ d → StandsFor sure disk d h drafts w → StandsFor sure disk d' h drafts w

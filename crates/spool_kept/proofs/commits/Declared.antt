@@ -19,7 +19,7 @@ use Rattle.spool_kept.specs.Stored.{Stored}
 use Rattle.spool_catalog.specs.declared.longer.Longer.{Longer}
 use Rattle.spool_catalog.proofs.slots.ChangedSlots.{one_value}
 
--- the upload as its record says it, with a length
+-- the upload as it is in its record, with a length
 abbrev pub named : SlotRecord → ℕ → Option ℕ → Longer
 named r slot declared = record {
   slot = slot;
@@ -29,7 +29,7 @@ named r slot declared = record {
   state = r.state;
 }
 
--- the slot's record, told otherwise
+-- the slot's record, by an equal one
 abbrev pub may_as : {slots : List (Option SlotRecord)} {slot : ℕ} {declared : Option ℕ} (r : SlotRecord)
     → (may : MayDeclare slots slot declared) → r ≡ may.used → MayDeclare slots slot declared
 may_as {declared = declared} r may is = record {

@@ -319,7 +319,7 @@ answered X Y (Ok t) done same = (refl, done)
 answered X Y (Err Stops.NoMemory) done same = (tt, same refl)
 answered X Y (Err Stops.DiskFault) done same = tt
 
--- a disk fault is told as itself
+-- a disk fault is answered as such
 pub is_recorded : {T : Type 0} (r : Result T Stop) → IsErrOf r Stops.DiskFault
     → IsErrOf (unrefused r) (UploadError.Stop Stops.DiskFault)
 is_recorded (Ok t) is = absurd (cc)

@@ -68,7 +68,7 @@ fit_changed n h h' old new d o fit is own others placed apart = record {
   distinct = all_apart (lists_at old) (lists_at new) d (list_in o) (changed_lists old new d o is) apart fit.distinct;
 }
 
--- WHAT IS KEPT
+-- THE CATALOG
 
 pub preserves_on : (old new : Holding) (v : View) → OnlyReserves old new → HasView old v → HasView new v
 preserves_on old new v same has_view =

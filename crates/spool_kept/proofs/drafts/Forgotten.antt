@@ -87,7 +87,7 @@ module _ (number : ℕ) (old new : List (Option SpoolDraft)) (forgets : EachForg
         represents.represents;
   }
 
--- WHATEVER THE DISK SAID
+-- WHATEVER THE DISK GAVE
 
 module _ {h h' : Holding} {slot number : ℕ} (used : IsUsedBy h.slots slot number) (out : IsTakenOut h slot h')
     (old new : List (Option SpoolDraft)) (forgets : EachForgets number old new) (fit : DraftsFit h old) where

@@ -23,13 +23,13 @@ use Rattle.spool_drafts.proofs.Stays.{has_same}
 use Rattle.spool_catalog.proofs.slots.Freed.{others_stay}
 use Rattle.spool_kept.proofs.slots.SlotChange.{owned_still}
 
--- WHATEVER THE DISK SAID
+-- WHATEVER THE DISK GAVE
 
 pub hold_still : (n slot : ℕ) (old new : Held) (drafts : List (Option SpoolDraft)) → FreesRows slot old.rows new.rows
     → new.reserved ≡ old.reserved → DraftsHold n old drafts → DraftsHold n new drafts
 hold_still n slot old new drafts frees same hold = search (arith, common_steps)
 
--- WHAT THEY STAND FOR
+-- WHAT THEY REPRESENT
 
 -- an upload of the store without the number has another number, and was there
 upload_was : (w : World) (number n : ℕ) (u : Upload) → upload_of (deleted_store w.store number) n ≡ Some u

@@ -1,4 +1,4 @@
--- The drafts' uploads, whatever the disk said: what is in their slots, and what becomes of it.
+-- The drafts' uploads, whatever the disk gave: what is in their slots, and what becomes of it.
 use Rattle.std.proofs.lemmas.Grind.{common_steps}
 use Rattle.std.proofs.Common.{◌≡◌, inl, inr, ℕ, ◌<◌, ◌≤◌, false, List, [], Option, None, Some, IfOk}
 use Rattle.std.proofs.Common.{Result, Ok, Err, get_or, length, set, refl, sym, ◌∙◌, ap, subst, arith}
@@ -138,7 +138,7 @@ pub fits_declared : (h h' : Holding) (drafts : List (Option SpoolDraft)) (longer
     → DraftsFit h drafts → DraftsFit h' drafts
 fits_declared h h' drafts longer used there only is fit = grind (arith, common_steps, of_declared)
 
--- a new upload is kept
+-- a new upload is in the catalog
 module _ (h h' : Holding) (slot : ℕ) (new : SlotRecord) (room : HasRoomAt h slot) (taken : IsTakenIn h slot new h')
     (number : new.number ≡ h.next) where
   -- the new record has no draft's number

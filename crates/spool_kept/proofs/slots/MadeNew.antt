@@ -1,4 +1,4 @@
--- A new upload, in what is kept and on the disk.
+-- A new upload, in the catalog and on the disk.
 use Rattle.std.proofs.lemmas.Grind.{common_steps}
 use Rattle.std.proofs.Common.{◌≡◌, ◌⊎◌, ℕ, ◌+◌, ◌<◌, List, Option, None, false, length, get_or}
 use Rattle.std.proofs.Common.{refl, sym, ◌∙◌, ap, subst, arith, Bool, true}
@@ -72,7 +72,7 @@ module _ {D : Type 0} {sure : Bool} {disk : Ghosts D} {d : D} {h : Holding} {m :
         (lasts_either disk d d' stored (created_view v slot r) shows refl
         (lasts (created_view v slot r) changes (texts known)))
 
-    -- and the new one stands after the change
+    -- and the disk and the catalog represent the new store after the change
     pub stored_new : {d' : D} {h' : Holding} → IsTakenIn h slot r h' → (disk.honest d → disk.honest d')
         → (sure ≡ true → (v' : View) → Changes pages v v' → HasTexts (disk.current d) v'
         → Rests v' (disk.current d') (disk.unsynced d')) → Stored sure disk d' h' (created_store m new)

@@ -1,4 +1,4 @@
--- The entries of other numbers keep their order.
+-- The entries of other numbers stay in their order.
 use Rattle.std.proofs.Common.{ℕ, zero, suc, ◌<◌, List, [], ◌∷◌, length, slice_index, map, arith, inl, inr, eq-eqb}
 use Rattle.std.proofs.lemmas.Bool.{cases_eq, ne_eqb}
 use Rattle.upload_rules.specs.Slots.{IsRising}

@@ -36,7 +36,7 @@ text_here v slot text s same = rw (eq-eqb s slot same) refl
 pub text_else : (v : View) (slot : ℕ) (text : List ℕ) (s : ℕ) → s ≢ slot → texts_with v slot text s ≡ v.texts s
 text_else v slot text s other = rw (ne_eqb s slot other) refl
 
--- a record tells of the upload that has its number
+-- a record represents the upload that has its number
 pub recorded_upload : (v : View) (m : Store) → Shows v m → (s : ℕ) (r : SlotRecord) → slot_at v s ≡ Some r
     → (u : Upload)
     → find r.number m.uploads ≡ Some u → IsRecordOf m.indexes r (v.texts s) u
@@ -71,7 +71,7 @@ owned_still {slots = slots} {slot = slot} o same others {list = list} used apart
 abbrev pub changed : View → ℕ → Option SlotRecord → List Row → (ℕ → List ℕ) → ℕ → View
 changed v s o rows texts next = record (with_slot v s o) { rows = rows; texts = texts; next = next }
 
--- the slot's record and text tell of the upload that has its number
+-- the slot's record and text represent the upload that has its number
 pub record IsNow (x : IndexSet) (n next : ℕ) (text : List ℕ) (uploads : List (ℕ × Upload))
     (r : SlotRecord) : Type 0 where
   pub number : r.number ≡ n

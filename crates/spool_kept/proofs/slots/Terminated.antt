@@ -1,4 +1,4 @@
--- An upload taken away, in what is kept and on the disk.
+-- An upload taken away, in the catalog and on the disk.
 use Rattle.std.proofs.Common.{◌≡◌, ◌⊎◌, ℕ, List, [], Option, None, Some, get_or, refl, sym, ◌∙◌, ap, subst, Bool, true}
 use Rattle.spool_blocks.specs.Blocks.{Row}
 use Rattle.spool_disk.specs.Views.{Lasts}

@@ -13,10 +13,10 @@ use enc_model::Encoding;
 use itoa::Buffer;
 use std::alloc::AllocError;
 
-// What stands between the status and a reply's own header lines.
+// What is between the status and a reply's own header lines.
 const COMMON: &str = "\r\nTus-Resumable: 1.0.0\r\nCache-Control: no-store\r\n";
 
-// What stands before the status.
+// What is before the status.
 const FIRST: &str = "HTTP/1.1 ";
 
 /// A line in three texts, or nothing.
@@ -27,7 +27,7 @@ pub(super) struct Line<'m> {
     end: &'m str,
 }
 
-/// A text that stands for a line, for several, or for none.
+/// A text that is a line, several, or none.
 pub(super) fn whole_line(text: &str) -> Line<'_>
     ensures { line_shown result ≡ text.now }
 {

@@ -22,7 +22,7 @@ taken order n place rises is listed =
     without_number order (place - 1) n rises (omega (arith, some, is.within))
     (listed_before order n place rises is listed.0 (place - 1) listed.1 (omega (arith, some)))
 
--- the place, as the call told it of the slice
+-- the place, as the call gave it for the slice
 place_is : (c : After-places_to-place) → IsPlaceFor c.args.order.now.items c.args.number c.places_to-place.result
 place_is c =
     let order = c.args.order.now.items in

@@ -105,7 +105,7 @@ returns-clause-answer g c sure drafts number w p is =
       ),
     )
 
--- WHATEVER THE DISK SAID
+-- WHATEVER THE DISK GAVE
 
 pub returns-clause-may : goal.returns-clause-may
 returns-clause-may g c =

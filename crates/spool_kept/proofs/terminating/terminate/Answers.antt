@@ -44,7 +44,7 @@ pub returns-clause-answer : goal.returns-clause-answer
 returns-clause-answer g c sure w represents =
     subst IsLate (sym (may g (goal.at.returns-clause-answer g c).In-Some w represents)) tt
 
--- WHAT IS KEPT OF IT, AND THE DRAFTS
+-- THE CATALOG, AND THE DRAFTS
 
 out_of : (g : Over) (c : After-take_out g) (slot : ℕ) → IsUsedBy c.args.catalog.now.slots slot c.args.number
     → IsTakenOut c.args.catalog.now slot c.take_out.new.self

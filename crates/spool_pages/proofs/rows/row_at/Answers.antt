@@ -10,7 +10,7 @@ use Rattle.spool_pages.proofs.rows.row_at.Goals as goal
 module _ (page : List ℕ) (at slot ordinal : ℕ)
     (slot_is : (n : ℕ) → n < 2 ^ 32 → AreAt (byte_of page) at 4 (to_be_bytes w32 n) → slot ≡ n)
     (ordinal_is : (n : ℕ) → n < 2 ^ 32 → AreAt (byte_of page) (at + 4) 4 (to_be_bytes w32 n) → ordinal ≡ n) where
-  -- what the two fields are of a row that stands there
+  -- what the two fields are of a row that is there
   fields : (row : Option (ℕ × ℕ)) → FitsRow row → AreAt (byte_of page) at 8 (row_bytes row)
       → ((row ≡ None) × (slot ≡ 0) × (ordinal ≡ 0)) ⊎ ((0 < slot) × (row ≡ Some (slot - 1, ordinal)))
   fields None fits are_at = inl (

@@ -40,7 +40,7 @@ returns-clause-in_slot c = record {
   only = λ t q e is. only_record t c.in_ok-slot.ensures.only (record_there c) c.in_ok-slot.ensures.used e is;
 }
 
--- what the record tells of
+-- the upload that the record represents
 abbrev recorded_of : (c : goal.After-record) (v : View) (m : Store) → HasView c.args.self.now v → Shows v m
     → (u : Upload)
     × (upload_of m c.args.number ≡ Some u) × RepresentsValid m.indexes c.args.number c.record.result.now u
