@@ -116,7 +116,7 @@ coded_one t e mode s c =
     ∙ joined_end (code_of f mode s c)
     ∙ within_final f mode (settled f c (f s c)) (λ x l h. encoder_plain t e s c x l h)
 
--- bytes, and then what was written led_by them
+-- bytes, and then what was written after them
 pub final_after : (mode : Mode) (x : List ℕ) (w : Written) → final mode (after_written x w) ≡ led_by x (final mode w)
 final_after mode x (Wrote b s) = refl
 final_after mode x (Restore b s) = refl

@@ -18,7 +18,7 @@ pub unmappable_prefix : (mode : Mode) (b : List ℕ) (s : Shift) (d : ℕ) {Z : 
 unmappable_prefix Html b s d p = prefix (reference d) p
 unmappable_prefix Fatal b s d p = p
 
--- led_by a part of the code
+-- after a part of the code
 pub gave_after : {Z : Type 0} {old mid : Vec ℕ Z} (b : List ℕ) (code : Coded) (new : Vec ℕ Z)
     (r : Result ShiftState EncodeError) →
     Appended old b mid → Gave code mid new r → Gave (led_by b code) old new r

@@ -1,4 +1,4 @@
--- Codes led_by bytes that are held.
+-- Codes after bytes that are held.
 use Rattle.std.proofs.Common.{ℕ, ◌≡◌, List, [], ◌∷◌, ◌++◌, None, Vec, Result, Ok, Err, sym, ◌∙◌, ap, subst}
 use Rattle.std.proofs.Common.{append_assoc, append-nil, arith}
 use Rattle.enc_model.specs.declared.Encoding.{Encoding}
@@ -37,7 +37,7 @@ module _ {Z : Type 0} where
       → Passed out held bytes out still_held
   all_held out held bytes still_held e = record { prefix = []; parts = sym e; appended = nothing_appended out }
 
-  -- more that is held led_by the rest
+  -- more that is held after the rest
   pub held_more : {old : Vec ℕ Z} {held : List ℕ} {new : Vec ℕ Z} {mid : List ℕ} (bytes still_held : List ℕ)
       → still_held ≡ mid ++ bytes → Passed old held [] new mid → Passed old held bytes new still_held
   held_more {held = held} {mid = mid} bytes still_held e p = record {
@@ -47,7 +47,7 @@ module _ {Z : Type 0} where
     appended = p.appended;
   }
 
-  -- a code led_by another
+  -- a code after another
   pub held_after : (a code : Coded) (old : Vec ℕ Z) (held : List ℕ) (mid : Vec ℕ Z) (still_held : List ℕ)
       (new : Vec ℕ Z)
       (last : List ℕ) (r : Result ShiftState EncodeError) →

@@ -1,4 +1,4 @@
--- What is written led_by an unpacked state goes on from what was written before it was packed.
+-- What is written after an unpacked state goes on from what was written before it was packed.
 use Rattle.std.proofs.Common.{ℕ, ◌≡◌, true, false, List, ◌++◌, Some, None, refl, sym, ◌∙◌, ap, append_assoc, subst}
 use Rattle.enc_model.specs.Encode.{Tables, InAscii, Coded, led_by, coded, encoder, ended_coded, encode}
 use Rattle.enc_model.specs.Decode.{decoded, decoded_text, text}
@@ -12,7 +12,7 @@ use Rattle.enc_laws.proofs.Packed.{same_state}
 pub same : (s later : Transcoder) → IsUnpackedFrom s later → later ≡ s
 same s later is = same_state s later is.packed is.valid is.bytes
 
--- THE TEXT OF A FAULT: what comes led_by it doesn't matter.
+-- THE TEXT OF A FAULT: what comes after it doesn't matter.
 
 ended_fault : (r : Coded) (c : ℕ) → r.fault ≡ Some c → ended_coded r ≡ r
 ended_fault r c e = rw e refl

@@ -49,7 +49,7 @@ text_ended t s b here =
     ∙ ap (λ z. led_by (so_far t s b).bytes (ended_coded (coded f s.mode z more))) (sym here.shift)
     ∙ ap (λ z. led_by (so_far t s b).bytes (ended_coded (coded f s.mode s.shift (fed_end t s.from z)))) (sym here.phase)
 
--- THE END'S BYTES, led_by what was coded
+-- THE END'S BYTES, after what was coded
 
 ended_none : (r : Coded) → r.fault ≡ None → ended_coded r ≡ record {
   bytes = r.bytes ++ encoder_end r.state;
@@ -62,7 +62,7 @@ ended_fault : (r : Coded) (c : ℕ) → r.fault ≡ Some c → ended_coded r ≡
 ended_fault r c e = rw e refl
 
 module _ {Z : Type 0} (r : Coded) (old mid new : Vec ℕ Z) where
-  -- led_by the code the bytes of the end were appended
+  -- after the code the bytes of the end were appended
   pub end_written : IsAllWritten r old mid → new.items ≡ mid.items ++ encoder_end r.state
       → IsAllWritten (ended_coded r) old new
   end_written p e =

@@ -1,4 +1,4 @@
--- The text of more bytes: what a prefix of them comes to, and more led_by it.
+-- The text of more bytes: what a prefix of them comes to, and more after it.
 use Rattle.std.proofs.Common.{◌≡◌, ℕ, Bool, true, false, List, [], ◌++◌, Option, Some, None, refl, sym, ◌∙◌, ap}
 use Rattle.std.proofs.Common.{append_assoc, append-nil, inl, inr, arith}
 use Rattle.std.proofs.lemmas.Bool.{cases_Bool}
