@@ -29,7 +29,7 @@ use Rattle.common.specs.declared.limits.TheConstants.{MOST_BLOCKS}
 use Rattle.spool_blocks.specs.Blocks.{Row}
 use Rattle.spool_catalog.specs.Holding.{IsListOf, IsOwnedBy}
 use Rattle.std.proofs.Common.{IfSome}
-use Rattle.spool_catalog.proofs.numbers.Ordered.{one_slot as ordered_slot}
+use Rattle.spool_catalog.proofs.numbers.Ordered.{ordered_slot}
 
 pub none_valid : (x : IndexSet) (n : ℕ) (o : Option Upload) → o ≡ None → RepresentsValidOf x n o None
 none_valid x n o e = subst (λ (p : Option Upload). RepresentsValidOf x n p None) (sym e) tt

@@ -8,7 +8,7 @@ ghost use Rattle.spool_catalog.specs.Catalog.{HasViewAlone};
 ghost use Rattle.spool_catalog.specs.Shows.{IsValid};
 ghost use Rattle.spool_pages.specs.Changes.{neighbour};
 ghost use Rattle.spool_pages.specs.Fits.{FitsRow};
-ghost use Rattle.spool_pages.specs.View.{SlotRecord as SlotRecord, View};
+ghost use Rattle.spool_pages.specs.View.{SlotRecord, View};
 
 use crate::CheckError;
 use crate::lists::{BlockList, lists_of};

@@ -4,7 +4,7 @@ ghost use Rattle.std.specs.Prelude.{IfOk, OnOk, OnErr, IsSome};
 ghost use Rattle.spool_blocks.specs.Blocks.{Row as HeldRow};
 ghost use Rattle.spool_journal.specs.Image.{journal_pages, InArea};
 ghost use Rattle.spool_pages.specs.Changes.{ChangesButRows, with_record, SameRowsBut};
-ghost use Rattle.spool_pages.specs.View.{SlotRecord as SlotRecord, View};
+ghost use Rattle.spool_pages.specs.View.{SlotRecord, View};
 ghost use Rattle.spool_texts.specs.Drafts.{IsReserved};
 ghost use Rattle.spool_texts.specs.TextOn.{AllBelow};
 ghost use Rattle.upload_rules.specs.States.{SameEncodings};

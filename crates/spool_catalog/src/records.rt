@@ -5,7 +5,7 @@ ghost use Rattle.upload_rules.specs.Records.{IsShort};
 ghost use Rattle.upload_rules.specs.States.{SameEncodings};
 ghost use Rattle.spool_catalog.specs.Longer.{longer_record};
 ghost use Rattle.spool_catalog.specs.Records.{FitsCatalog, FitsMemory, IsReadable, IsUnpacked, slot_record_of};
-ghost use Rattle.spool_pages.specs.View.{SlotRecord as SlotRecord};
+ghost use Rattle.spool_pages.specs.View.{SlotRecord};
 
 use crate::CheckError;
 use crate::longer::Longer;
@@ -23,7 +23,7 @@ pub struct CatalogRecord {
 }
 
 impl Model for CatalogRecord {
-    ghost use Rattle.spool_pages.specs.View.{SlotRecord as SlotRecord};
+    ghost use Rattle.spool_pages.specs.View.{SlotRecord};
 
     ghost Value = { SlotRecord };
 

@@ -6,7 +6,7 @@ ghost use Rattle.spool_disk.specs.Disk.{Counts};
 ghost use Rattle.spool_disk.specs.Views.{Lasts};
 ghost use Rattle.spool_journal.specs.Image.{all_pages, text_page};
 ghost use Rattle.spool_drafts.specs.declared.draft.SpoolDraft.{SpoolDraft as Draft};
-ghost use Rattle.spool_pages.specs.View.{SlotRecord as SlotRecord};
+ghost use Rattle.spool_pages.specs.View.{SlotRecord};
 ghost use Rattle.upload_rules.specs.Answers.{Answers};
 ghost use Rattle.upload_rules.specs.Calls.{create_refusal, outcome};
 ghost use Rattle.upload_rules.specs.Records.{IsValidNew};

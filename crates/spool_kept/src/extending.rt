@@ -10,7 +10,7 @@ ghost use Rattle.upload_rules.specs.Store.{Store, patched_store};
 ghost use Rattle.spool_catalog.specs.Longer.{MayExtend, HandsOn, HasLonger};
 ghost use Rattle.spool_kept.specs.Extending.{IsPending, IsLastWritten};
 ghost use Rattle.spool_kept.specs.Stored.{Stored, ShowsEither};
-ghost use Rattle.spool_pages.specs.View.{SlotRecord as SlotRecord};
+ghost use Rattle.spool_pages.specs.View.{SlotRecord};
 
 use common::Stop;
 use spool_blocks::BlockNo;

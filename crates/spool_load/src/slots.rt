@@ -9,7 +9,7 @@ ghost use Rattle.spool_pages.specs.Fits.{FitsSlotOf};
 ghost use Rattle.spool_catalog.specs.Records.{FitsCatalog};
 ghost use Rattle.spool_load.specs.Faults.{Loads};
 ghost use Rattle.spool_load.specs.Reads.{OnlyReads, IsPrefixOf, SlotsAreAt};
-ghost use Rattle.spool_pages.specs.View.{SlotRecord as SlotRecord, AreAt, slot_bytes, slot_place};
+ghost use Rattle.spool_pages.specs.View.{SlotRecord, AreAt, slot_bytes, slot_place};
 
 use crate::LoadError;
 use crate::reading::read_at;

@@ -3,7 +3,7 @@ ghost use Rattle.std.specs.Prelude.{◌≡◌, ◌≤◌, ℕ, Option, [], lengt
 ghost use Rattle.std.specs.Int.{to_be_bytes};
 ghost use Rattle.spool_pages.specs.Bytes.{IsPadded};
 ghost use Rattle.spool_pages.specs.Fits.{FitsLength, FitsSlot};
-ghost use Rattle.spool_pages.specs.View.{SlotRecord as UpdatedBy, length_number, length_tag, record_bytes, slot_bytes};
+ghost use Rattle.spool_pages.specs.View.{SlotRecord, length_number, length_tag, record_bytes, slot_bytes};
 
 use crate::fields::{get_u16, get_u64, put};
 use crate::{Damaged, Version, is_blank};
@@ -66,7 +66,7 @@ pub struct BorrowedRecord<'a> {
 }
 
 impl<'a> Model for BorrowedRecord<'a> {
-    ghost Value = { UpdatedBy };
+    ghost Value = { SlotRecord };
 
     ghost view = { λ r. record {
       number = r.number;
@@ -107,7 +107,7 @@ impl<'a> BorrowedRecord<'a> {
         bytes: &'a [u8; RECORD],
     ) -> Result<Option<BorrowedRecord<'a>>, Damaged>
         ensures free { IsPadded bytes.now [] → result ≡ Ok None }
-        ensures used { (r : UpdatedBy) → FitsSlot r → IsPadded bytes.now (record_bytes version r)
+        ensures used { (r : SlotRecord) → FitsSlot r → IsPadded bytes.now (record_bytes version r)
             → result ≡ Ok (Some r) }
         ensures valid { IfOk result (λ found. IsPadded bytes.now (slot_bytes version found)) }
         ensures fits { IfOk result (λ found. IfSome found FitsSlot) }

@@ -15,8 +15,8 @@ use Rattle.tus_action.specs.declared.reads.TheConstants.{PIECE}
 use Rattle.tus_session.specs.Streams.{Asked, Moments, cut, rest_body, taken}
 use Rattle.tus_session.specs.Turns.{Conn, fresh, reader, body_step, turn_of, came_with, came_turn, given_up}
 use Rattle.tus_session.specs.Turns.{give_on, more_on, more_turn, ended_with, ended_world}
-use Rattle.tus_session.specs.Turns.{came_on as came_turn_on}
-use Rattle.tus_session.specs.Turns.{ended_on as ended_world_on}
+use Rattle.tus_session.specs.Turns.{came_on}
+use Rattle.tus_session.specs.Turns.{ended_on}
 use Rattle.tus_session.specs.History.{State, Step, Event, Opened, Came, More, Ended, Marked, Served, Done, put}
 use Rattle.tus_session.specs.History.{refused_same}
 use Rattle.tus_session.specs.declared.session.TheConstants.{MOST_OPEN}
@@ -204,7 +204,7 @@ module _ (st : State) (valid : Valid st) (g : ℕ → List ℕ) (r : Rep) (sim :
 
     none_ended : k.draft ≡ None → ended_world st.world k ≡ st.world
     unfolding ended_world
-    none_ended none = ap (ended_world_on st.world) none
+    none_ended none = ap (ended_on st.world) none
 
     end_case : ((x : DonePatch st (Ended c)) → IsRefused x Full → ⊥) → still_to_give (st.conns c) ≡ []
         → (o : Option ℕ) → k.draft ≡ o → After g c (replay r (cut_moment st.world c k o))
@@ -242,7 +242,7 @@ module _ (st : State) (valid : Valid st) (g : ℕ → List ℕ) (r : Rep) (sim :
 
       turn_is : came_turn st.world k piece ≡ came_with k piece n m a
       unfolding came_turn
-      turn_is = ap (came_turn_on st.world k piece) idle
+      turn_is = ap (came_on st.world k piece) idle
 
       turn_text : (h : Giving) → a.pending ≡ Some h → came_turn st.world k piece ≡ turn_of k piece (n - length m.came) a
       turn_text h e = turn_is ∙ with_text k piece n m a h e
@@ -337,7 +337,7 @@ module _ (st : State) (valid : Valid st) (g : ℕ → List ℕ) (r : Rep) (sim :
     nothing_taken : (piece : List ℕ) (h : Giving) → k.pending ≡ Some h
         → came_turn st.world k piece ≡ record { world = st.world; conn = Some k; bytes = []; text = []; taken = 0 }
     unfolding came_turn
-    nothing_taken piece h e = ap (came_turn_on st.world k piece) e
+    nothing_taken piece h e = ap (came_on st.world k piece) e
 
     came_case : (piece : List ℕ) → ((x : DonePatch st (Came c piece)) → IsRefused x Full → ⊥) → (o : Option Giving)
         → k.pending ≡ o

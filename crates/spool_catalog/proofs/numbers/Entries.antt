@@ -14,12 +14,12 @@ module _ {A : Type 0} where
   find_push_same n a (x ∷ xs) none = let ih = find_push_same n a xs in grind (arith, nat_tests)
 
   -- each place's number is found, there or before it
-  pub found_at : (xs : List (ℕ × A)) (k : ℕ) → k < length xs
+  pub number_found : (xs : List (ℕ × A)) (k : ℕ) → k < length xs
       → (a : A) × (find (slice_index (map (λ e. e.0) xs) k) xs ≡ Some a)
-  found_at [] k lt = absurd (omega (arith, lt))
-  found_at (x ∷ xs) zero lt = (x.1, rw (eq-eqb x.0 x.0 refl) refl)
-  found_at (x ∷ xs) (suc k) lt =
-      let rest = found_at xs k (omega (arith, lt)) in
+  number_found [] k lt = absurd (omega (arith, lt))
+  number_found (x ∷ xs) zero lt = (x.1, rw (eq-eqb x.0 x.0 refl) refl)
+  number_found (x ∷ xs) (suc k) lt =
+      let rest = number_found xs k (omega (arith, lt)) in
       elim (cases_eq x.0 (slice_index (map (λ e. e.0) xs) k)) [
         | inl same ↦ (x.1, rw (eq-eqb x.0 (slice_index (map (λ e. e.0) xs) k) same) refl)
         | inr other ↦ (rest.0, rw (ne_eqb x.0 (slice_index (map (λ e. e.0) xs) k) other) rest.1)
@@ -42,7 +42,7 @@ module _ {A : Type 0} where
       → ((k : ℕ) (b : A) → find k xs ≡ Some b → k < n) → IsRising (map (λ e. e.0) (xs ++ (n, a) ∷ []))
   rising_more xs n a rising below =
       subst IsRising (sym (map-append (λ e. e.0) xs ((n, a) ∷ []))) (pushed (map (λ e. e.0) xs) rising (λ k lt.
-      let there = found_at xs k (omega (arith, lt, length-numbers xs)) in below (slice_index (map (λ e. e.0) xs) k)
+      let there = number_found xs k (omega (arith, lt, length-numbers xs)) in below (slice_index (map (λ e. e.0) xs) k)
       there.0 there.1))
     where
       pushed : (ns : List ℕ) → IsRising ns → IsBelow ns n → IsRising (ns ++ n ∷ [])

@@ -15,7 +15,7 @@ use Rattle.spool_pages.specs.Rests.{Unowned}
 use Rattle.spool_catalog.specs.Rows.{SameOthers, HandsOver}
 use Rattle.spool_catalog.proofs.slots.ChangedSlots.{clash}
 use Rattle.spool_catalog.proofs.slots.Members.{IsOut}
-use Rattle.spool_catalog.proofs.slots.Members.{cases_in}
+use Rattle.spool_catalog.proofs.slots.Members.{place_or_out}
 
 -- who owns a block of it
 pub same_owner : {row : Row} {s k t i : ℕ} → row ≡ Some (s, k) → row ≡ Some (t, i) → (s ≡ t) × (k ≡ i)
@@ -45,7 +45,7 @@ module _ (old : List Row) (slot first : ℕ) (more : List ℕ) (new : List Row) 
   pub row_was : (b s i : ℕ) → Owns new b s i
       → ((j : ℕ) × (j < length more) × (get_or more j 0 ≡ b) × (s ≡ slot) × (i ≡ first + j)) ⊎ (Owns old b s
       i × (s ≡ slot → i < first))
-  row_was b s i owns = elim (cases_in more b) [
+  row_was b s i owns = elim (place_or_out more b) [
     | inl there ↦
         let same = same_owner owns (cc (hands.listed there.at there.below)) in
         inl (there.at, there.below, there.here, same.0, same.1)

@@ -14,12 +14,12 @@ pub record HasPlace (list : List ℕ) (b : ℕ) : Type 0 where
   pub below : at < length list
   pub here : get_or list at 0 ≡ b
 
-pub cases_in : (list : List ℕ) (b : ℕ) → HasPlace list b ⊎ IsOut list b
-cases_in [] b = inr (λ i lt e. omega (arith, lt))
-cases_in (x ∷ list) b =
+pub place_or_out : (list : List ℕ) (b : ℕ) → HasPlace list b ⊎ IsOut list b
+place_or_out [] b = inr (λ i lt e. omega (arith, lt))
+place_or_out (x ∷ list) b =
     elim (cases_eq x b) [
       | inl here ↦ inl (record { at = 0; below = omega arith; here = here })
-      | inr other ↦ elim (cases_in list b) [
+      | inr other ↦ elim (place_or_out list b) [
         | inl there ↦ inl (record { at = suc there.at; below = omega (arith, there.below); here = there.here })
         | inr out ↦ inr (λ i lt e. away i lt e other out)
       ]

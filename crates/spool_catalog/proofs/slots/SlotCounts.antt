@@ -13,7 +13,7 @@ use Rattle.spool_catalog.specs.TakenIn.{HasRoomAt}
 use Rattle.spool_catalog.specs.Catalog.{HasView}
 use Rattle.spool_catalog.specs.Shows.{Shows}
 use Rattle.spool_catalog.proofs.Answered.{listed}
-use Rattle.spool_catalog.proofs.numbers.Entries.{length-numbers, found_at as number_found}
+use Rattle.spool_catalog.proofs.numbers.Entries.{length-numbers, number_found}
 use Rattle.spool_catalog.proofs.numbers.Numbered.{numbers, found_at}
 use Rattle.spool_catalog.proofs.numbers.Ordered.{one_place}
 

@@ -9,7 +9,7 @@ use Rattle.spool_texts.specs.Drafts.{IsReserved, Takes, GivesBack}
 use Rattle.spool_texts.specs.Written.{NoneOf}
 use Rattle.spool_room.specs.Holdings.{IsInSome}
 use Rattle.spool_drafts.specs.Effect.{IsIn}
-use Rattle.spool_catalog.proofs.slots.Members.{IsOut, cases_in as place_or_out}
+use Rattle.spool_catalog.proofs.slots.Members.{IsOut, place_or_out}
 
 -- MEMBERS
 
