@@ -6,21 +6,21 @@ use crate::trace::Trace;
 
 /// What a read gave that succeeded. Only clauses read it.
 #[derive(Drop)]
-pub struct Given {
+pub struct GivenRead {
     /// The place of the first byte.
     pub at: u64,
     /// The bytes.
     pub bytes: Trace<u8>,
 }
 
-impl Given {
+impl GivenRead {
     ghost use Rattle.common.specs.Given.{given};
 
     /// A read that gave these bytes from the place on.
-    pub fn new(at: u64, bytes: &[u8]) -> Given
+    pub fn new(at: u64, bytes: &[u8]) -> GivenRead
         ensures { result ≡ given at bytes.now }
     {
-        Given {
+        GivenRead {
             at,
             bytes: Trace::new().then(bytes),
         }

@@ -8,7 +8,7 @@ mod stop;
 mod texts;
 mod trace;
 
-pub use crate::given::Given;
+pub use crate::given::GivenRead;
 pub use crate::limits::{LEAST_BLOCKS, MOST_BLOCKS, MOST_LENGTH, MOST_METADATA, ROWS, SLOTS};
 pub use crate::stop::{DiskFault, Stop};
 pub use crate::texts::{after, number, prefix};

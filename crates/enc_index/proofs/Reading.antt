@@ -10,7 +10,7 @@ use Rattle.enc_index.specs.declared.kind.ReadError.TheVariants.{Line, Range, Twi
 use Rattle.enc_index.specs.Scalars.{is_scalar}
 use Rattle.enc_index.specs.Entries.{pairs_from, AreScalarEntries, ascends}
 use Rattle.enc_index.specs.Files.{pairs_of_file, lines_of, with_lines, pointers_of}
-use Rattle.enc_index.specs.Kinds.{KindedIndex, IsReading}
+use Rattle.enc_index.specs.Kinds.{KindedIndex, IsReadingOfIndex}
 
 no_pairs_at : (q n : ℕ) → pairs_from q (replicate n None) ≡ []
 unfolding pairs_from
@@ -35,7 +35,7 @@ pub scalars_at_first : (bound : ℕ) (entries : List (Option ℕ)) → entries �
 scalars_at_first bound entries e k = rw (e, no_code bound k) (tt)
 
 pub read_refused : (kind : Kind) (bytes : List ℕ) (e : ReadError) → with_lines (pointers_of kind) 1 []
-    (lines_of bytes) ≡ Err e → IsReading kind bytes (Err e)
+    (lines_of bytes) ≡ Err e → IsReadingOfIndex kind bytes (Err e)
 unfolding pairs_of_file
 read_refused kind bytes (Line n) h = h
 read_refused kind bytes (Range n) h = h
@@ -66,6 +66,6 @@ table_ascends bound entries e s = pairs_ascend 0 0 bound entries (omega arith) (
 
 pub refused_by : (kind : Kind) (bytes : List ℕ) (r : Result KindedIndex ReadError) (e : ReadError)
     → IsErrAnd r (λ x. x ≡ e) →
-    with_lines (pointers_of kind) 1 [] (lines_of bytes) ≡ Err e → IsReading kind bytes r
+    with_lines (pointers_of kind) 1 [] (lines_of bytes) ≡ Err e → IsReadingOfIndex kind bytes r
 refused_by kind bytes (Ok index) e h lines = absurd h
 refused_by kind bytes (Err x) e h lines = read_refused kind bytes x (lines ∙ ap Err (sym h))

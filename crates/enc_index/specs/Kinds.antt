@@ -29,10 +29,10 @@ pub record KindedIndex : Type 0 where
   pub pairs : Index
 
 -- Reading a file gives its pairs or its first bad line, unless it is out of memory.
-abbrev pub IsReading : Kind → List ℕ → Result KindedIndex ReadError → Type 0
-IsReading kind bytes (Ok index) = (index.kind ≡ kind) × (pairs_of_file kind bytes ≡ Ok index.pairs)
-IsReading kind bytes (Err NoMemory) = Unit {0}
-IsReading kind bytes (Err e) = pairs_of_file kind bytes ≡ Err e
+abbrev pub IsReadingOfIndex : Kind → List ℕ → Result KindedIndex ReadError → Type 0
+IsReadingOfIndex kind bytes (Ok index) = (index.kind ≡ kind) × (pairs_of_file kind bytes ≡ Ok index.pairs)
+IsReadingOfIndex kind bytes (Err NoMemory) = Unit {0}
+IsReadingOfIndex kind bytes (Err e) = pairs_of_file kind bytes ≡ Err e
 
 -- The indexes with another one at this place.
 abbrev pub set_place : List (Option Index) → Option ℕ → Index → List (Option Index)

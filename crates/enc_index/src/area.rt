@@ -12,7 +12,7 @@ ghost use Rattle.enc_index.specs.Compared.{HasEntries, HasFlags, HasZeros, HasFi
 
 use crate::kind::AreaError;
 use crate::set::IndexSet;
-use crate::table::Table;
+use crate::table::IndexTables;
 use std::alloc::{AllocError, Global};
 
 /// The length of the index area in bytes: 22 pages.
@@ -36,7 +36,7 @@ fn spot_of(entry: usize) -> (usize, usize)
 /// A file's entry: a code point, or FFFFFFFF for none.
 #[tactic(auto, using(crate::proofs::Lookups::code_of_none))]
 #[inline(always)]
-fn entry_of(table: Option<&Table>, pointer: usize) -> u32
+fn entry_of(table: Option<&IndexTables>, pointer: usize) -> u32
     requires { pointer < 22099 }
     ensures { result ≡ entry_of (option_copied table.entry) pointer }
 {
@@ -121,7 +121,7 @@ fn table_of(
     file: usize,
     start: usize,
     pointers: usize,
-) -> Result<Option<Table>, AllocError>
+) -> Result<Option<IndexTables>, AllocError>
     requires long { length area.now ≡ 90112 }
     requires file { file < 18 }
     requires inside { start + pointers ≤ 22099 }
@@ -133,12 +133,12 @@ fn table_of(
         return Ok(None);
     }
     let codes = codes_of(alloc, area, start, pointers)?;
-    let table = Table::new(alloc, codes)?;
+    let table = IndexTables::new(alloc, codes)?;
     Ok(Some(table))
 }
 
 /// The tables of the single-byte encodings in an area.
-fn single_of(alloc: Global, area: &[u8]) -> Result<Vec<Option<Table>>, AllocError>
+fn single_of(alloc: Global, area: &[u8]) -> Result<Vec<Option<IndexTables>>, AllocError>
     requires { length area.now ≡ 90112 }
     ensures places { IfOk result (λ single. length single.items ≡ 15) }
     ensures valid { IfOk result (λ single. (k : ℕ) → IfSome (slice_index_or single.items k None) (IsIndex 128)) }
@@ -166,7 +166,7 @@ fn set_of(alloc: Global, area: &[u8]) -> Result<IndexSet, AllocError>
 }
 
 /// Whether an area has this file's entries from `start` on.
-fn has_entries(table: Option<&Table>, area: &[u8], start: usize, pointers: usize) -> bool
+fn has_entries(table: Option<&IndexTables>, area: &[u8], start: usize, pointers: usize) -> bool
     requires long { length area.now ≡ 90112 }
     requires inside { start + pointers ≤ 22099 }
     ensures { IsTrue result ↔ HasEntries area.now start pointers (option_copied table.entry) }

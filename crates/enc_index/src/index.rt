@@ -3,12 +3,12 @@
 ghost use Rattle.std.specs.Prelude.{◌≡◌, ◌≤◌, replicate, None, IfOk};
 ghost use Rattle.enc_index.specs.Files.{pointers_of};
 ghost use Rattle.enc_index.specs.Sets.{IsIndex};
-ghost use Rattle.enc_index.specs.Kinds.{KindedIndex, IsReading};
+ghost use Rattle.enc_index.specs.Kinds.{KindedIndex, IsReadingOfIndex};
 ghost use Rattle.enc_model.specs.Index.{code, pointer, pointer_sjis};
 
 use crate::file::read_file;
 use crate::kind::{Kind, ReadError};
-use crate::table::Table;
+use crate::table::IndexTables;
 use std::alloc::{AllocError, Global};
 use std::marker::Model;
 
@@ -16,7 +16,7 @@ use std::marker::Model;
 #[derive(Drop)]
 pub struct Index {
     kind: Kind,
-    table: Table,
+    table: IndexTables,
 }
 
 impl Model for Index {
@@ -65,11 +65,11 @@ impl Index {
     ///
     /// The fault of the first bad line, or `NoMemory` when out of memory.
     pub fn read(alloc: Global, bytes: &[u8], kind: Kind) -> Result<Index, ReadError>
-        ensures { IsReading kind bytes.now result }
+        ensures { IsReadingOfIndex kind bytes.now result }
     {
         let mut codes = no_codes(alloc, pointers_of(kind))?;
         read_file(&mut codes, bytes)?;
-        let table = Table::new(alloc, codes)?;
+        let table = IndexTables::new(alloc, codes)?;
         Ok(Index { kind, table })
     }
 
@@ -102,7 +102,7 @@ impl Index {
     }
 
     /// The kind and the table.
-    pub(crate) fn into_parts(self) -> (Kind, Table)
+    pub(crate) fn into_parts(self) -> (Kind, IndexTables)
         ensures kind { result.0 ≡ self.kind }
         ensures pairs { result.1 ≡ self.pairs }
         ensures valid { IsIndex (pointers_of self.kind) self.pairs }

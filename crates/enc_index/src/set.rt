@@ -14,7 +14,7 @@ ghost use Rattle.enc_index.specs.Bytes.{byte_char};
 use crate::index::Index;
 use crate::kind::Kind;
 use crate::pointers::Pointers;
-use crate::table::Table;
+use crate::table::IndexTables;
 use enc_model::{Encoding, Utf8Char};
 use std::alloc::{AllocError, Global};
 use std::marker::Model;
@@ -25,11 +25,11 @@ const SINGLE_BYTE_ENCODINGS: usize = 15;
 /// The tables of the files that were given.
 #[derive(Drop)]
 struct Tables {
-    jis0208: Option<Table>,
-    jis0212: Option<Table>,
-    katakana: Option<Table>,
+    jis0208: Option<IndexTables>,
+    jis0212: Option<IndexTables>,
+    katakana: Option<IndexTables>,
     /// Of the fifteen single-byte encodings, in their order.
-    single: Vec<Option<Table>>,
+    single: Vec<Option<IndexTables>>,
 }
 
 /// The index files that were given. The set is one pointer, so that it is cheap to move.
@@ -115,10 +115,10 @@ impl IndexSet {
     /// `AllocError` when out of memory.
     pub(crate) fn of_tables(
         alloc: Global,
-        jis0208: Option<Table>,
-        jis0212: Option<Table>,
-        katakana: Option<Table>,
-        single: Vec<Option<Table>>,
+        jis0208: Option<IndexTables>,
+        jis0212: Option<IndexTables>,
+        katakana: Option<IndexTables>,
+        single: Vec<Option<IndexTables>>,
     ) -> Result<IndexSet, AllocError>
         requires { IsIndexSet (record
             { jis0208 = jis0208; jis0212 = jis0212; katakana = katakana; single = single.items }) }
@@ -136,7 +136,7 @@ impl IndexSet {
     }
 
     /// The table of file n of the eighteen, if it was given.
-    pub(crate) fn nth_table(&self, n: usize) -> Option<&Table>
+    pub(crate) fn nth_table(&self, n: usize) -> Option<&IndexTables>
         ensures { option_copied result ≡ nth_file self.now n }
     {
         match n {
@@ -170,7 +170,7 @@ impl IndexSet {
 
     /// The index of a single-byte encoding, if its file was given.
     #[inline(always)]
-    fn single_table(&self, encoding: Encoding) -> Option<&Table>
+    fn single_table(&self, encoding: Encoding) -> Option<&IndexTables>
         ensures { option_copied result ≡ single_of self.now encoding }
     {
         let place = place_of(encoding)?;
@@ -179,7 +179,7 @@ impl IndexSet {
 
     /// The index of a kind, if its file was given.
     #[inline(always)]
-    fn table(&self, kind: Kind) -> Option<&Table>
+    fn table(&self, kind: Kind) -> Option<&IndexTables>
         ensures { option_copied result ≡ index_of self.now kind }
     {
         match kind {

@@ -14,7 +14,7 @@ use std::marker::Model;
 
 /// An index, with tables for both directions. A lookup takes one step, by pointer or by code point.
 #[derive(Drop)]
-pub struct Table {
+pub struct IndexTables {
     /// The code point at each pointer.
     codes: Vec<Option<char>>,
     /// The same as UTF-8.
@@ -27,7 +27,7 @@ pub struct Table {
     sjis_pointers: Pointers,
 }
 
-impl Model for Table {
+impl Model for IndexTables {
     ghost Value = { Index };
 
     ghost view = { λ t. pairs_from 0 t.codes.items };
@@ -35,13 +35,13 @@ impl Model for Table {
     ghost invariant = { λ t. AreAgreed t.codes.items t.ready.items t.ready_bytes.items t.pointers t.sjis_pointers };
 }
 
-impl Table {
+impl IndexTables {
     /// The table of these code points, each at its pointer.
     ///
     /// # Errors
     ///
     /// `AllocError` when out of memory.
-    pub fn new(alloc: Global, codes: Vec<Option<char>>) -> Result<Table, AllocError>
+    pub fn new(alloc: Global, codes: Vec<Option<char>>) -> Result<IndexTables, AllocError>
         requires { length codes.items < 0xFFFF }
         ensures { IfOk result (λ table. table ≡ pairs_from 0 codes.items) }
     {
@@ -49,7 +49,7 @@ impl Table {
         let ready_bytes = ready_bytes(alloc, &codes)?;
         let pointers = Pointers::least(alloc, &codes, Usable::All)?;
         let sjis_pointers = Pointers::least(alloc, &codes, Usable::OfShiftJis)?;
-        Ok(Table {
+        Ok(IndexTables {
             codes,
             ready,
             ready_bytes,

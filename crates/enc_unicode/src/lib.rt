@@ -14,6 +14,6 @@ mod utf16;
 mod utf8;
 mod well_formed;
 
-pub use lane_kernels::Order;
+pub use lane_kernels::ByteOrder;
 pub use utf8::Utf8State;
 pub use utf16::Utf16State;

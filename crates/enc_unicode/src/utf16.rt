@@ -15,7 +15,7 @@ use crate::blocks::decode_block;
 use crate::runs::{CODE, write_text};
 use enc_feed::{BLOCK, Batch, BlockDecoder, Decoder, Sink, feed, finish};
 use enc_model::{Answer, Restored};
-use lane_kernels::{Order, Pairing, paired, unit_in};
+use lane_kernels::{ByteOrder, Pairing, paired, unit_in};
 use std::marker::Model;
 use std::str::from_utf8_unchecked;
 
@@ -98,12 +98,12 @@ impl Units {
 }
 
 impl Decoder for Units {
-    type Tables = Order;
+    type Tables = ByteOrder;
 
     ghost handler = { λ order. utf16 (is_big order) };
 
     #[tactic(auto, unfolding(enc_model::specs::Utf16::utf16))]
-    fn read(&mut self, order: &Order, byte: Option<u8>) -> (Answer, Restored) {
+    fn read(&mut self, order: &ByteOrder, byte: Option<u8>) -> (Answer, Restored) {
         let Some(second) = byte else {
             return (self.end(), Restored::Zero);
         };
@@ -124,11 +124,11 @@ impl Decoder for Units {
 
 impl BlockDecoder for Units {
     #[tactic(auto, using(enc_feed::proofs::Prefixes::prefix_none))]
-    fn prefix(&self, _order: &Order, _bytes: &[u8]) -> usize {
+    fn prefix(&self, _order: &ByteOrder, _bytes: &[u8]) -> usize {
         0
     }
 
-    fn decode_block(&mut self, order: &Order, block: &[u8], batch: &mut Batch) {
+    fn decode_block(&mut self, order: &ByteOrder, block: &[u8], batch: &mut Batch) {
         let mut pairing = Pairing::carrying(self.byte, self.lead);
         decode_block(&mut pairing, *order, block, batch);
         self.byte = pairing.odd();
@@ -161,7 +161,7 @@ impl Units {
     /// Decodes the next part of a piece: a run without surrogates, or a block. Returns its length.
     fn advance<S: Sink>(
         &mut self,
-        order: Order,
+        order: ByteOrder,
         rest: &[u8],
         sink: &mut S,
     ) -> Result<usize, S::Refusal>
@@ -190,7 +190,7 @@ impl Units {
     /// Decodes a piece by runs without surrogates and by blocks.
     fn feed_runs<S: Sink>(
         &mut self,
-        order: Order,
+        order: ByteOrder,
         piece: &[u8],
         sink: &mut S,
     ) -> Result<(), S::Refusal>
@@ -209,7 +209,7 @@ impl Units {
 /// The UTF-16 decoder (Encoding Standard, section 14.2.1), in one byte order.
 #[derive(Drop)]
 pub struct Utf16State {
-    order: Order,
+    order: ByteOrder,
     units: Units,
 }
 
@@ -221,7 +221,7 @@ impl Model for Utf16State {
 
 impl Utf16State {
     /// A decoder that has read nothing.
-    pub fn new(order: Order) -> Self
+    pub fn new(order: ByteOrder) -> Self
         ensures { result ≡ record { big = is_big order; state = utf16_start } }
     {
         Utf16State {
@@ -231,7 +231,7 @@ impl Utf16State {
     }
 
     /// A decoder with this pending byte and lead surrogate.
-    pub fn in_state(order: Order, byte: Option<u8>, lead: Option<u16>) -> Self
+    pub fn in_state(order: ByteOrder, byte: Option<u8>, lead: Option<u16>) -> Self
         requires { IsCarried lead }
         ensures { result ≡ record { big = is_big order; state = record { byte = byte; lead = lead } } }
     {
@@ -242,7 +242,7 @@ impl Utf16State {
     }
 
     /// The byte order.
-    pub fn order(&self) -> Order
+    pub fn order(&self) -> ByteOrder
         ensures { is_big result ≡ self.now.big }
     {
         self.order

@@ -17,7 +17,7 @@ use Rattle.upload_rules.specs.declared.errors.UploadError.{UploadError}
 use Rattle.upload_rules.specs.declared.errors.UploadError.TheVariants.{Stop, Refused}
 use Rattle.upload_rules.specs.declared.errors.UploadRefusal.{UploadRefusal}
 use Rattle.upload_rules.specs.declared.uploads.Uploads.{Ghosts}
-use Rattle.gateway_files.specs.Changing.{AllAmong, LimitsTo}
+use Rattle.gateway_files.specs.Changing.{AreAllAmong, LimitsToAll}
 use Rattle.gateway_files.specs.Deleting.{all_there, deletion_line, deletion_lines, is_among, left, stages}
 
 -- WHERE NONE HAS THE NUMBER all stay
@@ -81,8 +81,8 @@ pub record Halfway {U B : Type 0} (u : Ghosts U B) (sure : Bool) (w : World) (be
   pub wrote : Appends prefix held out
   pub lines : out ++ deletion_lines store rest ≡ deletion_lines w.store numbers
   pub there : all && all_there store rest ≡ all_there w.store numbers
-  pub passed : AllAmong (stages store rest) (stages w.store numbers)
-  pub limits : sure ≡ true → LimitsTo (u.moment before) (u.moment now) (u.left_only before) (u.left_only now)
+  pub passed : AreAllAmong (stages store rest) (stages w.store numbers)
+  pub limits : sure ≡ true → LimitsToAll (u.moment before) (u.moment now) (u.left_only before) (u.left_only now)
       (stages w.store numbers)
 
 module _ {U B : Type 0} (u : Ghosts U B) (sure : Bool) (w : World) (numbers : List ℕ) where
@@ -104,7 +104,7 @@ module _ {U B : Type 0} (u : Ghosts U B) (sure : Bool) (w : World) (numbers : Li
       (is : Halfway u sure w before now numbers (n ∷ rest) prefix held all)
       (crash : sure ≡ true → Limits (u.moment now) (u.moment next) (u.left_only now) (u.left_only next) is.store
       (deleted_store is.store n)) where
-    pub limits_more : sure ≡ true → LimitsTo (u.moment before) (u.moment next) (u.left_only before) (u.left_only next)
+    pub limits_more : sure ≡ true → LimitsToAll (u.moment before) (u.moment next) (u.left_only before) (u.left_only next)
         (stages w.store numbers)
     limits_more e = record {
       later = omega (arith, (is.limits e).later, (crash e).later);

@@ -8,7 +8,7 @@ use Rattle.spool_catalog.specs.Shows.{ImageShows}
 use Rattle.spool_image.specs.LeftOnly.{AllShow, LeftOnly, LeftOrShows, ShowsOne, SpoolLeft}
 use Rattle.upload_rules.specs.Answers.{Among}
 use Rattle.upload_rules.specs.Store.{Store}
-use Rattle.gateway_files.specs.Changing.{LimitsTo}
+use Rattle.gateway_files.specs.Changing.{LimitsToAll}
 use Rattle.gateway_files.specs.Leaving.{LastsOverOpening}
 
 pub when_ok : {T E : Type 0} (result : Result T E) (P : Type 0) → IsOk result → OnOk result P → P
@@ -46,7 +46,7 @@ module _ {D : Type 0} (disk : Ghosts D) (before opened now : D) (k k' n : ℕ) (
     (counts : CountsNow disk before) (opening : Lasts disk before opened (LeftOrShows disk before n m))
     (shown : AllShow disk opened n m) (first : Among m stores)
     (durable : SpoolLeft disk opened k (Some n) (disk.moment opened) stores)
-    (limits : LimitsTo (disk.moment opened) (disk.moment now) (λ blocks t ms. SpoolLeft disk opened k blocks t ms)
+    (limits : LimitsToAll (disk.moment opened) (disk.moment now) (λ blocks t ms. SpoolLeft disk opened k blocks t ms)
     (λ blocks t ms. SpoolLeft disk now k' blocks t ms) stores) where
   -- what was limited to before it was opened still is
   opened_left : (t : ℕ) (ms : List Store) → t ≤ disk.moment before → Among m ms → LeftOnly disk before n t ms

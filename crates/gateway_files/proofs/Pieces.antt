@@ -5,7 +5,7 @@ use Rattle.std.proofs.lemmas.List.{drop-take, length-append, take-append-drop, t
 use Rattle.std.proofs.KnownBytes.{Appends-trans}
 use Rattle.upload_rules.specs.Answers.{Quiet}
 use Rattle.upload_rules.specs.Store.{Store}
-use Rattle.gateway_files.specs.Changing.{LimitsTo}
+use Rattle.gateway_files.specs.Changing.{LimitsToAll}
 use Rattle.gateway_files.specs.Copies.{AppendsOf, AreOf}
 
 take_on : (n m : ℕ) (xs : List ℕ) → take n xs ++ take m (drop n xs) ≡ take (n + m) xs
@@ -51,7 +51,7 @@ quiet_both m0 m1 m2 l0 l1 l2 a b = record {
 
 -- a call that writes nothing that a text owns leaves the uploads that it found
 pub quiet_limits : (m0 m1 : ℕ) (l0 l1 : Option ℕ → ℕ → List Store → Type 0) (stores : List Store) → Quiet m0 m1 l0 l1
-    → LimitsTo m0 m1 l0 l1 stores
+    → LimitsToAll m0 m1 l0 l1 stores
 quiet_limits m0 m1 l0 l1 stores q = record {
   later = q.later;
   limits = λ blocks t ms le left among. q.limits blocks t ms le left;

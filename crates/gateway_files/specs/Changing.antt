@@ -7,14 +7,14 @@ use Rattle.gateway_files.specs.declared.faults.Fault.{Fault}
 use Rattle.gateway_files.specs.declared.faults.Fault.TheVariants.{Stop, Io}
 
 -- each of the first stores is one of the second
-abbrev pub AllAmong : List Store → List Store → Type 0
-AllAmong stores ms = (m : Store) → Among m stores → Among m ms
+abbrev pub AreAllAmong : List Store → List Store → Type 0
+AreAllAmong stores ms = (m : Store) → Among m stores → Among m ms
 
 -- whatever stores all images since some moment were limited to, they still are, once these stores are among them
-pub record LimitsTo (moment moment' : ℕ) (left_only left_only' : Option ℕ → ℕ → List Store → Type 0)
+pub record LimitsToAll (moment moment' : ℕ) (left_only left_only' : Option ℕ → ℕ → List Store → Type 0)
     (stores : List Store) : Type 0 where
   pub later : moment ≤ moment'
-  pub limits : (blocks : Option ℕ) (t : ℕ) (ms : List Store) → t ≤ moment → left_only blocks t ms → AllAmong stores ms
+  pub limits : (blocks : Option ℕ) (t : ℕ) (ms : List Store) → t ≤ moment → left_only blocks t ms → AreAllAmong stores ms
       → left_only' blocks t ms
 
 -- why uploads aren't changed: for memory, for the writer or for the disk

@@ -4,7 +4,7 @@ use Rattle.spool_disk.specs.Views.{Lasts}
 use Rattle.spool_disk.specs.declared.disk.Disk.{Ghosts}
 use Rattle.spool_image.specs.LeftOnly.{AllShow, LeftOnly, LeftOrShows}
 use Rattle.upload_rules.specs.Store.{Store}
-use Rattle.gateway_files.specs.Changing.{AllAmong}
+use Rattle.gateway_files.specs.Changing.{AreAllAmong}
 
 -- From the disk before to the disk now, by way of the disk once it was opened. From then on a crash at any moment
 -- leaves one of these stores and so many blocks; and from any earlier moment it leaves what it was limited to before,
@@ -16,7 +16,7 @@ pub record LastsOverOpening {D : Type 0} (disk : Ghosts D) (before now : D) (n :
   pub shown : AllShow disk opened n m
   pub later : disk.moment opened ≤ disk.moment now
   pub since : LeftOnly disk now n (disk.moment opened) stores
-  pub always : (t : ℕ) (ms : List Store) → t ≤ disk.moment before → LeftOnly disk before n t ms → AllAmong stores ms
+  pub always : (t : ℕ) (ms : List Store) → t ≤ disk.moment before → LeftOnly disk before n t ms → AreAllAmong stores ms
       → LeftOnly disk now n t ms
 
 -- the same, or it wasn't opened: then a crash leaves what it might have left before, or what shows the same uploads

@@ -10,7 +10,7 @@ ghost use Rattle.upload_rules.specs.World.{World, is_there};
 ghost use Rattle.spool_image.specs.LeftOnly.{AllShow, IsSpool};
 ghost use Rattle.spool_image.specs.Opening.{ReadsBy};
 ghost use Rattle.gateway_files.specs.declared.faults.Fault.{Fault};
-ghost use Rattle.gateway_files.specs.Changing.{IsChangeResult, IsChangeFault, LimitsTo};
+ghost use Rattle.gateway_files.specs.Changing.{IsChangeResult, IsChangeFault, LimitsToAll};
 ghost use Rattle.gateway_files.specs.Deleting.{all_there, deletion_line, deletion_lines, left, stages};
 ghost use Rattle.gateway_files.specs.Leaving.{LeavesOne};
 ghost use Rattle.gateway_files.specs.Listing.{AnswersAs, ListRefusedFor, RefusesListAs};
@@ -118,7 +118,7 @@ pub fn delete_uploads<W: Write, U: Uploads>(
     ensures all { (sure : Bool) (w : World) → U.represents uploads.old sure w
         → IfOk result (λ all. all ≡ all_there w.store numbers.now) }
     ensures crash { (w : World) → U.represents uploads.old true w
-        → LimitsTo (U.moment uploads.old) (U.moment uploads.new) (U.left_only uploads.old) (U.left_only uploads.new)
+        → LimitsToAll (U.moment uploads.old) (U.moment uploads.new) (U.left_only uploads.old) (U.left_only uploads.new)
         (stages w.store numbers.now) }
     ensures refused { IfErr result IsChangeFault }
     ensures counts { Counts (IsErrOf result (Fault.Stop Stop.DiskFault)) (U.failures uploads.old)

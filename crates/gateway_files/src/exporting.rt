@@ -71,7 +71,7 @@ pub fn export_on<D: Disk + Drop, F: Folder, W: Write>(
     folder: &mut F,
     disk: D,
     all: bool,
-) -> (D, Result<Done, Fault>)
+) -> (D, Result<ExportTally, Fault>)
     // The folder holds each text that is to be written, exactly, in a file of its name, where there was none. What it
     // held before stays, also where it is refused.
     ensures files { (n : ℕ) (m : Store) → IsSpool D.Disk disk n m → (files : Files) → F.holds folder.old files
@@ -129,7 +129,7 @@ pub fn export_uploads<W: Write, F: Folder, U: Uploads>(
     folder: &mut F,
     uploads: &mut U,
     all: bool,
-) -> Result<Done, Fault>
+) -> Result<ExportTally, Fault>
     // On any disk, for the uploads that they represent: the folder holds a file of each text that is to be written,
     // where there was none of its name. It has as many bytes as the text, and is the text if that is sure.
     ensures files { (sure : Bool) (w : World) → U.represents uploads.old sure w → IsInOrder w.store → (files : Files)
@@ -164,7 +164,7 @@ pub fn export_uploads<W: Write, F: Folder, U: Uploads>(
 
 /// What an export came to.
 #[derive(Clone, Copy, Debug, PartialEq, Eq, Drop)]
-pub struct Done {
+pub struct ExportTally {
     /// How many texts were written.
     pub exported: u64,
     /// A file was there.
@@ -179,7 +179,7 @@ fn do_jobs<W: Write, F: Folder, U: Uploads>(
     folder: &mut F,
     uploads: &mut U,
     jobs: &[Job],
-) -> Result<Done, Fault>
+) -> Result<ExportTally, Fault>
     ensures files { (sure : Bool) (w : World) → U.represents uploads.old sure w → (files : Files)
         → F.holds folder.old files
         → OnOk result (ExportsAs sure (F.holds folder.new) w.store (map job_shown jobs.now) files) }
@@ -199,7 +199,7 @@ fn do_jobs<W: Write, F: Folder, U: Uploads>(
         (U.failures uploads.new) }
     ensures reads { MoreReads (U.reads uploads.old) (U.reads uploads.new) }
 {
-    let mut done = Done {
+    let mut done = ExportTally {
         exported: 0,
         there: false,
         differs: false,
@@ -211,7 +211,7 @@ fn do_jobs<W: Write, F: Folder, U: Uploads>(
     Ok(done)
 }
 
-impl Done {
+impl ExportTally {
     // With one upload more.
     fn and(self, outcome: Outcome) -> Self
         ensures { result.differs ≡ (self.differs || is_other outcome.entry) }
@@ -220,7 +220,7 @@ impl Done {
             Outcome::Exported(_) => self.exported.saturating_add(1),
             _ => self.exported,
         };
-        Done {
+        ExportTally {
             exported,
             there: self.there || matches!(outcome, Outcome::There(_) | Outcome::Differs(..)),
             differs: self.differs || matches!(outcome, Outcome::Differs(..)),
@@ -388,7 +388,7 @@ fn report_outcome<W: Write>(writer: &mut W, number: u64, outcome: Outcome) -> io
 }
 
 // Prints how many texts were written, of how many uploads, and whether a file has another length than its text.
-fn report_done<W: Write>(writer: &mut W, done: Done, uploads: usize) -> io::Result<()>
+fn report_done<W: Write>(writer: &mut W, done: ExportTally, uploads: usize) -> io::Result<()>
     ensures { OnOk result (Appends (W.contents writer.old) (W.contents writer.new)
         (summary_line done.exported uploads done.differs)) }
 {

@@ -25,7 +25,7 @@ mod upgrading;
 
 pub use copies::copy_text;
 pub use deleting::{delete_file, delete_on, delete_uploads};
-pub use exporting::{Done, export_file, export_on, export_uploads};
+pub use exporting::{ExportTally, export_file, export_on, export_uploads};
 pub use failures::{Advice, Failure, Task, TextAdvice, ended};
 pub use faults::Fault;
 pub use folders::{FileFolder, Folder};

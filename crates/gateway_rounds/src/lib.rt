@@ -12,4 +12,4 @@ pub use faults::RunFault;
 pub use laws::runs_join;
 pub use life::{endure, live_through};
 pub use round::{End, Round, Run, Work};
-pub use streams::Written;
+pub use streams::WrittenBytes;

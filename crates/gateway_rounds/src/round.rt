@@ -5,7 +5,7 @@ ghost use Rattle.gateway_engine.specs.RanOn.{AllShowOne};
 ghost use Rattle.gateway_rounds.specs.Rounds.{IsEnd, IsRound, IsRun, IsUpgrade, IsWork};
 
 use crate::faults::RunFault;
-use crate::streams::{ScriptBytes, Written};
+use crate::streams::{ScriptBytes, WrittenBytes};
 use gateway_engine::run;
 use spool_disk::CrashDisk;
 use spool_image::{Spool, UpgradeError, upgrade};
@@ -44,7 +44,7 @@ pub struct Run {
     /// The script.
     pub script: Vec<u8>,
     /// What the run writes is put after what is here. The run ends with `Script(Io)` where this is refused to grow.
-    pub written: Written,
+    pub written: WrittenBytes,
     /// Why the run ended before its script did.
     pub fault: Option<RunFault>,
 }
@@ -59,7 +59,7 @@ impl Run {
     {
         Run {
             script,
-            written: Written {
+            written: WrittenBytes {
                 bytes: Vec::new(alloc),
                 refusals: 0,
             },

@@ -39,14 +39,14 @@ impl CountedRead for ScriptBytes<'_> {
 
 /// What a run wrote, in memory. A write is refused where the bytes are refused to grow, and counted.
 #[derive(Drop)]
-pub struct Written {
+pub struct WrittenBytes {
     /// What was written.
     pub bytes: Vec<u8>,
     /// How many times the bytes were refused to grow, or 2^64 - 1 where it was more often.
     pub refusals: u64,
 }
 
-impl CountedWrite for Written {
+impl CountedWrite for WrittenBytes {
     ghost use Rattle.std.specs.Prelude.{Some};
 
     ghost contents = { λ w. Some w.bytes.items };

@@ -1,7 +1,7 @@
 -- What becomes of clients, turn by turn.
 use Rattle.std.proofs.Common.{◌≡◌, ◌<◌, ◌≤◌, ℕ, ◌+◌, ◌-◌, ◌^◌, List, [], ◌∷◌, length, Bool, true, false}
 use Rattle.std.proofs.Common.{refl, ap, ◌∙◌, arith}
-use Rattle.gateway_serve.specs.Acceptors.{LetsIn, LetsInBy, count_given, one_if}
+use Rattle.gateway_serve.specs.Acceptors.{LetsIn, LetsInBy, count_given, one_when}
 use Rattle.gateway_serve.specs.declared.doors.Clients.{Clients}
 use Rattle.gateway_serve.specs.declared.doors.Door.{Door}
 
@@ -20,7 +20,7 @@ none_asked before passes none = record {
 
 -- the listener was asked, and none waited
 given_one : (gave : Bool) (since : List Bool) (n : ℕ) → count_given since ≡ n
-    → count_given (gave ∷ since) ≡ n + one_if gave
+    → count_given (gave ∷ since) ≡ n + one_when gave
 unfolding count_given
 given_one gave since n e = grind arith
 
@@ -33,8 +33,8 @@ pub asked_one : (before answers answers' : List Bool) (turns : ℕ) (clients : C
     (passes passes' : ℕ) → answers' ≡ gave ∷ answers → waits ≡ false → waits' ≡ gave → passes' ≤ 31
     → LetsIn before answers turns clients waits passes → LetsIn before answers' (turns + 1) clients waits' passes'
 asked_one before answers answers' turns clients waits waits' gave passes passes' e out is few l =
-    let all : count_given l.since ≡ clients.opened + clients.refused + one_if false =
-    l.each ∙ ap (λ b. clients.opened + clients.refused + one_if b) out in
+    let all : count_given l.since ≡ clients.opened + clients.refused + one_when false =
+    l.each ∙ ap (λ b. clients.opened + clients.refused + one_when b) out in
     record {
       since = gave ∷ l.since;
       asked = e ∙ ap (λ xs. gave ∷ xs) l.asked;

@@ -15,12 +15,12 @@ abbrev pub passes_of : Pace → ℕ
 passes_of p = p.left
 
 -- how many of these answers gave a client
-abbrev pub one_if : Bool → ℕ
-one_if b = if b then 1 else 0
+abbrev pub one_when : Bool → ℕ
+one_when b = if b then 1 else 0
 
 unfoldable pub count_given : List Bool → ℕ
 count_given [] = 0
-count_given (gave ∷ answers) = one_if gave + count_given answers
+count_given (gave ∷ answers) = one_when gave + count_given answers
 
 -- WHAT BECOMES OF CLIENTS in so many turns, of a listener that had answered this before: each that it gave has a
 -- connection, or was refused one, or waits for a place. It is asked in at least every 32nd turn, but for those in which
@@ -29,7 +29,7 @@ pub record LetsIn (before answers : List Bool) (turns : ℕ) (clients : Clients)
   where
     pub since : List Bool
     pub asked : answers ≡ since ++ before
-    pub each : count_given since ≡ clients.opened + clients.refused + one_if waits
+    pub each : count_given since ≡ clients.opened + clients.refused + one_when waits
     pub most : length since + clients.waits ≤ turns
     pub often : turns + passes ≤ 32 * length since + clients.waits
     pub none : count_given since ≡ 0 → clients.waits ≡ 0

@@ -21,17 +21,17 @@ IsAllBut most prefix all = (rest : List ℕ) × (all ≡ prefix ++ rest) × (len
 
 -- THE REASONS for which a socket ends only once all is written: the session closed its connection, or that was late
 -- between requests or in one
-abbrev pub IsQuiet : At → Type 0
-IsQuiet Between = Unit {0}
-IsQuiet Head = Unit {0}
-IsQuiet Body = Unit {0}
-IsQuiet Reply = ⊥
+abbrev pub IsBeforeReply : At → Type 0
+IsBeforeReply Between = Unit {0}
+IsBeforeReply Head = Unit {0}
+IsBeforeReply Body = Unit {0}
+IsBeforeReply Reply = ⊥
 
 abbrev pub IsQuietly : Gone → Type 0
 IsQuietly Why.Ended = ⊥
 IsQuietly (Why.Failed kind) = ⊥
 IsQuietly Why.Stuck = ⊥
-IsQuietly (Why.Late stay) = IsQuiet stay.at
+IsQuietly (Why.Late stay) = IsBeforeReply stay.at
 
 abbrev pub IsWholeReply : Reason → Type 0
 IsWholeReply Closed = Unit {0}

@@ -2,7 +2,7 @@
 ghost use Rattle.std.specs.Prelude.{◌≡◌, ◌↔◌, ◌<◌, ◌≤◌, ◌+◌, ◌^◌, ℕ, List, [], Bool, is_some, length};
 ghost use Rattle.std.specs.Prelude.{IfSome, IsErr, IsFalse, IsNone, IsTrue, None};
 ghost use Rattle.upload_rules.specs.Answers.{Counts};
-ghost use Rattle.gateway_serve.specs.Acceptors.{HasServed, LetsInBy, one_if};
+ghost use Rattle.gateway_serve.specs.Acceptors.{HasServed, LetsInBy, one_when};
 ghost use Rattle.gateway_serve.specs.Joined.{StaysJoined, AllEnded, LetsGo, IsFreeAt, SamePlaces, ended_of, places_of};
 ghost use Rattle.gateway_serve.specs.Longest.{IsLongest};
 ghost use Rattle.gateway_serve.specs.Reasons.{AllReasoned, StayReasoned, EndsReasoned, IsLeftReasoned};
@@ -214,8 +214,8 @@ impl<S: Read + Write + Drop> Server<S> {
         ensures free { IfSome result (λ next. IsFreeAt (places_of self.new) next.0) }
         ensures same { SamePlaces (places_of self.old) (places_of self.new) }
         ensures rest { RestStays self.old self.new }
-        ensures waits { one_if (is_some (door_of self.old).waiting)
-            ≡ one_if (is_some result) + one_if (is_some (door_of self.new).waiting) }
+        ensures waits { one_when (is_some (door_of self.old).waiting)
+            ≡ one_when (is_some result) + one_when (is_some (door_of self.new).waiting) }
         ensures takes { IsTrue (is_some (door_of self.new).waiting)
             → NoneIsFree (places_of self.new) × HasNoPlace self.old }
     {

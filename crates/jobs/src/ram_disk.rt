@@ -4,7 +4,7 @@ ghost use Rattle.spool_disk.specs.Disk.{IsImage};
 use crate::faults::Fault;
 use common::Trace;
 use enc_index::IndexSet;
-use spool_disk::{Disk, DiskFault, Given};
+use spool_disk::{Disk, DiskFault, GivenRead};
 use spool_image::{format, pages_of};
 use std::alloc::{AllocError, Global};
 
@@ -18,7 +18,7 @@ const OPEN: u8 = 0xA5;
 pub(crate) struct RamDisk {
     bytes: Vec<u8>,
     // What its reads gave, the latest first.
-    reads: Trace<Given>,
+    reads: Trace<GivenRead>,
 }
 
 impl RamDisk {
@@ -51,9 +51,9 @@ impl RamDisk {
 }
 
 impl Disk for RamDisk {
-    ghost use Rattle.jobs.specs.Ram.{size_of, reads_of};
+    ghost use Rattle.jobs.specs.Ram.{ram_size, ram_reads};
 
-    ghost size = { size_of };
+    ghost size = { ram_size };
 
     // It isn't claimed to be honest.
     ghost honest = { λ d. ⊥ };
@@ -68,7 +68,7 @@ impl Disk for RamDisk {
 
     ghost failures = { λ d. 0 };
 
-    ghost reads = { reads_of };
+    ghost reads = { ram_reads };
 
     ghost fails_by = { λ failed old new. failed → ⊥ };
 
@@ -84,7 +84,7 @@ impl Disk for RamDisk {
         let from = at as usize;
         let end = from + buf.len();
         buf.copy_from_slice(&self.bytes[from..end]);
-        self.reads = self.reads.and(&Given::new(at, buf));
+        self.reads = self.reads.and(&GivenRead::new(at, buf));
         Ok(())
     }
 

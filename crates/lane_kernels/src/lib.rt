@@ -14,7 +14,7 @@ mod units;
 pub use finder::AsciiLanes;
 pub use laws::paired_units_decode;
 pub use narrowing::narrow;
-pub use order::Order;
+pub use order::ByteOrder;
 pub use pairing::{Pairing, Step};
 pub use prefix::{
     ascii_chunk, ascii_lanes, ascii_prefix, plain_chunk_2022, plain_prefix_2022, range_prefix,

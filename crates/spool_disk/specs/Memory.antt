@@ -1,6 +1,6 @@
 -- The parts of a disk in memory.
 use Rattle.std.specs.Prelude.{◌≡◌, ℕ, List, length, get_or, true, false}
-use Rattle.common.specs.declared.given.Given.{Given}
+use Rattle.common.specs.declared.given.GivenRead.{GivenRead}
 use Rattle.spool_disk.specs.declared.memory.MemoryDisk.{MemoryDisk}
 
 -- The number of its bytes.
@@ -20,5 +20,5 @@ abbrev pub unsynced_of : MemoryDisk → ℕ → Type 0
 unsynced_of disk p = get_or disk.unsynced.items p false ≡ true
 
 -- What its reads gave, the latest first.
-abbrev pub reads_of : MemoryDisk → List Given
+abbrev pub reads_of : MemoryDisk → List GivenRead
 reads_of disk = disk.reads.items

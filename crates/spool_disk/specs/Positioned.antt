@@ -5,7 +5,7 @@ use Rattle.spool_disk.specs.declared.positioned.FileCall.{FileCall}
 use Rattle.spool_disk.specs.declared.positioned.Made.{Made}
 use Rattle.spool_disk.specs.declared.positioned.FileCall.TheVariants.{Open, Lock, Len, ReadAt, SetLen, SyncAll}
 use Rattle.spool_disk.specs.declared.positioned.FileCall.TheVariants.{SyncFolder}
-use Rattle.common.specs.declared.given.Given.{Given}
+use Rattle.common.specs.declared.given.GivenRead.{GivenRead}
 use Rattle.spool_disk.specs.Given.{given}
 
 -- A call that was made, the bytes that it read or wrote, and whether it succeeded.
@@ -29,11 +29,11 @@ abbrev pub calls_to_make : (found len : ℕ) → List Made
 calls_to_make found len = made SyncFolder [] true ∷ lengthened found len ++ opened true
 
 -- What a call with these bytes gave: the bytes if it is a read that succeeded, and otherwise nothing.
-abbrev pub read_by : FileCall → List ℕ → Bool → List Given
+abbrev pub read_by : FileCall → List ℕ → Bool → List GivenRead
 read_by (ReadAt at) bs true = given at bs ∷ []
 read_by _ bs done = []
 
 -- What the successful reads among these calls gave.
-abbrev pub reads_in : List Made → List Given
+abbrev pub reads_in : List Made → List GivenRead
 reads_in [] = []
 reads_in (m ∷ calls) = read_by m.call m.bytes.items m.done ++ reads_in calls

@@ -7,7 +7,7 @@ use common::DiskFault;
 
 /// A disk of bytes. Every call may fail; a call that failed changes nothing outside its range.
 pub trait Disk {
-    ghost use Rattle.common.specs.declared.given.Given.{Given};
+    ghost use Rattle.common.specs.declared.given.GivenRead.{GivenRead};
 
     /// The number of bytes. No call changes it.
     ghost size: { Self → ℕ };
@@ -31,7 +31,7 @@ pub trait Disk {
     ghost failures: { Self → ℕ };
 
     /// What its successful reads gave, the latest first.
-    ghost reads: { Self → List Given };
+    ghost reads: { Self → List GivenRead };
 
     /// Which calls fail, as far as this kind of disk specifies it: whether the call failed, the disk before it and
     /// after it.

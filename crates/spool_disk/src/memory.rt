@@ -3,7 +3,7 @@ ghost use Rattle.std.specs.Prelude.{◌≡◌, ◌≤◌, ◌<◌, ◌+◌, ℕ,
 ghost use Rattle.spool_disk.specs.Crash.{left_by};
 ghost use Rattle.spool_disk.specs.Disk.{In, IsImage};
 
-use crate::{Crash, CrashDisk, Disk, DiskFault, Given};
+use crate::{Crash, CrashDisk, Disk, DiskFault, GivenRead};
 use common::Trace;
 use std::alloc::{AllocError, Global};
 
@@ -15,7 +15,7 @@ pub struct MemoryDisk {
     // The places that were written since the last sync.
     unsynced: Vec<bool>,
     // What its reads gave, the latest first.
-    reads: Trace<Given>,
+    reads: Trace<GivenRead>,
     ghost same: { length synced.items ≡ length written.items },
     ghost marked: { length unsynced.items ≡ length written.items },
     ghost agree: { (p : ℕ) → (get_or unsynced.items p false ≡ true → ⊥)
@@ -160,7 +160,7 @@ impl Disk for MemoryDisk {
         let from = at as usize;
         let end = from + buf.len();
         buf.copy_from_slice(&self.written[from..end]);
-        self.reads = self.reads.and(&Given::new(at, buf));
+        self.reads = self.reads.and(&GivenRead::new(at, buf));
         Ok(())
     }
 

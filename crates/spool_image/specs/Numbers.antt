@@ -9,10 +9,10 @@ use Rattle.upload_rules.specs.Store.{Upload, upload_of}
 use Rattle.upload_rules.specs.World.{World}
 
 -- The number of each upload is below the next one.
-pub upload_below : {D : Type 0} {disk : Ghosts D} {sure : Bool} (d : D) (h : Holding)
+pub spool_upload_below : {D : Type 0} {disk : Ghosts D} {sure : Bool} (d : D) (h : Holding)
     (drafts : List (Option SpoolDraft)) (w : World) (number : ℕ) (u : Upload) → StandsFor sure disk d h drafts w
     → upload_of w.store number ≡ Some u → number < w.store.next
-upload_below d h drafts w number u represents there =
+spool_upload_below d h drafts w number u represents there =
     let shows = represents.stored.shows in
     let slot = shows.all number u there in
     let less = (shows.valid.records slot.slot slot.used slot.there).below in

@@ -168,7 +168,7 @@ impl<D: Disk> Uploads for Spool<D> {
     ghost use Rattle.spool_image.specs.LeftOnly.{SpoolLeft};
     ghost use Rattle.spool_image.specs.Spool.{SpoolRepresents};
     ghost use Rattle.spool_image.specs.Durable.{durable_left};
-    ghost use Rattle.spool_image.specs.Numbers.{upload_below};
+    ghost use Rattle.spool_image.specs.Numbers.{spool_upload_below};
 
     type Draft = SpoolAppend;
 
@@ -187,7 +187,7 @@ impl<D: Disk> Uploads for Spool<D> {
     ghost reads = { λ s. D.reads s.disk };
 
     ghost below = { λ s sure w number u represents there.
-        upload_below s.disk s.catalog s.drafts.items w number u represents there };
+        spool_upload_below s.disk s.catalog s.drafts.items w number u represents there };
 
     ghost durable = { λ s w ms represents among.
         durable_left s.disk s.catalog s.drafts.items w ms s.room (D.only_now s.disk) represents among };

@@ -8,7 +8,7 @@ use Rattle.std.proofs.lemmas.Bool.{cases_lt}
 use Rattle.std.proofs.Math.Seq.{take-append_seam}
 use Rattle.spool_disk.specs.Disk.{span}
 use Rattle.spool_disk.specs.Given.{ReadsGave, given}
-use Rattle.common.specs.declared.given.Given.{Given}
+use Rattle.common.specs.declared.given.GivenRead.{GivenRead}
 use Rattle.spool_disk.specs.declared.disk.Disk.{Ghosts}
 use Rattle.spool_disk.proofs.Gave.{both, first, grew_none, grew_on, none, of_one, one, rest}
 use Rattle.spool_disk.proofs.Firm.{lasts_on}
@@ -42,7 +42,7 @@ reads_on first second = record {
 }
 
 -- a read, which may fail
-module _ {E : Type 0} {old new : List Given} (at : ℕ) (bs : List ℕ) where
+module _ {E : Type 0} {old new : List GivenRead} (at : ℕ) (bs : List ℕ) where
   pub read_gave : (bytes : ℕ → ℕ) (r : Result (Unit {0}) E) → OnOk r (new ≡ given at bs ∷ old) → OnErr r (new ≡ old)
       → (IsOk r → span bytes at (length bs) ≡ bs) → ReadsGave bytes old new
   read_gave bytes (Ok done) one_more none_more is = of_one one_more (is refl)

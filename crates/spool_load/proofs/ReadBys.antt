@@ -3,7 +3,7 @@ use Rattle.std.proofs.Common.{◌≡◌, ℕ, List, Option, Some, None, Result, 
 use Rattle.std.proofs.Common.{MatchResult, refl, subst, sym}
 use Rattle.std.specs.Option.{ok_or}
 use Rattle.spool_disk.specs.Given.{ReadsGave, MoreReads}
-use Rattle.common.specs.declared.given.Given.{Given}
+use Rattle.common.specs.declared.given.GivenRead.{GivenRead}
 use Rattle.spool_disk.proofs.Gave.{first, grew_none, grew_on, rest}
 use Rattle.spool_pages.specs.View.{View, Encodes, state_place}
 use Rattle.spool_catalog.specs.Holding.{Holding}
@@ -23,7 +23,7 @@ use Rattle.spool_load.proofs.Refused.{found_reason, read_reason, encodes_one, un
 
 -- THE TWO PARTS OF THE READS
 
-module _ {So : (before after : ℕ → ℕ) → Type 0} {a b : List Given} (grew : MoreReads a b) where
+module _ {So : (before after : ℕ → ℕ) → Type 0} {a b : List GivenRead} (grew : MoreReads a b) where
   -- all reads belong to the first part
   pub by_first : ((before after : ℕ → ℕ) → ReadsGave before a b → So before after) → ReadsBy a b So
   by_first so = record {
@@ -33,12 +33,12 @@ module _ {So : (before after : ℕ → ℕ) → Type 0} {a b : List Given} (grew
     so = λ before after early late. so before after early;
   }
 
-  pub by_both : {c : List Given} → MoreReads b c
+  pub by_both : {c : List GivenRead} → MoreReads b c
       → ((before after : ℕ → ℕ) → ReadsGave before a b → ReadsGave after b c → So before after) → ReadsBy a c So
   by_both then so = record { recovered = b; first = grew; last = then; so = so }
 
   -- more reads before, in the first part
-  pub by_before : {c : List Given} {So' : (before after : ℕ → ℕ) → Type 0} → ReadsBy b c So'
+  pub by_before : {c : List GivenRead} {So' : (before after : ℕ → ℕ) → Type 0} → ReadsBy b c So'
       → ((before after : ℕ → ℕ) → ReadsGave before a b → So' before after → So before after) → ReadsBy a c So
   by_before is more = record {
     recovered = is.recovered;
@@ -50,7 +50,7 @@ module _ {So : (before after : ℕ → ℕ) → Type 0} {a b : List Given} (grew
   }
 
 -- more reads afterwards, in the second part
-pub by_after : {So So' : (before after : ℕ → ℕ) → Type 0} {a b c : List Given} → ReadsBy a b So' → MoreReads b c
+pub by_after : {So So' : (before after : ℕ → ℕ) → Type 0} {a b c : List GivenRead} → ReadsBy a b So' → MoreReads b c
     → ((before after : ℕ → ℕ) → So' before after → ReadsGave after b c → So before after) → ReadsBy a c So
 by_after is grew more = record {
   recovered = is.recovered;

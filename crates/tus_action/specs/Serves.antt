@@ -5,6 +5,7 @@ use Rattle.upload_rules.specs.Store.{Store, Upload, upload_of, text_of, find}
 use Rattle.upload_rules.specs.World.{Patch, World, is_there}
 use Rattle.upload_rules.specs.declared.uploads.Uploads.{Ghosts}
 use Rattle.tus_request.specs.Requests.{Action, Create}
+use Rattle.upload_rules.specs.Reading.{AreOf}
 use Rattle.upload_rules.specs.Records.{IsValidNew, IsOffered}
 use Rattle.upload_rules.specs.declared.errors.UploadError.{UploadError}
 use Rattle.upload_rules.specs.declared.errors.UploadError.TheVariants as errors
@@ -65,11 +66,6 @@ abbrev pub closes_in : {B : Type 0} → code.Done B → Bool
 closes_in (done.Replied closes) = closes
 closes_in (done.Opened b) = false
 closes_in (done.Giving g) = false
-
--- As many bytes as the text has, and these very bytes if that is sure.
-pub record AreOf (sure : Bool) (piece text : List ℕ) : Type 0 where
-  pub size : length piece ≡ length text
-  pub same : sure ≡ true → piece ≡ text
 
 -- The output grew by a reply and bytes of a text.
 pub record AppendsText (sure : Bool) (old new bytes text : List ℕ) : Type 0 where

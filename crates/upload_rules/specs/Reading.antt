@@ -19,3 +19,8 @@ text_at m (Some u) = text_of m.indexes u
 pub record IsReadOf (sure : Bool) (text : List ℕ) (at n : ℕ) (old new : List ℕ) : Type 0 where
   pub count : n ≡ min (length text - at) (length old)
   pub read : sure ≡ true → IsRead text at n old new
+
+-- As many bytes as the text has, and these very bytes if that is sure.
+pub record AreOf (sure : Bool) (bytes text : List ℕ) : Type 0 where
+  pub size : length bytes ≡ length text
+  pub same : sure ≡ true → bytes ≡ text

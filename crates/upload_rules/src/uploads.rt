@@ -18,7 +18,7 @@ use enc_index::IndexSet;
 
 /// A store of uploads, with the appends that are under way.
 pub trait Uploads {
-    ghost use Rattle.common.specs.declared.given.Given.{Given};
+    ghost use Rattle.common.specs.declared.given.GivenRead.{GivenRead};
 
     /// An append under way. It has to be spent, by `commit` or `drop_open`.
     type Draft;
@@ -43,7 +43,7 @@ pub trait Uploads {
     ghost failures: { Self → ℕ };
 
     /// What the successful reads of its disk gave, the latest first.
-    ghost reads: { Self → List Given };
+    ghost reads: { Self → List GivenRead };
 
     /// The record of the upload with this number.
     fn record(&self, number: u64) -> Option<&Record>
