@@ -40,7 +40,6 @@ digit_more n left place bytes rest l m ten small e =
     ∙ append_assoc (decimal (left / 10)) ((48 + left % 10) ∷ []) (drop place bytes)
     ∙ ap (λ z. decimal (left / 10) ++ z) (sym (before bytes place (48 + left % 10) l m))
 
--- the last digit
 pub digit_last : (n left place : ℕ) (bytes rest : List ℕ) → 1 ≤ place → place ≤ length bytes → left < 10
     → decimal n ++ rest ≡ decimal left ++ drop place bytes →
     drop (place - 1) (set bytes (place - 1) (48 + left)) ≡ decimal n ++ rest

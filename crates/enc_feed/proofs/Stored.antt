@@ -87,7 +87,6 @@ pub took_on : (old mid new a b c : List ℕ) → BatchTook old a mid → BatchTo
 took_on old mid new a b c p q e =
     subst (λ z. BatchTook old z new) e ((batch_sink {E = ℕ}).both old mid new a b p q)
 
--- a pair more
 pub pairs_more : (P : ℕ → ℕ → ℕ → Type 0) (bytes given : List ℕ) (a b c : ℕ) → ArePairs P bytes given → P a b c
     → ArePairs P (bytes ++ a ∷ b ∷ []) (given ++ c ∷ [])
 pairs_more P [] [] a b c all p = (p, tt)

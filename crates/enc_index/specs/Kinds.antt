@@ -23,7 +23,6 @@ index_of x Jis0212 = x.jis0212
 index_of x Katakana = x.katakana
 index_of x (Single e) = single_of x e
 
--- An index and its kind.
 pub record KindedIndex : Type 0 where
   pub kind : Kind
   pub pairs : Index

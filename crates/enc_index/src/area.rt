@@ -59,7 +59,6 @@ fn entry_at(set: &IndexSet, entry: usize) -> u32
     entry_of(set.nth_table(file), pointer)
 }
 
-/// A byte of the area.
 #[tactic(auto, unfolding(crate::specs::Area::area_byte))]
 fn area_byte(set: &IndexSet, place: usize) -> u8
     ensures { result ≡ area_byte set.now place }

@@ -17,7 +17,7 @@ module _ {S : Type 0} (h : Handler S) where
     | _ ↦ let r = all_bytes (quick h) t.state t.restored in text_then (points_of t.answer ++ r.text) (go r.state)
   ]
 
-  -- the case of `Ends` for this answer
+  -- the case of `EndsWithin` for this answer
   abbrev EndsFrom : ℕ → HandlerStep S → Answer → Type 0
   EndsFrom d t a = elim a as (λ _. Type 0) [
     | Finished ↦ Unit {0}

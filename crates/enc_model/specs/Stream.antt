@@ -6,7 +6,6 @@ use Rattle.enc_model.specs.declared.Answer.TheVariants.{Point, Error, Nothing, F
 use Rattle.enc_model.specs.declared.Restored.{Restored}
 use Rattle.enc_model.specs.declared.Restored.TheVariants.{Zero, One, Two}
 
--- The restored bytes.
 abbrev pub restored_bytes : Restored → List ℕ
 restored_bytes Zero = []
 restored_bytes (One a) = a ∷ []

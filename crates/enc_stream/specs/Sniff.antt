@@ -8,7 +8,6 @@ use Rattle.enc_stream.specs.declared.sniff.Held.TheVariants.{Nothing, Ef, EfBb, 
 use Rattle.enc_stream.specs.declared.sniff.Sniffed.{Sniffed}
 use Rattle.enc_stream.specs.declared.sniff.Sniffed.TheVariants.{Still, Bom, Plain}
 
--- The held bytes.
 abbrev pub held_bytes : Held → List ℕ
 held_bytes Nothing = []
 held_bytes Ef = 0xEF ∷ []

@@ -30,7 +30,6 @@ use Rattle.enc_stream.specs.TranscoderState.{TranscoderState, IsOutput}
 
 -- Numbers.
 
--- The number of the encoding.
 abbrev pub encoding_number : Encoding → ℕ
 encoding_number Utf8 = 0
 encoding_number Utf16Be = 1
@@ -54,7 +53,6 @@ encoding_number Windows1256 = 18
 encoding_number Windows1257 = 19
 encoding_number Windows1258 = 20
 
--- The number of the mode.
 abbrev pub mode_number : Mode → ℕ
 mode_number Html = 0
 mode_number Fatal = 1
@@ -155,7 +153,6 @@ state_bytes s =
 abbrev pub IsInEffect : Encoding → Encoding → Type 0
 IsInEffect from e = (e ≡ from) ⊎ ((e ≡ Utf8) ⊎ ((e ≡ Utf16Be) ⊎ (e ≡ Utf16Le)))
 
--- A single-byte encoding.
 abbrev pub IsSingleByteEncoding : Encoding → Type 0
 IsSingleByteEncoding Utf8 = ⊥
 IsSingleByteEncoding Utf16Be = ⊥

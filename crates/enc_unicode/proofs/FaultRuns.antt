@@ -39,7 +39,6 @@ none_read bytes batch = feed_begins {E = Full} BatchTook BatchRefused batch_sink
 pub none_state : (bytes : List ℕ) → utf8_start ≡ (steps utf8 false utf8_start (take 0 bytes)).state
 none_state bytes = ap (λ (run : DecoderRun Utf8). run.state) (sym (steps_none utf8 utf8_start))
 
--- a fault more
 pub fault_more : (bytes : List ℕ) (at : ℕ) (old now new : List ℕ) → at < length bytes
     → begins_none (get_or bytes at 0) ≡ true → utf8_start ≡ (steps utf8 false utf8_start (take at bytes)).state
     → BatchTook old (steps utf8 false utf8_start (take at bytes)).text now → BatchTook now (0xFFFD ∷ []) new →

@@ -63,7 +63,6 @@ pub text_goes_on : (bs : List ℕ) (at n : ℕ) → IsUtf8 (take at bs) → IsUt
     → IsUtf8 (take (at + n) bs)
 text_goes_on bs at n t u = subst IsUtf8 (sym (take-add at n bs)) (IsUtf8-append (take at bs) (take n (drop at bs)) t u)
 
--- the prefix of a prefix
 pub prefix_of_prefix : (bs window text : List ℕ) → window ≡ take (length window) bs → text ≡ take (length text) window →
     (length text ≤ length bs) × (text ≡ take (length text) bs)
 prefix_of_prefix bs window text w t =

@@ -35,7 +35,6 @@ incomplete_one entry = unless_complete (is_complete entry.1) entry.0
 abbrev pub incomplete_of : Store → List ℕ
 incomplete_of m = flat_map incomplete_one m.uploads
 
--- by a record
 abbrev pub incomplete_record : Record → List ℕ
 incomplete_record r = unless_complete (is_length r.declared r.accepted) r.number
 

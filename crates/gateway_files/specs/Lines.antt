@@ -52,7 +52,6 @@ upload_line long x entry =
 abbrev pub list_lines : Bool → Store → List ℕ
 list_lines long m = flat_map (upload_line long m.indexes) m.uploads
 
--- the line of a record
 abbrev pub record_line : Bool → Record → List ℕ
 record_line long r =
     line r.number r.accepted r.declared r.text_len r.from r.to r.mode (to_show long r.metadata.bytes.items)

@@ -23,7 +23,6 @@ abbrev pub unit_fault : Option ℕ → ℕ → Bool
 unit_fault None unit = is_trail unit
 unit_fault (Some lead) unit = not (is_trail unit)
 
--- The scalar of a pair.
 abbrev pub scalar_of_pair : Option ℕ → ℕ → Option ℕ
 scalar_of_pair None trail = None
 scalar_of_pair (Some lead) trail = Some (0x10000 + (lead - 0xD800) * 0x400 + (trail - 0xDC00))

@@ -7,7 +7,6 @@ use Rattle.spool_disk.specs.declared.file.PositionedDisk.{PositionedDisk}
 use Rattle.spool_disk.specs.declared.system_file.SystemFile.{SystemFile}
 
 module _ {F : Type 0} where
-  -- The file.
   abbrev pub file_of : PositionedDisk F → F
   file_of disk = disk.file
 

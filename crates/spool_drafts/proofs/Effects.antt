@@ -74,7 +74,6 @@ module _ {D : Type 0} {disk : Ghosts D} {j : ℕ} where
   pub only_none : (own : List ℕ) (d : D) → OnlyWrites disk j own d d
   only_none own d = only (writes_none _ _) record { later = omega arith; nothing_else = λ t image le left. inl left }
 
-  -- only read
   pub only_read : (own : List ℕ) {old new : D}
       → Preserves (disk.current old) (disk.current new) (disk.unsynced old) (disk.unsynced new)
       → Lasts disk old new (IsImage (disk.current old) (disk.unsynced old)) → OnlyWrites disk j own old new

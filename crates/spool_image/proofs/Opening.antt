@@ -46,7 +46,6 @@ opened_reads catalog opened = record {
   so = tt;
 }
 
--- more of the view
 pub view_more : {size : ℕ} {before after : ℕ → ℕ} {So So' : View → Type 0} → ((v : View) → So v → So' v)
     → ReadsView size before after So → ReadsView size before after So'
 view_more more is =

@@ -12,7 +12,6 @@ pub use Rattle.spool_image.specs.Opening.{OpensAs}
 use Rattle.spool_kept.specs.Drafting.{StandsFor}
 use Rattle.upload_rules.specs.World.{World}
 
--- The disk.
 abbrev pub disk_of : {D : Type 0} {disk : Ghosts D} → Spool D disk → D
 disk_of s = s.disk
 

@@ -37,7 +37,6 @@ use upload_rules::{Record, UploadError, UploadRefusal, is_length, is_new, length
 /// What a commit finds of its draft's upload.
 #[derive(Clone, Copy)]
 struct Found {
-    // Its slot.
     slot: u32,
     // Whether the draft gives it its length.
     declares: bool,

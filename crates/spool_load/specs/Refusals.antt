@@ -32,7 +32,6 @@ pub record EncodesKnownVersion (bytes : ℕ → ℕ) (place : ℕ) : Type 0 wher
 abbrev pub NamesVersion : ℕ → (ℕ → ℕ) → Known → Type 0
 NamesVersion n bytes version = EncodesVersion bytes (state_place n) version
 
--- It has a known version.
 abbrev pub HasKnownVersion : ℕ → (ℕ → ℕ) → Type 0
 HasKnownVersion n bytes = EncodesKnownVersion bytes (state_place n)
 

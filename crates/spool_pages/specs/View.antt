@@ -47,7 +47,6 @@ magic = 0x54 ∷ 0x55 ∷ 0x53 ∷ 0x53 ∷ 0x50 ∷ 0x4F ∷ 0x4F ∷ 0x4C ∷ 
 unfoldable pub first_page : ℕ → List ℕ
 first_page blocks = magic ++ to_be_bytes w32 blocks
 
--- The number of a version.
 abbrev pub version_number : Version → ℕ
 version_number One = 1
 version_number Two = 2

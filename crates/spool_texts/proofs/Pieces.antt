@@ -132,7 +132,6 @@ module _ {current mid : ℕ → ℕ} {unsynced unsynced' : ℕ → Type 0} (firs
       (omega (arith, upto, fits)) ∙ before k (omega (arith, le)))
       (cases_lt k to)
 
--- a byte of a text
 pub byte_of_text : (current : ℕ → ℕ) (first : ℕ) (list : List ℕ) (at : ℕ) → at < PAGE * length list
     → get_or (blocks_on current first list) at 0 ≡ byte_on current first list at
 unfolding blocks_on

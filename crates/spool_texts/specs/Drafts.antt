@@ -59,7 +59,6 @@ unread_on current first (Some u) = prefix_on current first u.block u.len
 abbrev pub len_of : Draft → ℕ
 len_of d = unread_count d.unread + held_count d
 
--- The bytes of the draft.
 abbrev pub draft_bytes : (ℕ → ℕ) → ℕ → Draft → List ℕ
 draft_bytes current first d = unread_on current first d.unread ++ content_on current first d
 

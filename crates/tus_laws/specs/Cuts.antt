@@ -56,7 +56,6 @@ abbrev pub ended_moments_on : World → ℕ → Option Conn → List Moment
 ended_moments_on w c None = []
 ended_moments_on w c (Some k) = cut_moment w c k k.draft
 
--- The moments of an event.
 abbrev pub event_moments : State → Event → List Moment
 event_moments st (Opened c) = []
 event_moments st (Came c piece) = came_moments_on st.world c piece (st.conns c)
@@ -68,7 +67,6 @@ abbrev pub all_moments : State → List Marked → List Moment
 all_moments start [] = []
 all_moments start (e ∷ past) = all_moments start past ++ event_moments (history start past) e.0
 
--- The bytes of an outcome.
 abbrev pub outcome_bytes : Outcome → List ℕ
 outcome_bytes (Gave bytes taken closes more) = bytes
 outcome_bytes Done = []

@@ -60,7 +60,6 @@ pub record DonePatch (st : State) (e : Event) : Type 0 where
   pub patch : Patch
   pub done : IsDoneOn st e conn world draft patch
 
--- It is accepted.
 abbrev pub IsAccepted : {st : State} {e : Event} → DonePatch st e → Type 0
 IsAccepted x = commit_refusal x.world x.draft x.patch ≡ None
 

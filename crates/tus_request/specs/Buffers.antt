@@ -6,7 +6,6 @@ use Rattle.tus_request.specs.Searches.{after_bytes, is_head_found}
 use Rattle.tus_request.specs.declared.search.Search.TheVariants.{Leading}
 use Rattle.tus_request.specs.declared.buffer.HeadBuffer.{HeadBuffer}
 
--- The bytes of the head.
 abbrev pub head_bytes : HeadBuffer → List ℕ
 head_bytes b = b.bytes.items
 

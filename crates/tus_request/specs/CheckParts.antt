@@ -25,11 +25,9 @@ asking_shown a = record {
   closes = a.closes;
 }
 
--- The refusal.
 abbrev pub refusal_shown : code_refusal.Refusal → Refusal
 refusal_shown r = record { fault = r.fault; length = r.length; on_files = r.on_files; bare = r.bare; closes = r.closes }
 
--- The verdict.
 abbrev pub verdict_shown : code_verdict.Verdict → Verdict
 verdict_shown (verdict.Asks r) = Asks (request_shown r)
 verdict_shown (verdict.Refuses r) = Refuses (refusal_shown r)

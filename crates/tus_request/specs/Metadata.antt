@@ -11,7 +11,6 @@ use Rattle.common.specs.Splits.{before, rest_after}
 use Rattle.tus_request.specs.Texts.{parts, trimmed}
 use Rattle.tus_request.specs.Value.{value_of}
 
--- A key and its value.
 abbrev pub KeyValue : Type 0
 KeyValue = List ℕ × List ℕ
 

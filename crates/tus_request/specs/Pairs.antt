@@ -6,11 +6,9 @@ use Rattle.tus_request.specs.Metadata as metadata
 use Rattle.tus_request.specs.declared.metadata.Pair.{Pair}
 use Rattle.tus_request.specs.declared.metadata.Choice as code
 
--- The pair.
 abbrev pub pair_shown : Pair → KeyValue
 pair_shown p = (p.key.now, p.value.items)
 
--- The choice.
 abbrev pub choice_shown : code.Choice → metadata.Choice
 choice_shown c = record { from = c.from; to = c.to; mode = c.mode }
 

@@ -64,7 +64,6 @@ options_lines =
     ++ (header (codes "Tus-Extension") (codes "creation,creation-defer-length,termination")
     ++ header (codes "Tus-Max-Size") (decimal MOST_LENGTH))
 
--- The reply to OPTIONS.
 abbrev pub reply_options : Bool → List ℕ
 reply_options closes = reply (codes "204 No Content") options_lines None closes
 
@@ -75,7 +74,6 @@ reply_created number bare closes =
     (header (codes "Location") (codes "/files/" ++ decimal number))
     (unless_bare bare 0) closes
 
--- The reply to a HEAD.
 abbrev pub reply_head : ℕ → Option ℕ → List ℕ → Bool → Bool → List ℕ
 reply_head offset declared metadata bare closes =
     reply (codes "200 OK")

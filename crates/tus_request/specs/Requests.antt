@@ -45,7 +45,6 @@ pub data Verdict : Type 0 where
   Asks : Request → Verdict
   Refuses : Refusal → Verdict
 
--- The length of the body.
 abbrev pub body_length : Verdict → ℕ
 body_length (Asks r) = r.length
 body_length (Refuses r) = r.length

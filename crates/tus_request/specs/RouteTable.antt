@@ -5,7 +5,6 @@ use Rattle.matchit.specs.Router.{RouteOf}
 use Rattle.tus_request.specs.declared.places.Kind.{Kind}
 use Rattle.tus_request.specs.declared.places.Kind.TheVariants.{Files, Upload}
 
--- The route `/files`.
 abbrev pub files_route : RouteOf Kind
 files_route = record { pattern = codes "/files"; text = codes "/files"; names = []; value = Files }
 

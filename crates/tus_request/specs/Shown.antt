@@ -18,7 +18,6 @@ action_shown (action.Get number) = Get number
 action_shown (action.Patch number offset declare) = Patch number offset declare
 action_shown (action.Delete number) = Delete number
 
--- A request.
 abbrev pub request_shown : code_request.Request → Request
 request_shown r = record {
   action = action_shown r.action;
@@ -28,7 +27,6 @@ request_shown r = record {
   closes = r.closes;
 }
 
--- An answer.
 abbrev pub answer_shown : code_parsed.Parsed → Answer
 answer_shown parsed.More = More
 answer_shown (parsed.Head taken request) = Judged taken (Asks (request_shown request))

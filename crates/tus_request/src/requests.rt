@@ -62,7 +62,6 @@ pub enum Parsed {
     Head {
         /// The length of the head in bytes.
         taken: usize,
-        /// The request.
         request: Request,
     },
     /// A request that is refused.

@@ -120,7 +120,6 @@ text_of x u = (text_with x u [] (is_complete u)).bytes
 
 -- Changes.
 
--- A new upload.
 abbrev pub new_upload : New → Upload
 new_upload new = record {
   from = new.from;
