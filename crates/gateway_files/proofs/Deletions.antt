@@ -104,7 +104,8 @@ module _ {U B : Type 0} (u : Ghosts U B) (sure : Bool) (w : World) (numbers : Li
       (is : Halfway u sure w before now numbers (n ∷ rest) prefix held all)
       (crash : sure ≡ true → Limits (u.moment now) (u.moment next) (u.left_only now) (u.left_only next) is.store
       (deleted_store is.store n)) where
-    pub limits_more : sure ≡ true → LimitsToAll (u.moment before) (u.moment next) (u.left_only before) (u.left_only next)
+    pub limits_more : sure ≡ true → LimitsToAll (u.moment before) (u.moment next) (u.left_only before)
+        (u.left_only next)
         (stages w.store numbers)
     limits_more e = record {
       later = omega (arith, (is.limits e).later, (crash e).later);

@@ -14,7 +14,8 @@ AreAllAmong stores ms = (m : Store) → Among m stores → Among m ms
 pub record LimitsToAll (moment moment' : ℕ) (left_only left_only' : Option ℕ → ℕ → List Store → Type 0)
     (stores : List Store) : Type 0 where
   pub later : moment ≤ moment'
-  pub limits : (blocks : Option ℕ) (t : ℕ) (ms : List Store) → t ≤ moment → left_only blocks t ms → AreAllAmong stores ms
+  pub limits : (blocks : Option ℕ) (t : ℕ) (ms : List Store) → t ≤ moment → left_only blocks t ms
+      → AreAllAmong stores ms
       → left_only' blocks t ms
 
 -- why uploads aren't changed: for memory, for the writer or for the disk

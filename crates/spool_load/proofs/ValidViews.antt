@@ -56,7 +56,8 @@ module _ (bytes : ℕ → ℕ) (n : ℕ) (v : View) (valid : IsValid v) (blocks 
     area_encoded decoded = decoded v.indexes valid.indexes (area_passes bytes v n blocks encodes)
 
     pub slots_updated : (version : Version) → version ≡ v.version → {Q : List (Option SlotRecord) → Type 0}
-        → ((decoded : List (Option SlotRecord)) → length decoded ≡ SLOTS → ((s : ℕ) → FitsCatalog (get_or decoded s None))
+        → ((decoded : List (Option SlotRecord)) → length decoded ≡ SLOTS
+        → ((s : ℕ) → FitsCatalog (get_or decoded s None))
         → ((s : ℕ) → s < SLOTS → AreAt bytes (slot_place n s) 2048 (slot_bytes version (get_or decoded s None)))
         → Q decoded)
         → Q v.slots
