@@ -89,6 +89,15 @@ static ssize_t wrote(const void *data, off_t at, ssize_t done) {
     return done;
 }
 
+ssize_t pread(int fd, void *data, size_t size, off_t at) {
+    REAL(ssize_t, "pread", int, void *, size_t, off_t);
+    ssize_t done = real(fd, data, size, at);
+    if (fd == spool && done > 0) tell('g', at, data, done);
+    return done;
+}
+
+ssize_t pread64(int fd, void *data, size_t size, off64_t at) { return pread(fd, data, size, at); }
+
 ssize_t pwrite(int fd, const void *data, size_t size, off_t at) {
     REAL(ssize_t, "pwrite", int, const void *, size_t, off_t);
     ssize_t done = real(fd, data, size, at);
@@ -158,7 +167,7 @@ int ftruncate(int fd, off_t size) {
 int ftruncate64(int fd, off64_t size) { return ftruncate(fd, size); }
 """
 
-# A call: w, bytes written to the spool at a place; s, the spool synced (d, its data alone); f, its folder synced; l,
+# A call: w, bytes written to the spool at a place; g, bytes that a read gave at a place; s, the spool synced (d, its data alone); f, its folder synced; l,
 # its length set to `at`; r, bytes given to a client or to standard output.
 Call = namedtuple("Call", "kind at data")
 ACKNOWLEDGED = re.compile(rb"HTTP/1\.1 20[14] ")

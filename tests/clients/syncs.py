@@ -52,7 +52,7 @@ def letter_at(spool, at):
 
 
 def word_of(spool, calls):
-    return "".join(letter(spool, call) for call in calls)
+    return "".join(letter(spool, call) for call in calls if call.kind != "g")
 
 
 def short(word):
