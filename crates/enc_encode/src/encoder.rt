@@ -184,9 +184,9 @@ impl Encoder {
     ///
     /// # Errors
     ///
-    /// `Unencodable(d)` in fatal mode, where the encoding lacks the character; `d` is the character itself, or what the
-    /// encoder put in its place (U+FF0D for U+2212, a full-width katakana for a half-width one, U+FFFD for 0E, 0F and
-    /// 1B in ISO-2022-JP). `NoMemory` if `out` could not grow. The encoder is then as it was, and `out` has grown by a
+    /// `Unencodable(d)` in fatal mode, where the encoding lacks the character. `d` is the character itself, or what the
+    /// encoder put in its place: U+FF0D for U+2212, a full-width katakana for a half-width one, U+FFFD for 0E, 0F and
+    /// 1B in ISO-2022-JP. `NoMemory` if `out` could not grow. The encoder is then as it was, and `out` has grown by a
     /// prefix of what was to come.
     pub fn put(&mut self, set: &IndexSet, c: char, out: &mut Vec<u8>) -> Result<(), EncodeError>
         ensures given { let f = encoder (tables set.now) self.old.to in

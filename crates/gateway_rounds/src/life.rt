@@ -22,8 +22,8 @@ use std::alloc::Global;
 ///
 /// # Errors
 ///
-/// As `format`, and the disk comes back. Then no round was begun. After it no round is left out, and none refuses to
-/// open the disk but for memory or by the disk.
+/// As `format`, and the disk comes back. Then no round was begun. If the disk was formatted, no round is left out, and
+/// none refuses to open the disk, unless memory or the disk refuses.
 pub fn endure<D: CrashDisk>(
     alloc: Global,
     disk: D,
@@ -31,8 +31,8 @@ pub fn endure<D: CrashDisk>(
     indexes: &IndexSet,
     rounds: &mut [Round<D::How>],
 ) -> Result<D, (D, FormatError)>
-    // After each run the disk has the uploads after the first events of its script, in order, each of them whole and
-    // with its text; and each event of which a reply was written is one of these. An upgrade changes no upload, and
+    // After each run the disk has the uploads after the first events of its script, in order. Each of them is whole and
+    // has its text. Each event of which a reply was written is one of these events. An upgrade changes no upload, and
     // after one that was done the disk has a valid spool of version 2.
     ensures lives { D.honest disk → IfOk result
         (λ last. HasLived D.Disk D.chosen disk blocks (no_uploads indexes.now) rounds.old rounds.new last) }

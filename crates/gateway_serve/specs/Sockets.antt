@@ -38,9 +38,9 @@ IsWholeReply Closed = Unit {0}
 IsWholeReply (Lost gone) = IsQuietly gone
 IsWholeReply Over = ⊥
 
--- all bytes that came, but for at most 4,096 at the end, are those that the session took, and those that went are the
--- first that it gave, all but at most 135,167 at the end, and all of them for the reasons of `IsWholeReply`. If the
--- session closed the connection, it wasn't reported to the session that the client is gone
+-- The session took all bytes that came, but for at most 4,096 at the end. The bytes that went are the first ones that
+-- it gave, all but at most 135,167 at the end, and all for the reasons of `IsWholeReply`. If the session closed the
+-- connection, it wasn't reported to the session that the client is gone
 pub record Fits (s : Seen) (c : Conversation) : Type 0 where
   pub taken : IsAllBut PIECE c.took s.came.items
   pub written : IsAllBut most_waiting s.went.items c.gave

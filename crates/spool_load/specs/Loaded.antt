@@ -63,8 +63,8 @@ pub record ReadsView (size : ℕ) (before after : ℕ → ℕ) (So : View → Ty
   pub encodes : EncodesBy size before after view
   pub so : So view
 
--- The answers of `find` and of `load` by what the reads gave: what was found or read is what they encode, each error
--- has its reason, and a valid view is found and read, unless memory or the disk refuses.
+-- The answers of `find` and of `load` by what the reads gave. What was found or read is what the reads encode. Each
+-- error has its reason. A valid view is found and read, unless memory or the disk refuses.
 
 -- So it is on a disk that begins as a spool of n blocks.
 pub record RestoresBy (n : ℕ) (result : Result Found OpenFault) (before after : ℕ → ℕ) : Type 0 where
