@@ -269,8 +269,8 @@ impl Encoder {
     }
 
     /// Puts a character's code after bytes that are held, or appends both, and gives the state that it leads to. This
-    /// is for bytes that switch, for references and for errors. It is a function of its own, so that what
-    /// holds all other characters is small enough to go into the loop over them.
+    /// is for bytes that switch, for references and for errors. It is a function of its own, so that what holds all
+    /// other characters is small enough to go into the loop over them.
     #[inline(never)]
     fn hold_otherwise<const LOOP: usize>(
         &self,
