@@ -41,7 +41,7 @@ pub record IsFoundOf (v : View) (found : Found) : Type 0 where
   pub blocks : found.layout ≡ v.blocks
   pub state : IsFoundState v.version v.next found
 
--- What is in memory is a valid view of these bytes, with n blocks.
+-- The catalog has a valid view of these bytes, with n blocks.
 pub record LoadedFrom (bytes : ℕ → ℕ) (n : ℕ) (catalog : Holding) : Type 0 where
   pub view : View
   pub valid : IsValid view
@@ -80,7 +80,7 @@ pub record LoadsBy (size : ℕ) (before after : ℕ → ℕ) (result : Result Ho
   pub answer : MatchResult result (λ catalog. ReadsView size before after (HasViewAlone catalog)) (RefusedBy size before after)
   pub loads : (v : View) → IsValid v → EncodesBy size before after v → LoadsAs result (λ catalog. HasViewAlone catalog v)
 
--- What is in memory is a valid view by the plain reading, and the disk has room for its blocks.
+-- The catalog has a valid view by the plain reading, and the disk has room for its blocks.
 pub record OpenedFrom (size : ℕ) (current : ℕ → ℕ) (catalog : Holding) : Type 0 where
   pub view : View
   pub valid : IsValid view
