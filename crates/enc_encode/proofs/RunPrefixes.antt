@@ -57,7 +57,7 @@ coded_run t e mode s (c ∷ cs) bytes p =
     coded_both (encoder t e) (encoder_steady t e) mode s (c ∷ []) cs (ap (λ (r : Coded). r.fault) h)
     ∙ rw (h, coded_run t e mode s cs p.1 p.4, p.2) refl
 
--- A FRONT
+-- A PREFIX
 
 all_weaker : (gives are : ℕ → List ℕ → Type 0) → ((c : ℕ) (b : List ℕ) → gives c b → are c b) → (cs bytes : List ℕ)
     → AllGiven gives cs bytes → AllGiven are cs bytes

@@ -33,8 +33,8 @@ fn append_exactly(bytes: &[u8], out: &mut Vec<u8>) -> usize
     }
 }
 
-/// Appends bytes in parts: first as many as there is room for, and then as many as memory is granted for, by exact
-/// requests for all the rest, for half of it and so on, down to one byte.
+/// Appends bytes in parts: first as many as there is room for, and then as many as memory is granted for. It requests
+/// exactly all the rest, then half of it and so on, down to one byte.
 #[cold]
 fn append_in_parts(bytes: &[u8], out: &mut Vec<u8>) -> Result<(), AllocError>
     ensures grew { Grew out.old bytes.now out.new result }

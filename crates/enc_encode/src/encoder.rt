@@ -184,9 +184,9 @@ impl Encoder {
     ///
     /// # Errors
     ///
-    /// `Unencodable(d)` in fatal mode, where the encoding lacks the character; `d` is the character itself, or what the
-    /// encoder put in its place (U+FF0D for U+2212, a full-width katakana for a half-width one, U+FFFD for 0E, 0F and
-    /// 1B in ISO-2022-JP). `NoMemory` if `out` could not grow. The encoder is then as it was, and `out` has grown by a
+    /// `Unencodable(d)` in fatal mode, where the encoding lacks the character. `d` is the character itself, or what the
+    /// encoder put in its place: U+FF0D for U+2212, a full-width katakana for a half-width one, U+FFFD for 0E, 0F and
+    /// 1B in ISO-2022-JP. `NoMemory` if `out` could not grow. The encoder is then as it was, and `out` has grown by a
     /// prefix of what was to come.
     pub fn put(&mut self, set: &IndexSet, c: char, out: &mut Vec<u8>) -> Result<(), EncodeError>
         ensures given { let f = encoder (tables set.now) self.old.to in
@@ -269,8 +269,8 @@ impl Encoder {
     }
 
     /// Puts a character's code after bytes that are held, or appends both, and gives the state that it leads to. This
-    /// is for bytes that switch, for references and for errors. It is a function of its own, so that what
-    /// holds all other characters is small enough to go into the loop over them.
+    /// is for bytes that switch, for references and for errors. It is a function of its own, so that what holds all
+    /// other characters is small enough to go into the loop over them.
     #[inline(never)]
     fn hold_otherwise<const LOOP: usize>(
         &self,

@@ -144,8 +144,8 @@ fn store_letters(held: &mut [u8; ROOM], from: usize, bytes: &[u8; LETTERS_AT_ONC
     u8x16::from_array(*bytes).copy_to_slice(&mut held[from..]);
 }
 
-/// Puts the bytes of letters that a text begins with after the first so many, up to 16, where 16 may be there and
-/// there is room for them. Gives the rest of the text, and how many bytes there are then. Nothing but the places
+/// Puts the bytes of letters that a text begins with after the first so many: up to 16, if the text has 32 bytes and
+/// there is room for 16. Gives the rest of the text, and how many bytes there are then. Nothing but the places
 /// depends on how many, so that no branch waits for the end of a word.
 #[inline(always)]
 fn put_letters<'a>(

@@ -247,9 +247,10 @@ fn is_area_of(set: &IndexSet, area: &[u8]) -> bool
 }
 
 impl IndexSet {
-    /// A page of the index area: 4,096 of its 90,112 bytes. The area has a byte for each of the eighteen files,
-    /// jis0208, jis0212, katakana and the single-byte encodings, which is 1 if the file was given; zeros up to byte 31;
-    /// the tables of the files, with four bytes for each pointer, the code point or FFFFFFFF, big-endian; and zeros.
+    /// A page of the index area: 4,096 of its 90,112 bytes. First the area has a byte for each of the eighteen files:
+    /// jis0208, jis0212, katakana and the single-byte encodings. It is 1 if the file was given. After zeros up to byte
+    /// 31 come the tables of the files, with four bytes for each pointer: the code point or FFFFFFFF, big-endian. The
+    /// rest is zeros.
     pub fn to_area(&self, page: usize) -> [u8; 4096]
         requires { page < 22 }
         ensures bytes { (i : ℕ) → i < 4096 → slice_index result i ≡ area_byte self.now (4096 * page + i) }

@@ -22,8 +22,9 @@ use enc_model::{Answer, Charset, Introducer, Place, Restored, Utf8Char};
 use lane_kernels::plain_prefix_2022;
 use std::marker::Model;
 
-/// The ISO-2022-JP decoder (Encoding Standard, section 12.2.1). Its state is the place, the output state, to which an
-/// unknown escape sequence returns, and the output flag, which is set between an escape sequence and the next byte.
+/// The ISO-2022-JP decoder (Encoding Standard, section 12.2.1). Its state is the place, the output state and the output
+/// flag. An unknown escape sequence returns to the output state. The flag is set between an escape sequence and the
+/// next byte.
 #[derive(Drop)]
 pub struct Iso2022State {
     place: Place,

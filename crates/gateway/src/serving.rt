@@ -204,8 +204,7 @@ fn open_with_survey<'a>(
     Err(refused_spool(fault, spool, disk))
 }
 
-// Listens at an address. Prints the spool and the address, if `reported` is given, and a warning if others may reach
-// it.
+// Listens at an address. Prints the spool and the address, if `reported` is given, and warns if others may reach it.
 fn listen_openly<'a>(
     rt: &HostRuntime,
     alloc: Global,

@@ -15,9 +15,8 @@ use Rattle.gateway_script.specs.declared.faults.CallFault.TheVariants as calls
 use Rattle.gateway_script.specs.declared.faults.ScriptFault.{ScriptFault}
 use Rattle.gateway_script.specs.declared.faults.ScriptFault.TheVariants.{Stop, Script, Io}
 
--- From the uploads before to the uploads now. What a crash at any moment since the run began might have left shows the
--- uploads of the history after all these events, all but the latest, and so on; and images of earlier moments show
--- them, or what they showed
+-- From the uploads before to the uploads now. A crash at any moment since the run began leaves an image that shows the
+-- uploads after some first events of the history. Images of earlier moments show these too, or what they showed
 pub record ShowsSince {U B : Type 0} (u : Ghosts U B) (before now : U) (st : State) (past : List Marked) : Type 0 where
   pub since : u.left_only now st.world.blocks (u.moment before) (stores_of st past)
   pub limits : LimitsTo (u.moment before) (u.moment now) (u.left_only before) (u.left_only now) (stores_of st past)

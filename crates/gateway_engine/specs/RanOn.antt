@@ -53,8 +53,8 @@ pub record RestsOn {D : Type 0} (disk : Ghosts D) (before now : D) (n : ℕ) (st
   pub ended : EndedOn disk before now n st r held prefix exit
   pub shows : AllShow disk now n r.run.state.world.store
 
--- the script ended at an event at which the disk failed, and the disk has the uploads after all events, or after
--- all but this latest one
+-- The script ended at an event at which the disk failed. The disk has the uploads after all events, or after all but
+-- the latest one
 pub record FailedOn {D : Type 0} (disk : Ghosts D) (before now : D) (n : ℕ) (st : State) (r : script.Result)
     (held prefix : Option (List ℕ)) : Type 0 where
   pub ended : EndedOn disk before now n st r held prefix Faulted

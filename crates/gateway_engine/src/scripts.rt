@@ -18,17 +18,17 @@ use upload_rules::Uploads;
 ///
 /// The script is read whole before its first line is run.
 ///
-/// Refused with `Stop` where a growth outside the calls was refused or the disk failed, `Script` of the first line
-/// that is none or too long, and `Io`. What was committed and written before stays.
+/// Refused with `Stop` if a growth outside the calls was refused or the disk failed, with `Script` of the first line
+/// that is none or too long, and with `Io`. What was committed and written before stays.
 pub fn run_over<U: Uploads, R: CountedRead, W: CountedWrite>(
     alloc: Global,
     reader: &mut R,
     writer: &mut W,
     store: U,
 ) -> Result<U, (U, ScriptFault)>
-    // What is written is the script's output, with a mark for each call that was out of memory, whatever the disk, but
-    // for the bytes of texts. Where the disk is known to be honest these are the texts', and images show the uploads
-    // of the script's history.
+    // On any disk: what is written is the script's output, with a mark for each call that was out of memory, but for
+    // the bytes of texts. If the disk is known to be honest, these are the texts' too, and images show the uploads of
+    // the script's history.
     ensures output { (sure : Bool) (m : Store) (blocks : Option ℕ) → U.represents store sure (at_rest m blocks)
         → (script : List ℕ) × IsScript (R.remaining reader.old) script
         × HasRun U.Uploads sure store result (W.contents writer.new) (W.contents writer.old) (beginning m blocks)

@@ -92,8 +92,8 @@ impl<D: Disk> Gateway<Spool<D>> {
 ///
 /// The script is read whole before its first line is run.
 ///
-/// Refused with `Stop` where a growth outside the calls was refused or the disk failed, `Script` of the first line
-/// that is none or too long, and `Io`. What was committed and written before stays.
+/// Refused with `Stop` if a growth outside the calls was refused or the disk failed, with `Script` of the first line
+/// that is none or too long, and with `Io`. What was committed and written before stays.
 pub fn run<D: Disk, R: CountedRead, W: CountedWrite>(
     alloc: Global,
     reader: &mut R,
@@ -106,7 +106,7 @@ pub fn run<D: Disk, R: CountedRead, W: CountedWrite>(
         → (script : List ℕ) × IsScript (R.remaining reader.old) script
         × WritesRun result (W.contents writer.new) (W.contents writer.old) (beginning m blocks) script }
 
-    // Where the disk is known to be honest and to hold them, the bytes of texts are the texts', and images show the
+    // If the disk is known to be honest and to hold the uploads, the bytes of texts are the texts', and images show the
     // uploads of the script's history, at every moment since.
     ensures runs { (m : Store) (n : ℕ) → SpoolRepresents spool true (at_rest m (Some n))
         → (script : List ℕ) × IsScript (R.remaining reader.old) script

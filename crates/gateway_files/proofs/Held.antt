@@ -36,7 +36,7 @@ pub one_disk : {D : Type 0} (a b : D) (there : Option D) → there ≡ Some a �
 one_disk a b there this that = cc
 
 module _ {D : Type 0} (holds : Disks D → Type 0) (disks : Disks D) (path : List ℕ) where
-  -- what stood under the path before doesn't matter
+  -- what was at the path before doesn't matter
   pub leaves_put : (x : Option D) (P : D → Type 0) (d : D) → holds (with_disk (with_disk disks path x) path (Some d))
       → P d → Leaves holds disks path P
   leaves_put x P d held so = record {

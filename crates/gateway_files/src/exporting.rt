@@ -63,8 +63,8 @@ pub fn export_file<'a>(
     }
 }
 
-/// Writes the text of each complete upload of the spool on a disk, or of all, into a file of a folder, and a line for
-/// each upload. The disk is handed back.
+/// Writes the text of each complete upload of the spool on a disk, or of each upload, into a file of a folder, and a
+/// line for each upload. The disk is handed back.
 pub fn export_on<D: Disk + Drop, F: Folder, W: Write>(
     alloc: Global,
     writer: &mut W,

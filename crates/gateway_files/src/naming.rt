@@ -74,8 +74,7 @@ fn text_of(bytes: Vec<u8>) -> Option<String>
 }
 
 /// Whether a file may have the name: at most 255 bytes, no control character and no path separator, no dot at the
-/// start,
-/// and no number before the first dot, since uploads have these.
+/// start, and no number before the first dot, since uploads have these.
 pub fn is_safe_name(name: &str) -> bool
     ensures { result ≡ is_safe_name name.now }
 {

@@ -48,8 +48,8 @@ pub trait SpoolFiles {
 
 /// The files of the file system.
 ///
-/// No contract states which files a file system holds, so it isn't proved that this one holds any disks. Whoever relies
-/// on it has the premise that it behaves as `SpoolFiles`.
+/// No contract states which files a file system holds, so it isn't proved that these hold any disks. Whoever relies on
+/// them has the premise that they behave as `SpoolFiles`.
 #[derive(Drop)]
 pub struct SystemFiles<'a> {
     rt: &'a HostRuntime,
@@ -162,7 +162,7 @@ fn is_cut_short<D: Disk>(fault: Fault, disk: &mut D) -> bool
     fault == Fault::NotASpool && matches!(is_spool(disk), Ok(true))
 }
 
-// The refusal of a file: `cut_short` if it begins as a spool but isn't one, with the disk's error.
+// The refusal of a file. `cut_short` is whether it begins as a spool though it is none, and `error` is the disk's.
 fn refusal<'a>(
     fault: Fault,
     path: &'a str,

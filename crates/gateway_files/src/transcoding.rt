@@ -56,8 +56,8 @@ pub fn conversion_of(from: &str, to: &str, mode: &str) -> Option<Conversion>
     })
 }
 
-/// Writes standard input as what an upload of it with these labels and this mode would be stored as, by the index files
-/// of a folder, and on standard error how often the text has U+FFFD. `BadLabel` where an upload with them is refused
+/// Writes what an upload of standard input with these labels and this mode would be stored as, by the index files of a
+/// folder. On standard error it writes how often the text has U+FFFD. `BadLabel` where an upload with them is refused
 /// so.
 pub fn text_file<'a>(
     rt: &HostRuntime,

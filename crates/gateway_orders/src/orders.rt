@@ -88,9 +88,9 @@ pub struct Service<'a> {
 
 /// Reads a command line, which begins with the program's name. Unknown, superfluous and missing words are usage faults,
 /// and so are requests for help and for the version. An order is the one of the command that the words name, and what
-/// is given for each of that command's arguments is in the field of that name. It is only tested that `None`
-/// doesn't occur (clap requires a command, and each argument that its order needs is required or has a default), and
-/// which fault comes for which words.
+/// is given for each of its arguments is in the field of that name. It is only tested which fault comes for which
+/// words, and that `None` doesn't occur: clap requires a command, and each argument that its order needs is required or
+/// has a default.
 pub fn read_order<'a>(alloc: Global, words: &'a [String]) -> Result<Option<Order<'a>>, Error>
     ensures { IfOk result (λ read. IfSome read (IsOrderOf (map string_bytes words.entry.now))) }
 {

@@ -164,8 +164,8 @@ HasTextsOf image m = (k : ℕ) (u : Upload) → upload_of m k ≡ Some u → Has
 abbrev pub HaveAllBytes : List Store → Type 0
 HaveAllBytes stores = (m : Store) → Among m stores → HasAllBytes m
 
--- A round as it was reported, from a disk of which each image shows one of some stores to one of which each image shows
--- one of the next, by way of the disk that came back
+-- A round as it was reported. Each image of the given disk shows one of the stores before, and each image of the disk
+-- after shows one of the next. `back` is the disk that came back in between
 pub record IsRound {D C : Type 0} (disk : Ghosts D) (chosen : C → D → D → Type 0) (n : ℕ) (given after : D)
     (before next : List Store) (round reported : Round C) : Type 0 where
   pub back : D

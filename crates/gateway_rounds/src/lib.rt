@@ -1,5 +1,5 @@
-//! A disk that lives through rounds: in each it is opened and a script is run over it, or it is brought to version 2,
-//! and then it crashes, or it goes on as it is.
+//! A disk that lives through rounds. In each it is opened and a script is run over it, or it is brought to version 2.
+//! Then it crashes, or goes on as it is.
 #![tactic(auto)]
 
 mod faults;

@@ -16,14 +16,14 @@ use spool_image::{FormatError, format};
 use std::alloc::Global;
 
 /// Makes a spool of so many text blocks on a disk, and then lives through the rounds, one after the other. In each the
-/// disk is opened and the script is run over it, or it is brought to version 2, up to the end or the call at which the
-/// disk stops. Then it goes on with one of the images that a crash leaves, or as it is. What came of each round is in
-/// it afterwards.
+/// disk is opened and the script is run over it, or it is brought to version 2. This ends by itself, or at the call
+/// at which the disk stops. Then the disk goes on with one of the images that a crash leaves, or as it is. What came of
+/// each round is in it afterwards.
 ///
 /// # Errors
 ///
-/// As `format`, and the disk comes back. Then no round was begun. After it no round is left out, and none refuses to
-/// open the disk but for memory or by the disk.
+/// As `format`, and the disk comes back. Then no round was begun. If the disk was formatted, no round is left out, and
+/// none refuses to open the disk, unless memory or the disk refuses.
 pub fn endure<D: CrashDisk>(
     alloc: Global,
     disk: D,
@@ -31,8 +31,8 @@ pub fn endure<D: CrashDisk>(
     indexes: &IndexSet,
     rounds: &mut [Round<D::How>],
 ) -> Result<D, (D, FormatError)>
-    // After each run the disk has the uploads after the first events of its script, in order, each of them whole and
-    // with its text; and each event of which a reply was written is one of these. An upgrade changes no upload, and
+    // After each run the disk has the uploads after the first events of its script, in order. Each of them is whole and
+    // has its text. Each event of which a reply was written is one of these events. An upgrade changes no upload, and
     // after one that was done the disk has a valid spool of version 2.
     ensures lives { D.honest disk → IfOk result
         (λ last. HasLived D.Disk D.chosen disk blocks (no_uploads indexes.now) rounds.old rounds.new last) }
@@ -63,8 +63,8 @@ pub fn endure<D: CrashDisk>(
     }
 }
 
-/// Lives through the rounds on a disk of which every image shows one of some stores, as where it shows the same uploads
-/// in each, in either version. It does so as `endure` does on a new one.
+/// Lives through the rounds as `endure` does, on a disk of which every image shows one of some stores, in either
+/// version. Such a disk is one whose images all show the same uploads.
 pub fn live_through<D: CrashDisk>(alloc: Global, disk: D, rounds: &mut [Round<D::How>]) -> D
     ensures { (n : ℕ) (stores : List Store) → AllShowOne D.Disk disk n stores
         → (last : List Store) × Lives D.Disk D.chosen n disk stores rounds.old rounds.new result last }

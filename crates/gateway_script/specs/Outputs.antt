@@ -19,8 +19,8 @@ abbrev pub output_of : State → List Marked → List ℕ
 output_of st [] = []
 output_of st (e ∷ past) = output_of st past ++ last_output st (e ∷ past)
 
--- WHAT IS WRITTEN of one outcome whatever the disk: the bytes of a text, if those given end in one, are as many as the
--- history's, and the same where that is sure; all else is the history's
+-- WHAT IS WRITTEN of one outcome on any disk. If the bytes given end in a text, the text's bytes are as many as the
+-- history's, and the same where that is sure. All else is the history's
 abbrev pub WritesAs : Bool → ℕ → Outcome → List ℕ → List ℕ → Type 0
 WritesAs sure n (Gave bytes taken closes more) text out =
     (given : List ℕ) × Given sure [] given bytes text × (out ≡ written n (Gave given taken closes more))

@@ -67,7 +67,7 @@ module _ (sure : Bool) (ended : List Seen) (st : State) (past : List Marked) (n 
 
   fits : (latest : Latest) (reason : Reason) (j : Joint) (is : Joins sure j (current_of n ended) st past n)
       (c : Conversation) → c.took ≡ is.latest.took → c.gave ≡ is.latest.gave
-      → (reason ≡ Why.Closed → c.told ≡ false) → IfWhole reason j → FewWait j.output
+      → (reason ≡ Why.Closed → c.disconnected ≡ false) → IfWhole reason j → FewWait j.output
       → sockets.Fits (current_at n j latest reason) c
   fits latest reason j is c took gave connected whole few = record {
     taken = (j.input, rw took is.taken, is.few);

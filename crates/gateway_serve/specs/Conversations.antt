@@ -4,8 +4,8 @@ use Rattle.tus_action.specs.Serves.{Appends}
 use Rattle.tus_session.specs.History.{State, Event, Opened, Came, More, Ended, Marked, Outcome, Gave, Done, step}
 use Rattle.tus_session.specs.History.{history, conn_in}
 
--- all bytes that the calls for a connection took and gave since it was opened, and whether it was reported
--- to the session that its client is gone
+-- all bytes that the calls for a connection took and gave since it was opened, and whether it was reported to the
+-- session that its client is gone
 pub record Conversation : Type 0 where
   pub took : List ℕ
   pub gave : List ℕ
@@ -15,7 +15,7 @@ abbrev pub new_conversation : Conversation
 new_conversation = record { took = []; gave = []; disconnected = false }
 
 abbrev pub longer_conversation : Conversation → List ℕ → List ℕ → Conversation
-longer_conversation c took gave = record { took = c.took ++ took; gave = c.gave ++ gave; disconnected = c.told }
+longer_conversation c took gave = record { took = c.took ++ took; gave = c.gave ++ gave; disconnected = c.disconnected }
 
 abbrev pub hung_up : Conversation → Conversation
 hung_up c = record { took = c.took; gave = c.gave; disconnected = true }

@@ -63,8 +63,8 @@ abbrev pub measured_by : Option Request → Duration → Option Request
 measured_by None now = None
 measured_by (Some request) now = Some (measured_anew request now)
 
--- THE REQUEST that a connection is in, once so many bytes of those that came were taken: none, where more waits to be
--- written than before, by more bytes than those that ask a client to go on with its body
+-- THE REQUEST that a connection is in, after so many of the bytes that came were taken. There is none if the bytes that
+-- wait to be written grew by more than the 25 that ask a client to go on with its body
 abbrev pub request_or_new : Option Request → Duration → Request
 request_or_new None now = record { head = InLine; begun = now; brought = 0 }
 request_or_new (Some request) now = request

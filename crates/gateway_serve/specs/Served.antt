@@ -21,8 +21,8 @@ pub record WentOn {C : Type 0} (c : Ghosts C) (sure : Bool) (before now : C) (st
   pub represents : c.represents now sure (history st past)
   pub images : sure ≡ true → ImagesShow c before now st past
 
--- these events came, and at the latest of them the disk failed: the connections are down, and of them nothing is
--- known but their images, which now show the uploads after all events, or after all but this latest one
+-- these events came, and at the latest of them the disk failed. The connections are down, and only their images are
+-- known: now they show the uploads after all events, or after all but the latest one
 pub record WentDown {C : Type 0} (c : Ghosts C) (sure : Bool) (before now : C) (st : State) (past : List Marked) :
     Type 0 where
   pub images : sure ≡ true → ImagesShow c before now st past

@@ -38,19 +38,19 @@ IsWholeReply Closed = Unit {0}
 IsWholeReply (Lost gone) = IsQuietly gone
 IsWholeReply Over = ⊥
 
--- all bytes that came, but for at most 4,096 at the end, are those that the session took, and those that went are the
--- first that it gave, all but at most 135,167 at the end, and all of them for the reasons of `IsWholeReply`. If the
--- session closed the connection, it wasn't reported to the session that the client is gone
+-- The session took all bytes that came, but for at most 4,096 at the end. The bytes that went are the first ones that
+-- it gave, all but at most 135,167 at the end, and all for the reasons of `IsWholeReply`. If the session closed the
+-- connection, it wasn't reported to the session that the client is gone
 pub record Fits (s : Seen) (c : Conversation) : Type 0 where
   pub taken : IsAllBut PIECE c.took s.came.items
   pub written : IsAllBut most_waiting s.went.items c.gave
   pub emptied : IsWholeReply s.reason → s.went.items ≡ c.gave
-  pub connected : s.reason ≡ Closed → c.told ≡ false
+  pub connected : s.reason ≡ Closed → c.disconnected ≡ false
 
 -- and all that it gave went, unless it was reported to the session that the client is gone
 pub record Served (s : Seen) (c : Conversation) : Type 0 where
   pub fits : Fits s c
-  pub whole : c.told ≡ false → s.went.items ≡ c.gave
+  pub whole : c.disconnected ≡ false → s.went.items ≡ c.gave
 
 -- one for each
 abbrev pub Pairs : (Seen → Conversation → Type 0) → List Seen → List Conversation → Type 0

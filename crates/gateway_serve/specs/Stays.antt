@@ -32,8 +32,8 @@ HasPaused s = (s.longest ≡ true) × (SHORTEST_PAUSE ≤ millis_from s.moved s.
 abbrev pub IsSlow : Stay → Type 0
 IsSlow s = (SHORTEST_STAY ≤ seconds_from s.begun s.time) × (s.brought / LEAST_SPEED < seconds_from s.begun s.time)
 
--- WHILE A SOCKET WAITS for a place, one between requests gives way that has been so longest, or that has had its place
--- for ten seconds; so do a head that isn't whole after ten seconds, and a slow body. A reply never does
+-- WHILE A SOCKET WAITS for a place, these give way: between requests, one that has paused, or that has had its place
+-- for ten seconds; a head that isn't whole after ten seconds; and a slow body. A reply never does
 abbrev pub GivesWayAt : At → Stay → Type 0
 GivesWayAt Between s = HasPaused s ⊎ (SHORTEST_STAY ≤ seconds_from s.opened s.time)
 GivesWayAt Head s = SHORTEST_STAY ≤ seconds_from s.begun s.time

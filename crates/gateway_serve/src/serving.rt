@@ -32,22 +32,21 @@ pub struct Outcome<C> {
 
 /// Serves the connections of a listener, until so many were closed or so many turns were taken.
 ///
-/// Each turn asks the listener for a client, who gets a connection where fewer than `MOST_OPEN` are open, and then goes
-/// on at each open one, in order:
-/// what is left to write is written, else the next piece of a text is asked for, else up to 4,096 bytes are read and
-/// given to the session. A socket that fails or is at its end ends its connection, and so does one over which nothing
-/// came or went for a minute, or whose request's head isn't whole after one. One that the session closed is closed once
-/// all is written. At the end the open connections are ended.
+/// Each turn asks the listener for a client, which gets a connection if fewer than `MOST_OPEN` are open. Then it goes
+/// on at each open connection, in order. If something is left to write, it is written; else, if a text is pending, its
+/// next piece is asked for; else up to 4,096 bytes are read and given to the session. A socket that fails or is at its
+/// end ends its connection. So does a socket over which nothing came or went for a minute, or whose request's head
+/// isn't whole after one. A connection that the session closed is closed once all is written. At the end the open
+/// connections are ended.
 ///
-/// Where all are open, one more client is taken in and waits for a place. While it does, a connection gives way whose
-/// socket has nothing to do: the one that has been between requests longest, after 20 milliseconds; any between
-/// requests that has had its place for ten seconds; a head that isn't whole after ten seconds; a body that brought less
-/// than 4,096 bytes a second for ten seconds. A reply never does. A socket that still waits when serving ends is
-/// closed.
+/// If all are open, one more client is taken in and waits for a place. Meanwhile a connection whose socket has nothing
+/// to do gives way: the one that has been between requests longest, after 20 milliseconds; any between requests that
+/// has had its place for ten seconds; a head that isn't whole after ten seconds; a body that brought less than 4,096
+/// bytes a second for ten seconds. A reply never does. A socket that still waits when serving ends is closed.
 ///
 /// While there is something to do, the listener and each connection that had nothing are passed over in more and more
-/// turns, in at most 31 one after the other: so much later one is ended whose time is over. Where 65,536 bytes wait for
-/// a socket, nothing more is taken of it.
+/// turns, in at most 31 one after the other. A connection whose time is over is ended as much later. Where 65,536 bytes
+/// wait for a socket, nothing more is taken of it.
 ///
 /// After turns in which no socket had anything to do it rests, at most 10 milliseconds.
 pub fn serve_on<A: Acceptor, C: Connections, T: Clock>(
@@ -81,10 +80,12 @@ where
     // what the reads gave is what came, what the writes took is what went, and the latest of these calls answered so.
     ensures streams { AllHad A.Stream.remaining A.Stream.contents result.ended.items }
 
-    // Each of them ended for the reason that it has: the session closed its connection; or the latest call of its
-    // stream was a read that gave nothing, one that failed and not because it would have waited or was interrupted, or
-    // a write that took nothing; or nothing came or went for as long as it may be idle at what it was at; or serving
-    // was over: at most one for each number of a connection, and where the disk failed at most one more.
+    // Each of them ended for the reason that it has:
+    // - the session closed its connection;
+    // - the latest call of its stream was a read that gave nothing, a write that took nothing, or a call that failed,
+    //   but not because it would have waited or was interrupted;
+    // - nothing came or went for as long as it may be idle at what it was at;
+    // - serving was over: at most one for each number of a connection, and one more if the disk failed.
     ensures reasons { IsLeftReasoned result.ended.items }
 
     // Each client that the listener gave got a connection, or was refused one by the session, or waited for a place at

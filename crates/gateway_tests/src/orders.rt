@@ -115,8 +115,8 @@ static LINES: [(&str, &str); 52] = [
 /// The line that names all commands.
 const COMMANDS: &str = "Commands: format, up, list, delete, export, text, upgrade, serve, script";
 
-/// Wrong command lines, and a line of each one's message: the usage of the command that was given, the names
-/// of all commands where none was, or what is wrong.
+/// Wrong command lines, and a line of each one's message: the usage of the command that was given, the names of all
+/// commands where none was, or what is wrong.
 static MESSAGES: [(&str, &str); 18] = [
     (
         "gateway format",

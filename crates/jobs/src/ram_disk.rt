@@ -41,8 +41,8 @@ impl RamDisk {
         Ok(disk)
     }
 
-    /// Opens the gate: the disk is as a crash leaves it that comes after the latest commit has put its pages to their
-    /// places, and before it closes the gate.
+    /// Opens the gate. The disk is then as after a crash between the latest commit's writes to the places and its
+    /// closing of the gate.
     pub(crate) fn open_gate(&mut self) {
         if let Some(gate) = self.bytes.get_mut(GATE) {
             *gate = OPEN;

@@ -1,7 +1,7 @@
-//! What is known of a spool in memory: the records, the blocks of each text, the order of the numbers, and the checks
-//! that make it valid. It defines what a view shows, how each change alters the catalog, and which pages a change
-//! makes. It reads texts from a disk and writes nothing. Opening (`spool_load`) and changing (`spool_kept`) both use
-//! it, so it may use neither, nor drafts.
+//! The catalog of a spool, which is in memory: the records, the blocks of each text, the order of the numbers, and the
+//! checks that make it valid. It defines what a view shows, how each change alters the catalog, and which pages a
+//! change makes. It reads texts from a disk and writes nothing. Opening (`spool_load`) and changing (`spool_kept`) both
+//! use it, so it may use neither, nor drafts.
 #![tactic(auto)]
 
 mod answers;

@@ -29,7 +29,7 @@ abbrev pub IsRefusedAs : Option OpenFault → OpenFault → Type 0
 IsRefusedAs None fault = ⊥
 IsRefusedAs (Some e) fault = (e ≡ fault) ⊎ (e ≡ Stop NoMemory) ⊎ (e ≡ Stop DiskFault)
 
--- What an opening's reads gave is a valid spool if it is opened, each error has its reason in them, and each reason
+-- What an opening's reads gave is a valid spool if it is opened. Each error has its reason in them, and each reason
 -- leads to its error, unless memory or the disk refuses.
 pub record AnswersBy (size : ℕ) (before after : ℕ → ℕ) (refusal : Option OpenFault) : Type 0 where
   pub valid : refusal ≡ None → ReadsView size before after (λ v. Unit {0})

@@ -67,10 +67,12 @@ impl<D: Disk> Spool<D> {
     ///
     /// The disk is returned with each. `NotASpool` if the first 12 bytes aren't a spool's or the disk is shorter than
     /// its layout; then those of `recover`; then `Version` if the version is unknown; then `Damaged` if the spool is
-    /// invalid: a byte that has to be 0 isn't, the index area isn't that of a set, the next number is out of range, a
-    /// number occurs twice or isn't below the next one, a length is out of range, state bytes are invalid or don't fit
-    /// the counts, metadata isn't printable ASCII, a row's slot is free, or a slot's ordinals aren't those of its text.
-    /// `NoMemory` when out of memory, and `DiskFault` at a disk fault.
+    /// invalid. `NoMemory` when out of memory, and `DiskFault` at a disk fault.
+    ///
+    /// A spool is invalid if a byte that has to be 0 isn't, the index area isn't that of a set, the next number is out
+    /// of range, a number occurs twice or isn't below the next one, a length is out of range, state bytes are invalid
+    /// or don't fit the counts, metadata isn't printable ASCII, a row's slot is free, or a slot's ordinals aren't those
+    /// of its text.
     pub fn open(alloc: Global, disk: D) -> Result<Spool<D>, (D, OpenFault)>
         ensures size { D.size (disk_after result) ≡ D.size disk }
         ensures honest { D.honest disk ↔ D.honest (disk_after result) }

@@ -35,8 +35,8 @@ pub record OnlyDeclares (r : SlotRecord) (longer : Longer) : Type 0 where
 abbrev pub full_bytes : ℕ → ℕ
 full_bytes len = len - len % PAGE
 
--- with this length, where none was known, and these bytes the upload's text has these after it, and where the disk is
--- sure to hold what was written, the blocks hold what is not on the old full ones
+-- With this length, where none was known, and with these bytes, the upload's text grows by what is added. Where the
+-- disk is sure to hold what was written, the blocks hold what is not on the old full ones
 pub record IsExtension (sure : Type 0) (x : IndexSet) (u : Upload) (declare : Option ℕ) (bytes added : List ℕ)
     (longer : Longer) (more : List ℕ) (current : ℕ → ℕ) (first : ℕ) : Type 0 where
   pub declared : longer.declared ≡ known_or u.declared declare

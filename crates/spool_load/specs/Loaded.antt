@@ -41,7 +41,7 @@ pub record IsFoundOf (v : View) (found : Found) : Type 0 where
   pub blocks : found.layout ≡ v.blocks
   pub state : IsFoundState v.version v.next found
 
--- What is in memory is a valid view of these bytes, with n blocks.
+-- The catalog has a valid view of these bytes, with n blocks.
 pub record LoadedFrom (bytes : ℕ → ℕ) (n : ℕ) (catalog : Holding) : Type 0 where
   pub view : View
   pub valid : IsValid view
@@ -63,8 +63,8 @@ pub record ReadsView (size : ℕ) (before after : ℕ → ℕ) (So : View → Ty
   pub encodes : EncodesBy size before after view
   pub so : So view
 
--- The answers of `find` and of `load` by what the reads gave: what was found or read is what they encode, each error
--- has its reason, and a valid view is found and read, unless memory or the disk refuses.
+-- The answers of `find` and of `load` by what the reads gave. What was found or read is what the reads encode. Each
+-- error has its reason. A valid view is found and read, unless memory or the disk refuses.
 
 -- So it is on a disk that begins as a spool of n blocks.
 pub record RestoresBy (n : ℕ) (result : Result Found OpenFault) (before after : ℕ → ℕ) : Type 0 where
@@ -82,7 +82,7 @@ pub record LoadsBy (size : ℕ) (before after : ℕ → ℕ) (result : Result Ho
   pub loads : (v : View) → IsValid v → EncodesBy size before after v
       → LoadsAs result (λ catalog. HasViewAlone catalog v)
 
--- What is in memory is a valid view by the plain reading, and the disk has room for its blocks.
+-- The catalog has a valid view by the plain reading, and the disk has room for its blocks.
 pub record OpenedFrom (size : ℕ) (current : ℕ → ℕ) (catalog : Holding) : Type 0 where
   pub view : View
   pub valid : IsValid view

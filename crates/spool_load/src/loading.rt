@@ -94,7 +94,7 @@ pub fn read<D: Disk>(alloc: Global, disk: &mut D, found: Found) -> Result<Catalo
         → (v : View) → IsValid v → IsFoundOf v found → Encodes bytes v
         → Loads result (λ catalog. HasViewAlone catalog v) }
 
-    // On any disk what is then in memory is a view, and shows uploads.
+    // On any disk the catalog has a view, which shows uploads.
     ensures view { IfOk result (λ catalog. (v : View) × (m : Store) × HasViewAlone catalog v × Shows v m) }
 
     // What is read is valid, and is what the bytes encode.

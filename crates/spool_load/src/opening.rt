@@ -40,10 +40,10 @@ pub fn load<D: Disk>(alloc: Global, disk: &mut D) -> Result<Catalog, OpenFault>
     ensures decoded { D.honest disk.old → OfView (D.size disk.old) (D.current disk.old)
         (λ v. LoadsAs result (λ catalog. HasViewAlone catalog v)) }
 
-    // On any disk what is then in memory is a view, and shows uploads.
+    // On any disk the catalog has a view, which shows uploads.
     ensures view { IfOk result (λ catalog. (v : View) × (m : Store) × HasViewAlone catalog v × Shows v m) }
 
-    // What is in memory is what a read gives, and it is valid. Each error has its reason.
+    // The catalog has the view that a read gives, and it is valid. Each error has its reason.
     ensures valid { D.honest disk.old → IfOk result (OpenedFrom (D.size disk.old) (D.current disk.old)) }
     ensures refused { D.honest disk.old → IfErr result (RefusedFor (D.size disk.old) (D.current disk.old)) }
 

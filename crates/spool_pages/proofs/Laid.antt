@@ -1,4 +1,4 @@
--- Changed pages laid over what stood there, page by page.
+-- Changed pages laid over what was there, page by page.
 use Rattle.std.proofs.Common.{◌≡◌, inl, inr, ℕ, zero, suc, ◌+◌, ◌-◌, ◌*◌, ◌/◌, ◌%◌, ◌<◌, ◌≤◌, List, [], ◌∷◌, Option}
 use Rattle.std.proofs.Common.{None, Some, length, get_or, refl, sym, ◌∙◌, ap, arith}
 use Rattle.std.proofs.lemmas.Bool.{cases_eq, cases_lt}

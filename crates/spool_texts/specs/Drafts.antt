@@ -6,8 +6,9 @@ use Rattle.spool_blocks.specs.Blocks.{Held, IsFree}
 use Rattle.spool_texts.specs.TextOn.{blocks_on, text_on}
 use Rattle.spool_texts.specs.declared.block_text.Unread.{Unread}
 
--- The committed text's bytes after its last full block, until they are in memory; the blocks by ordinal, from that one
--- on; the bytes in memory, which aren't on a full block; and how many blocks fit the list before it grows.
+-- `unread` is the committed text's bytes after its last full block, until they are in memory. The blocks are by
+-- ordinal, from that one on. The unfinished bytes are in memory, and aren't on a full block. `room` is how many blocks
+-- fit the list before it grows.
 pub record Draft : Type 0 where
   pub unread : Option Unread
   pub blocks : List ℕ

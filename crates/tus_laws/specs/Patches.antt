@@ -1,9 +1,9 @@
 -- The PATCHes of a history: the event at which one is done, and its result.
 --
 -- An example. Upload 1 has length five and no bytes yet. Two connections PATCH it at offset 0, with five bytes each:
---   the first sends its head and `he`: its PATCH is open, and began at an upload without accepted bytes;
---   the second sends its head and `hello`: its PATCH is done, and accepted, and the upload has the five bytes;
---   the first sends `LLO`: its PATCH is done with the body `heLLO`. It began at offset 0, and the upload has five bytes
+--   The first sends its head and `he`: its PATCH is open, and began at an upload without accepted bytes.
+--   The second sends its head and `hello`: its PATCH is done, and accepted, and the upload has the five bytes.
+--   The first sends `LLO`: its PATCH is done with the body `heLLO`. It began at offset 0, and the upload has five bytes
 --   by now: it is refused with `Offset`, which is answered 409, and the upload has the same five bytes as before.
 -- Had a third connection sent a DELETE of upload 1 before that, the PATCH would be refused with `NoSuch`, answered 404.
 use Rattle.std.specs.Prelude.{◌≡◌, ◌<◌, ◌≤◌, ◌+◌, ◌++◌, ℕ, false, List, length, take, Option, Some, None}

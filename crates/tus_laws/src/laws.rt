@@ -18,7 +18,7 @@ ghost use Rattle.tus_laws.specs.Patches.{DonePatch, IsAccepted, IsRefused, HasBo
 ghost use Rattle.tus_laws.specs.Cuts.{all_moments, bytes_given, still_to_give, AllSmooth};
 
 /// Of two PATCHes with nonempty bodies that began at one offset of one upload, at most one is accepted, and the other
-/// changes nothing: each later one is refused, with `Offset` while the upload exists and with `NoSuch` once it is
+/// changes nothing. Each later one is refused, with `Offset` while the upload exists and with `NoSuch` once it is
 /// deleted. A PATCH began at the offset that it named. The history starts with a next number above those of its
 /// uploads, so that no upload gets the number of a deleted one.
 pub fn one_winner()

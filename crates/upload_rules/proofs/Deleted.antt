@@ -39,7 +39,7 @@ numbers_removed [] (suc i) = refl
 numbers_removed (s ∷ ss) zero = refl
 numbers_removed (s ∷ ss) (suc i) = ap (λ ns. s.record.number ∷ ns) (numbers_removed ss i)
 
--- an element of a list without its i-th stood at its place or one further
+-- an element of a list without its i-th was at its place or one further
 module _ (ns : List ℕ) (i : ℕ) (lt : i < length ns) where
   rising_removed : IsRising ns → IsRising (remove ns i)
   rising_removed rising a b less inside =

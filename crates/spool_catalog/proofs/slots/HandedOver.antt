@@ -37,7 +37,7 @@ module _ (list more : List ℕ) (first : ℕ) (low : first ≤ length list) wher
 
 module _ (old : List Row) (slot first : ℕ) (more : List ℕ) (new : List Row) (hands : HandsOver old slot first more new)
     (no_owner : Unowned old more) where
-  -- and its rows stay, but for the slot's last ones
+  -- each block is owned as before, but for the slot's last ones
   preserves : (b s i : ℕ) → Owns old b s i → (s ≡ slot → i < first) → Owns new b s i
   preserves b s i owns low = search (arith, common_steps)
 
