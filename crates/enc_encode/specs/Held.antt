@@ -20,7 +20,7 @@ pub record Passed {Z : Type 0} (old : Vec ℕ Z) (held bytes : List ℕ) (new : 
     pub parts : held ++ bytes ≡ prefix ++ still_held
     pub appended : Appended old prefix new
 
--- a code that goes after bytes that are held: it is passed on; or memory is wanted; or all before the first fault is
+-- a code that goes after bytes that are held: it is passed on; or out of memory; or all before the first fault is
 -- appended
 abbrev pub HoldsCode : {Z : Type 0} → Coded → Vec ℕ Z → List ℕ → Vec ℕ Z → List ℕ → Result ShiftState EncodeError
     → Type 0

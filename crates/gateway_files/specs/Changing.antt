@@ -18,7 +18,7 @@ pub record LimitsToAll (moment moment' : ℕ) (left_only left_only' : Option ℕ
       → AreAllAmong stores ms
       → left_only' blocks t ms
 
--- why uploads aren't changed: for memory, for the writer or for the disk
+-- why uploads aren't changed: out of memory, or refused by the writer or the disk
 abbrev pub IsChangeFault : Fault → Type 0
 IsChangeFault f = (f ≡ Stop NoMemory) ⊎ (f ≡ Io) ⊎ (f ≡ Stop DiskFault)
 

@@ -29,12 +29,12 @@ pub record AnswersAs {T : Type 0} (So : Store → Type 0) (size : ℕ) (result :
     pub refused : IfErr result (ListRefusedBy size before after)
     pub done : OnOk result (ReadsView size before after (λ v. (m : Store) → Shows v m → So m))
 
--- refused with this fault, or for memory or by the disk
+-- refused with this fault, or out of memory or by the disk
 abbrev pub RefusesListAs : {T : Type 0} → Result T Fault → Fault → Type 0
 RefusesListAs (Ok t) fault = ⊥
 RefusesListAs (Err f) fault = (f ≡ fault) ⊎ (f ≡ Stop NoMemory) ⊎ (f ≡ Stop DiskFault)
 
--- why lines aren't written: for memory, or for the writer
+-- why lines aren't written: out of memory, or refused by the writer
 abbrev pub IsLineFault : Fault → Type 0
 IsLineFault f = (f ≡ Stop NoMemory) ⊎ (f ≡ Io)
 

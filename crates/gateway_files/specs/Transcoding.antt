@@ -27,7 +27,7 @@ IsConverted t c None prefix held = ⊤
 IsConverted t c (Some input) prefix held =
     ((stored_as t c input).fault ≡ None) × Appends prefix held (stored_as t c input).bytes
 
--- why it isn't: for memory, for the reader or the writer, or since a character has no code
+-- why it isn't: out of memory, refused by the reader or the writer, or a character has no code
 abbrev pub IsTextFault : Fault → Type 0
 IsTextFault f = (f ≡ Stop NoMemory) ⊎ (f ≡ Io) ⊎ ((c : Option ℕ) × (f ≡ Unencodable c))
 

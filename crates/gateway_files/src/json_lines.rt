@@ -95,7 +95,7 @@ fn write_line<W: Write>(
         metadata: record.metadata.as_str(),
         losses,
     };
-    // It fails for memory alone.
+    // It fails only when out of memory.
     let Ok(line) = serde_json::to_string(alloc, &line) else {
         return Err(Fault::Stop(Stop::NoMemory));
     };

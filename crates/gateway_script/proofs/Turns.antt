@@ -51,7 +51,7 @@ falling was now f falls is = falls.falls.1 (inr (ap Err is))
 pub surely : {C : Type 0} {v : RunView C} {r : Run} → IsRunAt v r → v.sure ≡ true → v.u.represents v.now true r.state
 surely {v = v} {r = r} at known = subst (λ b. v.u.represents v.now b r.state) known at.represents
 
--- what a call has to write is written, or nothing for want of memory, or a prefix
+-- what a call has to write is written, or nothing when out of memory, or a prefix
 abbrev Writes : Option (List ℕ) → Option (List ℕ) → Result (Unit {0}) CallFault → List ℕ → Type 0
 Writes old new (Ok x) last = Appends old new last
 Writes old new (Err (faults.Stop stops.DiskFault)) last = ⊥

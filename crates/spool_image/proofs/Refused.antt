@@ -111,7 +111,7 @@ module _ (size : ℕ) (current : ℕ → ℕ) where
         let one : version_number v.version ≡ 1 = ap version_number old in
         omega (arith, same, one)
 
-  -- it is refused so, or for memory or by the disk
+  -- it is refused so, or out of memory or by the disk
   abbrev pub Upgrades : UpgradeError → UpgradeError → Type 0
   Upgrades e error = (e ≡ error) ⊎ (e ≡ Open (Stop NoMemory)) ⊎ (e ≡ Open (Stop DiskFault))
 
