@@ -6,6 +6,17 @@ use enc_encode::EncodeError;
 use std::alloc::AllocError;
 
 /// Why a transcoder stopped.
+///
+/// A character that Shift_JIS lacks, in fatal mode, and the call after it:
+///
+/// ```
+/// let mut out = Vec::new(alloc);
+/// let mut transcoder = Transcoder::new(Encoding::Utf8, Encoding::ShiftJis, Mode::Fatal);
+/// let refused = transcoder.feed(&set, "\u{1F600}".as_bytes(), &mut out);
+/// assert_eq!(rt; refused, Err(TranscodeError::Unencodable('\u{1F600}')));
+/// let refused = transcoder.finish(&set, &mut out);
+/// assert_eq!(rt; refused, Err(TranscodeError::Spent));
+/// ```
 #[derive(Clone, Copy, Debug, PartialEq, Eq)]
 pub enum TranscodeError {
     /// The output could not grow.

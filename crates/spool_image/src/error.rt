@@ -9,6 +9,15 @@ use std::alloc::AllocError;
 use thiserror::Error;
 
 /// Why `format` makes no spool.
+///
+/// Too few blocks, and a disk that is a spool already:
+///
+/// ```
+/// assert_eq!(rt; format(&mut disk, 15, &indexes), Err(FormatError::Size));
+/// assert_eq!(rt; format(&mut disk, 16, &indexes), Ok(()));
+/// let again = format(&mut disk, 16, &indexes);
+/// assert_eq!(rt; again, Err(FormatError::AlreadySpool));
+/// ```
 #[derive(Clone, Copy, Debug, PartialEq, Eq, Drop, Error)]
 pub enum FormatError {
     /// The disk begins as a spool.
@@ -33,6 +42,16 @@ impl From<DiskFault> for FormatError {
 }
 
 /// Why `upgrade` fails.
+///
+/// A disk of zeros, and a spool of version 2, which `format` makes:
+///
+/// ```
+/// let no_spool = upgrade(alloc, &mut disk);
+/// assert_eq!(rt; no_spool, Err(UpgradeError::Open(OpenFault::NotASpool)));
+/// format(&mut disk, 16, &indexes).expect(rt, "a long disk");
+/// let new_spool = upgrade(alloc, &mut disk);
+/// assert_eq!(rt; new_spool, Err(UpgradeError::AlreadyNew));
+/// ```
 #[derive(Clone, Copy, Debug, PartialEq, Eq, Drop, Error)]
 pub enum UpgradeError {
     /// The spool can't be opened.

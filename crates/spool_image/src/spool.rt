@@ -29,17 +29,21 @@ use upload_rules::{New, Record, UploadError, Uploads};
 /// The uploads on a disk, with the appends that are under way. After a `DiskFault` it represents no uploads any more:
 /// drafts can be dropped, and the disk can be taken back and opened again.
 ///
-/// An upload of five bytes, received in two pieces and committed at once:
+/// An upload of five bytes, received in two pieces and committed at once. The disk has 557 pages, and `new` has the
+/// fields of the upload:
 ///
 /// ```
-/// format(&mut disk, 16, &indexes)?;
-/// let mut spool = Spool::open(alloc, disk)?;
-/// let number = spool.create(new)?;
-/// let mut draft = spool.begin(number, 0, 5, None)?;
-/// spool.append(&mut draft, b"hel")?;
-/// spool.append(&mut draft, b"lo")?;
-/// let offset = spool.commit(draft)?;
-/// let read = spool.read_text(number, 0, &mut buf)?;
+/// format(&mut disk, 16, &indexes).expect(rt, "a long disk");
+/// let mut spool = Spool::open(alloc, disk).ok().expect(rt, "a spool");
+/// let number = spool.create(new).expect(rt, "a free slot");
+/// let mut draft = spool.begin(number, 0, 5, None).expect(rt, "a draft");
+/// spool.append(&mut draft, b"hel").expect(rt, "room");
+/// spool.append(&mut draft, b"lo").expect(rt, "room");
+/// assert_eq!(rt; spool.commit(draft), Ok(5));
+/// let mut text = [0; 5];
+/// assert_eq!(rt; spool.read_text(number, 0, &mut text), Ok(5));
+/// let disk = spool.into_disk();
+/// assert_eq!(rt; text, *b"hello");
 /// ```
 pub struct Spool<D: Disk> {
     alloc: Global,
@@ -51,7 +55,7 @@ pub struct Spool<D: Disk> {
     ghost fits: { DraftsFit catalog drafts.items } by { fits_prop catalog drafts.items },
 }
 
-/// A draft of a spool: the number of its append.
+/// A draft of a spool: the number of its append. See [`Spool`].
 pub struct SpoolAppend {
     number: usize,
 }
@@ -62,6 +66,17 @@ impl<D: Disk> Spool<D> {
 
     /// Opens a spool, and recovers it if a crash interrupted a commit. A crash during it does no harm: it may be called
     /// again.
+    ///
+    /// A disk of zeros is refused with an [`OpenFault`]:
+    ///
+    /// ```
+    /// let (disk, fault) = match Spool::open(alloc, disk) {
+    ///     Ok(_spool) => panic!(rt; "it is opened"),
+    ///     Err(refused) => refused,
+    /// };
+    /// assert_eq!(rt; fault, OpenFault::NotASpool);
+    /// assert_eq!(rt; disk.len(), 557 * 4096);
+    /// ```
     ///
     /// # Errors
     ///

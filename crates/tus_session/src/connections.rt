@@ -14,6 +14,17 @@ use crate::{Answer, SessionError};
 ///
 /// After one call was refused with `DiskFault` they are down: each further call is refused with `Down`, doesn't ask the
 /// disk, and leaves `out` unchanged.
+///
+/// One request, whatever the connections are driven by:
+///
+/// ```
+/// conns.opened(0).expect(rt, "a free place");
+/// let bytes = b"OPTIONS /files HTTP/1.1\r\n\r\n";
+/// let answer = conns.came(0, bytes, &mut out).expect(rt, "memory");
+/// conns.ended(0).expect(rt, "an open connection");
+/// assert_eq!(rt; answer.taken, bytes.len());
+/// assert!(rt; out.starts_with(b"HTTP/1.1 204 No Content\r\n"));
+/// ```
 pub trait Connections {
     /// The connections represent this state. If that is sure, the disk is honest and holds the texts; otherwise nothing
     /// is claimed of the disk.

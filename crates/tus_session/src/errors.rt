@@ -5,6 +5,14 @@ ghost use Rattle.tus_session.specs.declared.errors.SessionError.{SessionError};
 use common::Stop;
 
 /// Why a session refuses a call.
+///
+/// A number that no connection has, and a connection that isn't open:
+///
+/// ```
+/// assert_eq!(rt; session.opened(MOST_OPEN), Err(SessionError::TooMany));
+/// let refused = session.came(&mut store, 0, b"OPTIONS", &mut out);
+/// assert_eq!(rt; refused, Err(SessionError::Closed));
+/// ```
 #[derive(Clone, Copy, Debug, PartialEq, Eq, Drop)]
 pub enum SessionError {
     /// Out of memory: nothing was committed, and the connection is closed. Or a disk fault.

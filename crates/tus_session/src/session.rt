@@ -28,12 +28,13 @@ pub const MOST_OPEN: usize = 16;
 /// A request that comes in two pieces, over a store in memory:
 ///
 /// ```
-/// let mut session = Session::new(alloc)?;
-/// session.opened(0)?;
-/// session.came(&mut store, 0, b"OPTIONS /files HT", &mut out)?;
-/// let answer = session.came(&mut store, 0, b"TP/1.1\r\n\r\n", &mut out)?;
+/// let mut session = Session::new(alloc).expect(rt, "memory");
+/// session.opened(0).expect(rt, "a free place");
+/// let first = session.came(&mut store, 0, b"OPTIONS /files HT", &mut out);
+/// let second = session.came(&mut store, 0, b"TP/1.1\r\n\r\n", &mut out);
+/// assert!(rt; first.is_ok() && second.is_ok());
+/// session.close(&mut store);
 /// assert!(rt; out.starts_with(b"HTTP/1.1 204 No Content\r\n"));
-/// session.ended(&mut store, 0)?;
 /// ```
 pub struct Session<U: Uploads> {
     alloc: Global,
