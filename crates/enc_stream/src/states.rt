@@ -91,7 +91,7 @@ pub fn euc_jp_bytes(state: &EucJpState) -> [u8; 4]
     ensures bytes { result ≡ padded 4 (decoder_bytes (OfEucJp state.now)) }
     ensures reached { IsReached (OfEucJp state.now) }
 {
-    let (lead, flag) = state.partial();
+    let (lead, flag) = state.parts();
     [lead, flag as u8, 0, 0]
 }
 
@@ -138,5 +138,5 @@ pub fn iso2022_at(bytes: [u8; 4]) -> Option<Iso2022State>
         (6, 0x28) => Place::Escape(Introducer::Paren),
         _ => return None,
     };
-    Some(Iso2022State::transcoder_state(place, output, flag == 1))
+    Some(Iso2022State::in_state(place, output, flag == 1))
 }
