@@ -14,7 +14,7 @@ use crate::kind::ReadError;
 #[tactic(auto, using(crate::proofs::Cuts::before_here, crate::proofs::Cuts::after_here, crate::proofs::Cuts::prefix_next, crate::proofs::Cuts::after_next, crate::proofs::Cuts::before_end, crate::proofs::Cuts::after_end))]
 fn cut(bytes: &[u8], mark: u8) -> (&[u8], Option<&[u8]>)
     ensures before { result.0.now ≡ before mark bytes.now }
-    ensures rest_if_any { option_copied result.1 ≡ rest_if_any mark bytes.now }
+    ensures after { option_copied result.1 ≡ rest_if_any mark bytes.now }
 {
     for (place, byte) in bytes.iter().enumerate() {
         if *byte == mark {

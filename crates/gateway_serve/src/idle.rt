@@ -49,7 +49,7 @@ impl Pace {
     /// Whether the socket is asked in this turn. Where the turn before did nothing each one is.
     pub(crate) fn is_due(&mut self, busy: bool) -> bool
         ensures idle { busy ≡ false → IsTrue result }
-        ensures watch_after { IsFalse result → passes_of self.old ≡ passes_of self.new + 1 }
+        ensures passed { IsFalse result → passes_of self.old ≡ passes_of self.new + 1 }
     {
         if busy && self.left > 0 {
             self.left -= 1;

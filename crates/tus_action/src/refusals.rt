@@ -37,7 +37,7 @@ pub(crate) fn refuse(
     out: &mut Vec<u8>,
 ) -> Result<(), Stop>
     ensures answer { RepliesTo result error on_files bare closes out.old.items out.new.items }
-    ensures reply_fault_of { IsErrOf result Stop.DiskFault ↔ (error ≡ UploadError.Stop Stop.DiskFault) }
+    ensures fault { IsErrOf result Stop.DiskFault ↔ (error ≡ UploadError.Stop Stop.DiskFault) }
     ensures few { GrowsBy longest_reply out.old.items out.new.items }
 {
     match error {
@@ -61,7 +61,7 @@ pub(crate) fn refused<B>(
     out: &mut Vec<u8>,
 ) -> Result<Done<B>, Stop>
     ensures answer { RepliesOnly result error on_files bare closes out.old.items out.new.items }
-    ensures reply_fault_of { IsErrOf result Stop.DiskFault ↔ (error ≡ UploadError.Stop Stop.DiskFault) }
+    ensures fault { IsErrOf result Stop.DiskFault ↔ (error ≡ UploadError.Stop Stop.DiskFault) }
     ensures few { GrowsBy longest_reply out.old.items out.new.items }
 {
     match refuse(alloc, error, on_files, bare, closes, out) {

@@ -135,8 +135,8 @@ returns-clause-same g c honest none fine =
     (c.find.ensures.honest.0 honest) (c.in_ok-found.ensures.settled honest) c.read.ensures.reads
     (c.find.ensures.same honest none (ok_no_fault _ _ c.in_ok-found.was))
 
-pub returns-clause-catalog : goal.returns-clause-catalog
-returns-clause-catalog g c honest v valid is room =
+pub returns-clause-has : goal.returns-clause-has
+returns-clause-has g c honest v valid is room =
     let settled = c.in_ok-found.ensures.settled honest in
     let found = c.in_ok-found.ensures.decoded honest v valid is room in
     c.in_ok-catalog.ensures.decoded _ (c.read.ensures.reads.gave (c.find.ensures.honest.0 honest) _
