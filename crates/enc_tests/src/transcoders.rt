@@ -7,8 +7,8 @@ use crate::sets::{all_files, few_pairs, set_of};
 use crate::strings::STRINGS;
 use crate::texts::TEXTS;
 use enc_index::{IndexSet, Kind};
-use enc_model::{Encoding, Mode};
-use enc_stream::{Progress, TranscodeError, Transcoder};
+use enc_model::Mode;
+use enc_stream::{TranscodeError, Transcoder};
 use std::alloc::Global;
 use std::process::Abort;
 
@@ -19,26 +19,6 @@ fn start_of(rt: &impl Abort, direction: &str, label: &str) -> Transcoder {
         "encode" => between(rt, "UTF-8", label, Mode::Html),
         _ => panic!(rt; "no direction"),
     }
-}
-
-/// The lines of the example of `Transcoder`.
-fn in_two_calls(rt: &impl Abort, set: &IndexSet, out: &mut Vec<u8>) -> Result<(), TranscodeError> {
-    let mut before = Transcoder::new(Encoding::ShiftJis, Encoding::Utf8, Mode::Html);
-    before.feed(set, b"\x82", out)?;
-    let stored = before.pack();
-
-    let mut after = Transcoder::unpack(&stored).expect(rt, "state bytes");
-    after.feed(set, b"\xA0", out)?;
-    after.finish(set, out)
-}
-
-#[test]
-fn example(rt: HostRuntime) {
-    let alloc = rt.alloc();
-    let set = set_of(&rt, alloc, &[(Kind::Jis0208, "283\t0x3042\n")]);
-    let mut out = Vec::new(alloc);
-    assert_eq!(rt; in_two_calls(&rt, &set, &mut out), Ok(()));
-    assert_eq!(rt; out.as_slice(), "\u{3042}".as_bytes());
 }
 
 /// The text of bytes that come in pieces of `size` bytes.

@@ -4,14 +4,11 @@ use crate::spools::{ends, opened};
 use crate::stories::{LONG_TEXT, TEN_THOUSAND};
 use crate::talks::Step::{self, Came, Made, Open, Patch, Patched};
 use crate::talks::{Talk, fresh};
-use enc_index::IndexSet;
 use gateway_engine::{Connections, Gateway};
 use spool_disk::MemoryDisk;
 use spool_image::Spool;
 use std::alloc::Global;
 use std::process::Abort;
-use tus_session::Session;
-use upload_rules::Table;
 
 /// A call: the connection, the received bytes, and how many bytes are sent back.
 type Call<'a> = (usize, &'a [u8], usize);
@@ -103,32 +100,6 @@ fn rest_is(
     assert!(rt; answer.closes == closes && !answer.more);
     assert!(rt; out.as_slice() == rest);
     drop(gateway.into_disk());
-}
-
-/// The example of `Session`.
-#[test]
-fn example(rt: HostRuntime) {
-    let alloc = rt.alloc();
-    let indexes = IndexSet::new(alloc).expect(&rt, "memory for a set");
-    let mut store = Table::new(alloc, indexes);
-    let mut out = Vec::new(alloc);
-    let mut session = Session::new(alloc).expect(&rt, "memory for a session");
-    session.opened(0).expect(&rt, "a connection");
-    session
-        .came(&mut store, 0, b"OPTIONS /files HT", &mut out)
-        .expect(&rt, "a part of a head");
-    let answer = session
-        .came(&mut store, 0, b"TP/1.1\r\n\r\n", &mut out)
-        .expect(&rt, "a head");
-    assert_eq!(rt;
-        (answer.taken, answer.closes, answer.more),
-        (10, false, false)
-    );
-    assert!(rt; out.starts_with(b"HTTP/1.1 204 No Content\r\n"));
-    session
-        .ended(&mut store, 0)
-        .expect(&rt, "an open connection");
-    session.close(&mut store);
 }
 
 /// The connection closes, because the rest of the text is gone.

@@ -119,20 +119,6 @@ pub(crate) fn has_text(spool: &mut Spool<MemoryDisk>, number: u64, want: &[u8]) 
     read == Ok(want.len()) && buf.starts_with(want)
 }
 
-/// The example of `Spool`.
-#[test]
-fn example(rt: HostRuntime) {
-    let alloc = rt.alloc();
-    let mut spool = opened(&rt, alloc, fresh(&rt, alloc));
-    let number = spool.create(plain(alloc, 5)).expect(&rt, "a slot");
-    let mut draft = spool.begin(number, 0, 5, None).expect(&rt, "a draft");
-    spool.append(&mut draft, b"hel").expect(&rt, "room");
-    spool.append(&mut draft, b"lo").expect(&rt, "room");
-    assert_eq!(rt; spool.commit(draft), Ok(5));
-    assert!(rt; has_text(&mut spool, number, b"hello"));
-    drop(spool.into_disk());
-}
-
 /// Each row: an upload's length without its last byte, whether another upload takes a block before that byte comes, and
 /// the answer to the append of that byte.
 const LAST_BYTES: [(u64, bool, Result<u64, UploadError>); 3] = [
