@@ -192,7 +192,7 @@ impl Encoder {
         ensures given { let f = encoder (tables set.now) self.old.to in
             Given (Took f self.old.mode) (λ a x e b. Refused f self.old.mode a x (reason_of e) b)
             (coder self.old out.old.items) (c ∷ []) (coder self.new out.new.items) result }
-        ensures unchanged { (self.new.to ≡ self.old.to) × (self.new.mode ≡ self.old.mode) }
+        ensures settings { (self.new.to ≡ self.old.to) × (self.new.mode ≡ self.old.mode) }
         ensures unchanged { OnErr result (self.new ≡ self.old) }
         ensures errors { Explains (code_from (tables set.now) self.old (c ∷ [])) out.old out.new result }
         ensures capacity { OnOk result (vec_capacity out.old ≤ vec_capacity out.new) }
@@ -259,7 +259,7 @@ impl Encoder {
         ensures given { (t : Tables) → let f = encoder t self.old.to in
             Given (Took f self.old.mode) (λ a x e b. Refused f self.old.mode a x (reason_of e) b)
             (coder self.old out.old.items) run.now (coder self.new out.new.items) result }
-        ensures unchanged { (self.new.to ≡ self.old.to) × (self.new.mode ≡ self.old.mode) }
+        ensures settings { (self.new.to ≡ self.old.to) × (self.new.mode ≡ self.old.mode) }
         ensures unchanged { OnErr result (self.new ≡ self.old) }
         ensures errors { (t : Tables) → Explains (code_from t self.old run.now) out.old out.new result }
         ensures capacity { OnOk result (vec_capacity out.old ≤ vec_capacity out.new) }
@@ -451,7 +451,7 @@ impl Encoder {
         ensures given { let f = encoder (tables set.now) self.old.to in
             Given (Took f self.old.mode) (λ a x e b. Refused f self.old.mode a x (reason_of e) b)
             (coder self.old out.old.items) (chars run.now) (coder self.new out.new.items) result }
-        ensures unchanged { (self.new.to ≡ self.old.to) × (self.new.mode ≡ self.old.mode) }
+        ensures settings { (self.new.to ≡ self.old.to) × (self.new.mode ≡ self.old.mode) }
         ensures unchanged { OnErr result (self.new ≡ self.old) }
         ensures errors { Explains (code_from (tables set.now) self.old (chars run.now)) out.old out.new result }
         ensures capacity { OnOk result (vec_capacity out.old ≤ vec_capacity out.new) }
