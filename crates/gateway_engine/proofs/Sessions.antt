@@ -125,7 +125,7 @@ module _ {U B : Type 0} (u : Ghosts U B) (g : Gateway U B) (sure : Bool) (st : S
       ([], record { answer = t.0.outcome; now_represents = at_same _ (stays Down t.0.outcome) t.0.represents up }, t.1)
 
   pub ends_does : (result : Result (Unit {0}) SessionError) → FallsBy (is_down g) result
-      → RefusedStays st (step st e Served) → results.Ends u sure places g.store result st e
+      → RefusedStays st (step st e Served) → results.EndsEvent u sure places g.store result st e
       → Does represents result st e
   ends_does (Ok x) falls stays t =
       record { answer = t.outcome; now_represents = at _ t.represents (still_up (Ok x) falls (λ f. absurd (cc))) }

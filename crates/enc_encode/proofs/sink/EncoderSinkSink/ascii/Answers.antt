@@ -13,5 +13,5 @@ returns c =
     let new = c.put_ascii.new in
     subst (λ z. Given SinkTook SinkRefused z c.args.run.now
     (record { encoder = new.self; set = i.set.now; out = new.out }) c.put_ascii.result) c.self.view_is
-    (given_sink i.set.now i.encoder new.self i.out new.out c.args.run.now c.put_ascii.result (e.given t) e.grown
+    (given_sink i.set.now i.encoder new.self i.out new.out c.args.run.now c.put_ascii.result (e.given t) e.settings
     (e.errors t) e.capacity)
