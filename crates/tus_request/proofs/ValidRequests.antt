@@ -85,7 +85,7 @@ choice_output a b m c q = ((λ e. grind arith), (λ e. grind arith))
 -- THE CHECKS
 module _ (offers : Encoding → Bool) where
   passed_valid : (x : checks.Asking) (a : Action) → x.length < 10 ^ 18 → IsValidAction offers a
-      → IsValidVerdict offers (checks.passed_patch x a)
+      → IsValidVerdict offers (checks.accepted_request x a)
   passed_valid x a small valid = record { length_is = small; action_is = valid }
 
   choice_valid : (x : checks.Asking) (declared : Option ℕ) (metadata : List ℕ) (o : Option Choice)
