@@ -120,7 +120,7 @@ module _ {C : Type 0} (v : RunView C) (now : C) (held : Option (List ℕ)) (r : 
         → Writes v.held held result (written (conn_in e) (Refused f))
         → Lands (current_after v now held) result (after_call r (conn_in e) e m)
     refused_so result other wrote =
-        let k = unfailed T f (v.u.represents now v.sure (step r.state e m).state) other represents in
+        let k = unfailed T f (v.u.represents now v.sure (step r.state e m).state) other after_is in
         landed (Refused f) (written (conn_in e) (Refused f)) result k.0 is k.1 refl wrote
 
     refused_at : (result : Result (Unit {0}) CallFault) → AreOnDisk v r → Falling v now f

@@ -43,7 +43,7 @@ module _ (size : ℕ) (before after : ℕ → ℕ) where
       other.other (known_at damaged.blocks other.blocks damaged.encodes other.encodes
       (damaged.version (subst J e other.journal)))
 
-  module _ (v : View) (valid : IsValid v) (encodes : EncodesBy size before after v) where
+  module _ (v : View) (valid : IsValid v) (encodes_by : EncodesBy size before after v) where
     pub view_is_spool : IsNoSpool size before → ⊥
     view_is_spool none = none v.blocks encodes_by.begins
 
