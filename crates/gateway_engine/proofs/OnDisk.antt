@@ -80,6 +80,7 @@ module _ {D U B : Type 0} (disk : Ghosts D) (disk_of : U → D) (size_of : U →
     moment = λ s. disk.moment (disk_of s);
     left_only = λ s blocks t ms. SpoolLeft disk (disk_of s) (size_of s) blocks t ms;
     failures = λ s. disk.failures (disk_of s);
+    reads = λ s. disk.reads (disk_of s);
   }
 
   -- from the uploads with which the run began to the uploads now
