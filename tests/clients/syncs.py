@@ -30,6 +30,8 @@ BLOCKS = 64
 COMMIT = "T*J+[Ss]O[Ss]P+[Ss]C[Ss]"
 SERVED = f"[Ss](?:{COMMIT}r*R?|T|r)*"
 RECOVERED = "[Ss]P+[Ss]C[Ss]"
+# (`list` opens the spool once more where a text has U+FFFD)
+OPENED = "[Ss]r*(?:[Ss]r*)?"
 FORMATTED = "LSF[CJIPT]+[Ss]B[Ss]r+"
 
 
@@ -136,13 +138,12 @@ def try_openings(log, program):
     """An opening syncs, and where the gate is open it brings the journal to its places."""
     spool = Spool(log.spool.read_bytes())
     ran, calls = log.run(program, "list")
-    # it finds the spool, to say what is free, and then opens it
-    is_word("an opening", "s[Ss]r*", word_of(spool, calls))
+    is_word("an opening", OPENED, word_of(spool, calls))
     listed = ran.stdout
     with open(log.spool, "r+b") as file:
         write_at(file, PAGE, bytes([OPEN]))
     ran, calls = log.run(program, "list")
-    is_word("a recovery", RECOVERED + "sr*", word_of(spool, calls))
+    is_word("a recovery", f"{RECOVERED}r*(?:{OPENED})?", word_of(spool, calls))
     same("a recovery: the gate is open", has_open_gate(log.spool), False)
     same("a recovery: what is listed", ran.stdout, listed)
     print("openings: one with the gate closed, one with the gate open")
