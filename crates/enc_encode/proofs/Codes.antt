@@ -23,7 +23,7 @@ use Rattle.enc_model.proofs.Coding.{ArePlain, reference_plain, coded_is}
 use Rattle.enc_model.proofs.Steady.{encoder_steady}
 use Rattle.enc_encode.specs.declared.shift.ShiftState.{ShiftState}
 use Rattle.enc_encode.specs.declared.written.Bytes.{Bytes}
-use Rattle.enc_encode.specs.declared.written.Written.{Written as CodeWritten}
+use Rattle.enc_encode.specs.declared.written.Written as code_written
 use Rattle.enc_encode.specs.declared.written.Written.TheVariants as code
 use Rattle.enc_encode.specs.Code.{final, written_of}
 use Rattle.enc_encode.specs.Held.{own_byte}
@@ -147,7 +147,7 @@ module _ (t : Tables) (to : Encoding) (mode : Mode) (s : Shift) (c : ℕ) where
       ∙ final_after mode b (encoder t to z c)
       ∙ ap (λ v. led_by b (final mode v)) (sym h)
 
-pub not_again : (w : CodeWritten) → ((b : Bytes) (s : ShiftState) → w ≡ code.Restore b s → ⊥)
+pub not_again : (w : code_written.Written) → ((b : Bytes) (s : ShiftState) → w ≡ code.Restore b s → ⊥)
     → IsNoRestore (written_of w)
 not_again (code.Wrote b s) n = tt
 not_again (code.Restore b s) n = n b s refl

@@ -1,9 +1,9 @@
 //! The numbers of encodings, modes and states in the state bytes. They are part of the spool's format.
 
 ghost use Rattle.std.specs.Prelude.{◌≡◌, Some, MatchOption};
-ghost use Rattle.enc_model.specs.declared.Encoding.{Encoding as Encodings};
-ghost use Rattle.enc_model.specs.declared.Mode.{Mode as Modes};
-ghost use Rattle.enc_model.specs.declared.Charset.{Charset as Charsets};
+ghost use Rattle.enc_model.specs.declared.Encoding.{Encoding};
+ghost use Rattle.enc_model.specs.declared.Mode.{Mode};
+ghost use Rattle.enc_model.specs.declared.Charset.{Charset};
 ghost use Rattle.enc_model.specs.Encode.{Shift};
 ghost use Rattle.enc_encode.specs.State.{shift_of};
 ghost use Rattle.enc_stream.specs.StateBytes.{encoding_number, mode_number, shift_number, charset_number};
@@ -20,7 +20,7 @@ pub fn number_of_encoding(encoding: Encoding) -> u8
 
 /// The encoding of this number.
 pub fn encoding_at(number: u8) -> Option<Encoding>
-    ensures { (e : Encodings) → encoding_number e ≡ number → result ≡ Some e }
+    ensures { (e : Encoding) → encoding_number e ≡ number → result ≡ Some e }
 {
     Some(match number {
         0 => Encoding::Utf8,
@@ -57,7 +57,7 @@ pub fn number_of_mode(mode: Mode) -> u8
 
 /// The mode of this number.
 pub fn mode_at(number: u8) -> Option<Mode>
-    ensures { (m : Modes) → mode_number m ≡ number → result ≡ Some m }
+    ensures { (m : Mode) → mode_number m ≡ number → result ≡ Some m }
 {
     match number {
         0 => Some(Mode::Html),
@@ -94,7 +94,7 @@ pub fn number_of_charset(set: Charset) -> u8
 
 /// The character set of this number.
 pub fn charset_at(number: u8) -> Option<Charset>
-    ensures { (s : Charsets) → charset_number s ≡ number → result ≡ Some s }
+    ensures { (s : Charset) → charset_number s ≡ number → result ≡ Some s }
 {
     match number {
         0 => Some(Charset::Ascii),

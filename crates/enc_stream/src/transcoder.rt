@@ -2,10 +2,10 @@
 
 ghost use Rattle.std.specs.Prelude.{◌≡◌, ◌≢◌, ◌++◌, List, [], ℕ, Some, None, true, false, OnOk, IfErr, IfSome};
 ghost use Rattle.std.specs.Prelude.{MatchOption, IsErrOf, IsTrue, ◌↔◌};
-ghost use Rattle.enc_model.specs.Decode.{text as text_of};
+ghost use Rattle.enc_model.specs.Decode.{text};
 ghost use Rattle.enc_model.specs.Encode.{Tables};
 ghost use Rattle.enc_model.specs.Indexes.{tables};
-ghost use Rattle.enc_model.specs.Transcode.{Transcoder as State, IsStateAt, added, added_end, so_far};
+ghost use Rattle.enc_model.specs.Transcode.{Transcoder, IsStateAt, added, added_end, so_far};
 ghost use Rattle.enc_encode.specs.State.{EncoderState};
 ghost use Rattle.enc_stream.specs.Progress.{progress_of};
 ghost use Rattle.enc_stream.specs.Stage.{phase_at};
@@ -225,7 +225,8 @@ impl Transcoder {
     /// The transcoder with these state bytes. Bytes of no state may be taken for another's.
     fn read(bytes: &[u8; 32]) -> Option<Self>
         ensures ready { IfSome result (λ t. t.spent ≡ false) }
-        ensures same { (s : State) → IsValidState s → state_bytes s ≡ bytes.now → result ≡ Some (transcoder_state s) }
+        ensures same { (s : Transcoder) → IsValidState s → state_bytes s ≡ bytes.now
+            → result ≡ Some (transcoder_state s) }
     {
         let [
             from,
@@ -254,9 +255,10 @@ impl Transcoder {
 
     /// The transcoder with these state bytes, or None if no transcoder has them. Each state has exactly one spelling.
     pub fn unpack(bytes: &[u8; 32]) -> Option<Self>
-        ensures unpacked { MatchOption result ((s : State) → IsValidState s → state_bytes s ≢ bytes.now)
+        ensures unpacked { MatchOption result ((s : Transcoder) → IsValidState s → state_bytes s ≢ bytes.now)
             (λ t. (t.spent ≡ false) × IsValidState t.transcoder × (state_bytes t.transcoder ≡ bytes.now)) }
-        ensures only { (s : State) → IsValidState s → state_bytes s ≡ bytes.now → result ≡ Some (transcoder_state s) }
+        ensures only { (s : Transcoder) → IsValidState s → state_bytes s ≡ bytes.now
+            → result ≡ Some (transcoder_state s) }
     {
         let transcoder = Self::read(bytes)?;
         if transcoder.pack() == *bytes {
@@ -315,10 +317,10 @@ impl Transcoder {
         ensures no_fault { OnOk result ((added_end (tables set.now) self.old.transcoder).fault ≡ None) }
         ensures over { OnOk result (self.new ≡ ended_state self.old) }
         ensures text { (b : List ℕ) → IsStateAt (tables set.now) self.old.transcoder b → OnOk result
-            (((text_of (tables set.now) self.old.transcoder.from self.old.transcoder.to self.old.transcoder.mode b
+            (((text (tables set.now) self.old.transcoder.from self.old.transcoder.to self.old.transcoder.mode b
             true).fault ≡ None)
             × ((before : List ℕ) → out.old.items ≡ before ++ (so_far (tables set.now) self.old.transcoder b).bytes
-            → out.new.items ≡ before ++ (text_of (tables set.now) self.old.transcoder.from self.old.transcoder.to
+            → out.new.items ≡ before ++ (text (tables set.now) self.old.transcoder.from self.old.transcoder.to
             self.old.transcoder.mode b true).bytes)) }
         ensures refused { IfErr result
             (λ e. RefusedAs e (added_end (tables set.now) self.old.transcoder) out.old out.new self.old self.new) }

@@ -13,7 +13,7 @@ use Rattle.tus_session.specs.History.{State, Mark, Marked}
 use Rattle.tus_session.specs.Images.{stores_of, last_stores, last_blocks, ShowsLast, LimitsTo}
 use Rattle.gateway_script.proofs.Outputs.{appends_nothing}
 use Rattle.gateway_script.specs.Script as script
-use Rattle.gateway_script.specs.Script.{script as the_script, Run, run_lines, script_lines, run_from, ended_as, Exit}
+use Rattle.gateway_script.specs.Script.{script_result, Run, run_lines, script_lines, run_from, ended_as, Exit}
 use Rattle.gateway_script.specs.Script.{Ran, AtLine, Faulted}
 use Rattle.gateway_script.specs.Outputs.{IsFirst, BreaksOff}
 use Rattle.gateway_script.specs.Runs.{RunView, with_marks, HasWritten, IsHistory, IsRunAt, IsDown, Reaches, StopsAt}
@@ -46,9 +46,9 @@ begins v same represents is = record {
 }
 
 -- the script, by its marks
-script_is : (st : State) (marks : List Mark) (bytes : List ℕ) → the_script st marks bytes ≡ run_lines 1 0
+script_is : (st : State) (marks : List Mark) (bytes : List ℕ) → script_result st marks bytes ≡ run_lines 1 0
     (script_lines bytes) (with_marks (run_from st []) marks)
-unfolding the_script
+unfolding script_result
 script_is st marks bytes = refl
 
 -- the uploads are on the disk
@@ -86,12 +86,12 @@ module _ {U B C : Type 0} (u : Ghosts U B) (v : RunView C) (before store : U) (b
   begun = run_from v.st []
 
   ends_as : (s : Run) (exit : Exit) → (p : Reaches lines begun (λ x. ended_as x exit) s)
-      → the_script v.st (p.0 ++ []) bytes ≡ ended_as (with_marks s []) exit
+      → script_result v.st (p.0 ++ []) bytes ≡ ended_as (with_marks s []) exit
   ends_as s exit p = script_is v.st (p.0 ++ []) bytes ∙ p.1 []
 
   ended_so : (s : Run) (exit : Exit) → (p : Reaches lines begun (λ x. ended_as x exit) s)
       → HasWritten v.sure v.prefix v.held v.st s.past → IsHistory v s
-      → EndedSo u v.sure before store v.st (the_script v.st (p.0 ++ []) bytes) v.held v.prefix exit
+      → EndedSo u v.sure before store v.st (script_result v.st (p.0 ++ []) bytes) v.held v.prefix exit
   ended_so s exit p wrote is =
       let now : EndedSo u v.sure before store v.st (ended_as (with_marks s []) exit) v.held v.prefix exit = record {
         writes = record { exits = refl; all = wrote };
@@ -102,7 +102,7 @@ module _ {U B C : Type 0} (u : Ghosts U B) (v : RunView C) (before store : U) (b
       subst (λ r. EndedSo u v.sure before store v.st r v.held v.prefix exit) (sym (ends_as s exit p)) now
 
   rests_so : (s : Run) (exit : Exit) → (p : Reaches lines begun (λ x. ended_as x exit) s) → IsRunAt v s
-      → (marks : List Mark) × RestsSo u v.sure before store v.st (the_script v.st marks bytes) v.held v.prefix exit
+      → (marks : List Mark) × RestsSo u v.sure before store v.st (script_result v.st marks bytes) v.held v.prefix exit
   rests_so s exit p at = (
     p.0 ++ [],
     record {
@@ -112,7 +112,7 @@ module _ {U B C : Type 0} (u : Ghosts U B) (v : RunView C) (before store : U) (b
   )
 
   failed_so : (s : Run) → (p : Reaches lines begun (λ x. ended_as x Faulted) s) → IsDown v s
-      → (marks : List Mark) × FailedSo u v.sure before store v.st (the_script v.st marks bytes) v.held v.prefix
+      → (marks : List Mark) × FailedSo u v.sure before store v.st (script_result v.st marks bytes) v.held v.prefix
   failed_so s p down = (
     p.0 ++ [],
     record {
@@ -123,7 +123,8 @@ module _ {U B C : Type 0} (u : Ghosts U B) (v : RunView C) (before store : U) (b
   )
 
   stopped_so : (fault : CallFault) → StopsAt v fault script_past lines begun
-      → (marks : List Mark) × StoppedSo u v.sure before store v.st (the_script v.st marks bytes) v.held v.prefix fault
+      → (marks : List Mark)
+      × StoppedSo u v.sure before store v.st (script_result v.st marks bytes) v.held v.prefix fault
   stopped_so fault p = (
     p.1.0 ++ [],
     record {
@@ -153,13 +154,13 @@ module _ {U B C : Type 0} (u : Ghosts U B) (v : RunView C) (before store : U) (b
 module _ {U B : Type 0} (u : Ghosts U B) (sure : Bool) (store : U) (held : Option (List ℕ)) (st : State)
     (bytes : List ℕ) (represents : IsAtRest u sure store st) (durable : sure ≡ true → IsDurable u store st) where
   none_so : (fault : CallFault) → BreaksOff sure fault st [] []
-      → (marks : List Mark) × StoppedSo u sure store store st (the_script st marks bytes) held held fault
+      → (marks : List Mark) × StoppedSo u sure store store st (script_result st marks bytes) held held fault
   none_so fault most = (
     [],
     record {
       writes = record {
         past = [];
-        first = ((the_script st [] bytes).run.past, sym (append-nil (the_script st [] bytes).run.past));
+        first = ((script_result st [] bytes).run.past, sym (append-nil (script_result st [] bytes).run.past));
         out = [];
         wrote = appends_nothing held;
         most = most;

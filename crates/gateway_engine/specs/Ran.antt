@@ -7,7 +7,7 @@ use Rattle.upload_rules.specs.declared.uploads.Uploads.{Ghosts}
 use Rattle.tus_session.specs.History.{State, Mark, Marked, history}
 use Rattle.tus_session.specs.Images.{stores_of, ShowsLast, LimitsTo}
 use Rattle.gateway_script.specs.Script as script
-use Rattle.gateway_script.specs.Script.{script as the_script, Exit, Ran, AtLine, Faulted}
+use Rattle.gateway_script.specs.Script.{script_result, Exit, Ran, AtLine, Faulted}
 use Rattle.gateway_script.specs.Outputs.{IsFirst, output_of, BreaksOff}
 use Rattle.gateway_script.specs.Runs.{HasWritten}
 use Rattle.gateway_script.specs.declared.faults.CallFault.{CallFault}
@@ -72,15 +72,16 @@ pub record StoppedSo {U B : Type 0} (u : Ghosts U B) (sure : Bool) (before now :
 abbrev pub HasRun : {U B : Type 0} → Ghosts U B → Bool → U → Result U (U × ScriptFault) → Option (List ℕ)
     → Option (List ℕ) → State → List ℕ → Type 0
 HasRun u sure before (Ok store) held prefix st bytes =
-    (marks : List Mark) × RestsSo u sure before store st (the_script st marks bytes) held prefix Ran
+    (marks : List Mark) × RestsSo u sure before store st (script_result st marks bytes) held prefix Ran
 HasRun u sure before (Err (store, Script n)) held prefix st bytes =
-    (marks : List Mark) × RestsSo u sure before store st (the_script st marks bytes) held prefix (AtLine n)
+    (marks : List Mark) × RestsSo u sure before store st (script_result st marks bytes) held prefix (AtLine n)
 HasRun u sure before (Err (store, Stop DiskFault)) held prefix st bytes =
-    (marks : List Mark) × FailedSo u sure before store st (the_script st marks bytes) held prefix
+    (marks : List Mark) × FailedSo u sure before store st (script_result st marks bytes) held prefix
 HasRun u sure before (Err (store, Stop NoMemory)) held prefix st bytes =
-    (marks : List Mark) × StoppedSo u sure before store st (the_script st marks bytes) held prefix (calls.Stop NoMemory)
+    (marks : List Mark)
+    × StoppedSo u sure before store st (script_result st marks bytes) held prefix (calls.Stop NoMemory)
 HasRun u sure before (Err (store, Io)) held prefix st bytes =
-    (marks : List Mark) × StoppedSo u sure before store st (the_script st marks bytes) held prefix calls.Io
+    (marks : List Mark) × StoppedSo u sure before store st (script_result st marks bytes) held prefix calls.Io
 
 -- the disk failed
 abbrev pub HasFailed : {U : Type 0} → Result U (U × ScriptFault) → Type 0

@@ -11,7 +11,7 @@ use Rattle.upload_rules.specs.Store.{Store}
 use Rattle.tus_session.specs.History.{State, Mark, Marked, history}
 use Rattle.tus_session.specs.Images.{AllAmong, stores_of, last_stores}
 use Rattle.gateway_script.specs.Script as script
-use Rattle.gateway_script.specs.Script.{script as the_script, Exit, Ran, AtLine, Faulted}
+use Rattle.gateway_script.specs.Script.{script_result, Exit, Ran, AtLine, Faulted}
 use Rattle.gateway_script.specs.Outputs.{IsFirst, output_of, WroteMost}
 use Rattle.gateway_script.specs.declared.faults.CallFault.{CallFault}
 use Rattle.gateway_script.specs.declared.faults.CallFault.TheVariants as calls
@@ -76,15 +76,15 @@ abbrev pub HasRunOn : {D : Type 0} → Ghosts D → D → Result D (D × ScriptF
     → State
     → List ℕ → Type 0
 HasRunOn disk before (Ok d) held prefix n st bytes =
-    (marks : List Mark) × RestsOn disk before d n st (the_script st marks bytes) held prefix Ran
+    (marks : List Mark) × RestsOn disk before d n st (script_result st marks bytes) held prefix Ran
 HasRunOn disk before (Err (d, Script line)) held prefix n st bytes =
-    (marks : List Mark) × RestsOn disk before d n st (the_script st marks bytes) held prefix (AtLine line)
+    (marks : List Mark) × RestsOn disk before d n st (script_result st marks bytes) held prefix (AtLine line)
 HasRunOn disk before (Err (d, Stop DiskFault)) held prefix n st bytes =
-    (marks : List Mark) × FailedOn disk before d n st (the_script st marks bytes) held prefix
+    (marks : List Mark) × FailedOn disk before d n st (script_result st marks bytes) held prefix
 HasRunOn disk before (Err (d, Stop NoMemory)) held prefix n st bytes =
-    (marks : List Mark) × StoppedOn disk before d n st (the_script st marks bytes) held prefix (calls.Stop NoMemory)
+    (marks : List Mark) × StoppedOn disk before d n st (script_result st marks bytes) held prefix (calls.Stop NoMemory)
 HasRunOn disk before (Err (d, Io)) held prefix n st bytes =
-    (marks : List Mark) × StoppedOn disk before d n st (the_script st marks bytes) held prefix calls.Io
+    (marks : List Mark) × StoppedOn disk before d n st (script_result st marks bytes) held prefix calls.Io
 
 -- WHATEVER THE DISK
 
@@ -92,12 +92,12 @@ HasRunOn disk before (Err (d, Io)) held prefix n st bytes =
 abbrev pub WritesRun : {D : Type 0} → Result D (D × ScriptFault) → Option (List ℕ) → Option (List ℕ) → State → List ℕ
     → Type 0
 WritesRun (Ok d) held prefix st bytes =
-    (marks : List Mark) × WritesAll false st (the_script st marks bytes) held prefix Ran
+    (marks : List Mark) × WritesAll false st (script_result st marks bytes) held prefix Ran
 WritesRun (Err (d, Script line)) held prefix st bytes =
-    (marks : List Mark) × WritesAll false st (the_script st marks bytes) held prefix (AtLine line)
+    (marks : List Mark) × WritesAll false st (script_result st marks bytes) held prefix (AtLine line)
 WritesRun (Err (d, Stop DiskFault)) held prefix st bytes =
-    (marks : List Mark) × WritesAll false st (the_script st marks bytes) held prefix Faulted
+    (marks : List Mark) × WritesAll false st (script_result st marks bytes) held prefix Faulted
 WritesRun (Err (d, Stop NoMemory)) held prefix st bytes =
-    (marks : List Mark) × WritesSome false st (the_script st marks bytes) held prefix (calls.Stop NoMemory)
+    (marks : List Mark) × WritesSome false st (script_result st marks bytes) held prefix (calls.Stop NoMemory)
 WritesRun (Err (d, Io)) held prefix st bytes =
-    (marks : List Mark) × WritesSome false st (the_script st marks bytes) held prefix calls.Io
+    (marks : List Mark) × WritesSome false st (script_result st marks bytes) held prefix calls.Io

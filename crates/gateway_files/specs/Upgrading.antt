@@ -13,7 +13,7 @@ use Rattle.spool_image.specs.Upgrade.{UpgradesOf}
 use Rattle.spool_journal.specs.Image.{all_pages}
 use Rattle.spool_journal.specs.declared.TheConstants.{PAGE}
 use Rattle.spool_catalog.specs.Shows.{IsValid}
-use Rattle.spool_pages.specs.Changes.{upgraded as of_version_2}
+use Rattle.spool_pages.specs.Changes as changes
 use Rattle.spool_pages.specs.Rests.{Rests}
 use Rattle.spool_pages.specs.View.{View, IsViewOf}
 use Rattle.spool_image.specs.declared.error.UpgradeError.{UpgradeError}
@@ -49,7 +49,7 @@ pub record Upgrades {T D : Type 0} (disk : Ghosts D) (d d' : D) (result : Result
       → Preserves (disk.current d) (disk.current d') (disk.unsynced d) (disk.unsynced d'))
   pub lasts : disk.honest d → (v : View) → IsValid v → IsViewOf (disk.current d) v
       → PAGE * all_pages v.blocks ≤ disk.size d → Lasts disk d d' (λ image.
-      IsImage (disk.current d) (disk.unsynced d) image ⊎ IsViewOf image v ⊎ IsViewOf image (of_version_2 v))
+      IsImage (disk.current d) (disk.unsynced d) image ⊎ IsViewOf image v ⊎ IsViewOf image (changes.upgraded v))
   pub crash : (n : ℕ) (m : Store) → IsSpool disk d n m → Lasts disk d d' (LeftOrShows disk d n m)
   pub shows : (n : ℕ) (m : Store) → IsSpool disk d n m → (result ≡ Err (Open (Stop DiskFault)) → ⊥)
       → AllShow disk d' n m

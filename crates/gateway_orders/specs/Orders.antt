@@ -6,9 +6,9 @@ use Rattle.clap.specs.Walk.{Row, Text, first_of}
 use Rattle.gateway_orders.specs.Given.{HasFlag, HasNumber, HasNumbers, HasArgument}
 use Rattle.gateway_orders.specs.Program.{program}
 use Rattle.gateway_orders.specs.declared.orders.Order.{Order}
-use Rattle.gateway_orders.specs.declared.orders.Order.TheVariants.{Format, Script, Serve, Up, List as Listing, Json}
+use Rattle.gateway_orders.specs.declared.orders.Order.TheVariants.{Format, Script, Serve, Up, Json}
 use Rattle.gateway_orders.specs.declared.orders.Order.TheVariants.{Delete, DeleteIncomplete, Export, Upgrade}
-use Rattle.gateway_orders.specs.declared.orders.Order.TheVariants.{Text as Stored}
+use Rattle.gateway_orders.specs.declared.orders.Order.TheVariants as orders
 
 -- the order is the one that belongs to the command of this name with these arguments
 abbrev pub IsOrder : Text → List Row → Order → Type 0
@@ -22,7 +22,7 @@ IsOrder name given (Serve service) = (name ≡ codes "serve") × HasArgument giv
 IsOrder name given (Up spool listen quiet log) = (name ≡ codes "up") × HasArgument given (codes "SPOOL") spool.now
     × IsSomeAnd (first_of (codes "listen") given) (λ text. IsSocketText text listen)
     × HasFlag given (codes "quiet") quiet × HasFlag given (codes "log") log
-IsOrder name given (Listing spool long) = (name ≡ codes "list") × HasArgument given (codes "SPOOL") spool.now
+IsOrder name given (orders.List spool long) = (name ≡ codes "list") × HasArgument given (codes "SPOOL") spool.now
     × HasFlag given (codes "json") false × HasFlag given (codes "long") long
 IsOrder name given (Json spool) = (name ≡ codes "list") × HasArgument given (codes "SPOOL") spool.now
     × HasFlag given (codes "json") true
@@ -32,8 +32,8 @@ IsOrder name given (DeleteIncomplete spool sure) = (name ≡ codes "delete") × 
     × HasFlag given (codes "incomplete") true × HasFlag given (codes "yes") sure
 IsOrder name given (Export spool folder all) = (name ≡ codes "export") × HasArgument given (codes "SPOOL") spool.now
     × HasArgument given (codes "DIR") folder.now × HasFlag given (codes "all") all
-IsOrder name given (Stored from to mode indexes) = (name ≡ codes "text") × HasArgument given (codes "from") from.now
-    × HasArgument given (codes "to") to.now × HasArgument given (codes "mode") mode.now
+IsOrder name given (orders.Text from to mode indexes) = (name ≡ codes "text")
+    × HasArgument given (codes "from") from.now × HasArgument given (codes "to") to.now × HasArgument given (codes "mode") mode.now
     × HasArgument given (codes "indexes") indexes.now
 IsOrder name given (Upgrade spool) = (name ≡ codes "upgrade") × HasArgument given (codes "SPOOL") spool.now
 

@@ -31,7 +31,7 @@ use Rattle.upload_rules.specs.Store.{Store}
 use Rattle.tus_session.specs.History.{State, Mark, Marked, beginning, history}
 use Rattle.tus_session.specs.Images.{last_stores}
 use Rattle.gateway_script.specs.Script as script
-use Rattle.gateway_script.specs.Script.{script as the_script, Exit}
+use Rattle.gateway_script.specs.Script.{script_result, Exit}
 use Rattle.gateway_script.specs.Outputs.{IsFirst, output_of, last_output, WroteMost}
 use Rattle.gateway_script.specs.declared.faults.CallFault.TheVariants as calls
 use Rattle.gateway_script.specs.declared.faults.ScriptFault.{ScriptFault}
@@ -106,8 +106,8 @@ module _ {D : Type 0} (disk : Ghosts D) (given back : D) (n : ℕ) (before : Lis
 
   passed : (marks : List Mark) (past : List Marked) (bytes : List ℕ) (fault : Option RunFault) (out : List ℕ)
       (left : List Store)
-      → IsFirst past (the_script st marks bytes).run.past → (rest : List ℕ) × (output_of st past ≡ out ++ rest)
-      → left ≡ left_by_run fault st past before → RunEndsAs fault st (the_script st marks bytes) past out
+      → IsFirst past (script_result st marks bytes).run.past → (rest : List ℕ) × (output_of st past ≡ out ++ rest)
+      → left ≡ left_by_run fault st past before → RunEndsAs fault st (script_result st marks bytes) past out
       → PassesRun n m bytes fault out before left
   passed marks past bytes fault out left first replies leaves ends = record {
     marks = marks;
@@ -150,7 +150,7 @@ module _ {D : Type 0} (disk : Ghosts D) (given back : D) (n : ℕ) (before : Lis
 
     pub ran : HasRunOn disk begun (Ok back) (Some held) (Some prefix) n st bytes → Lived None
     ran (marks, is) =
-        let r = the_script st marks bytes in (
+        let r = script_result st marks bytes in (
           r.run.state.world.store ∷ [],
           all_one disk back n r.run.state.world.store is.shows,
           r.run.out,
@@ -163,7 +163,7 @@ module _ {D : Type 0} (disk : Ghosts D) (given back : D) (n : ℕ) (before : Lis
     at_line : (line : ℕ) → HasRunOn disk begun (Err (back, scripts.Script line)) (Some held) (Some prefix) n st bytes
         → Lived (Some (Script (scripts.Script line)))
     at_line line (marks, is) =
-        let r = the_script st marks bytes in (
+        let r = script_result st marks bytes in (
           r.run.state.world.store ∷ [],
           all_one disk back n r.run.state.world.store is.shows,
           r.run.out,
@@ -176,7 +176,7 @@ module _ {D : Type 0} (disk : Ghosts D) (given back : D) (n : ℕ) (before : Lis
     failed : HasRunOn disk begun (Err (back, scripts.Stop DiskFault)) (Some held) (Some prefix) n st bytes
         → Lived (Some (Script (scripts.Stop DiskFault)))
     failed (marks, is) =
-        let r = the_script st marks bytes in (
+        let r = script_result st marks bytes in (
           last_stores st r.run.past,
           is.shows,
           r.run.out,
@@ -222,14 +222,15 @@ module _ {D : Type 0} (disk : Ghosts D) (given back : D) (n : ℕ) (before : Lis
     none_first past = (past, sym (append-nil past))
 
     unbegun : (fault : RunFault) → before ≡ left_by_run (Some fault) st [] before
-        → RunEndsAs (Some fault) st (the_script st [] bytes) [] [] → AllShowOne disk back n before
+        → RunEndsAs (Some fault) st (script_result st [] bytes) [] [] → AllShowOne disk back n before
         → Lived given prefix prefix bytes (Some fault)
     unbegun fault leaves ends still = (
       before,
       still,
       [],
       sym (append-nil prefix),
-      passed [] [] bytes (Some fault) [] before (none_first (the_script st [] bytes).run.past) ([], refl) leaves ends,
+      passed [] [] bytes (Some fault) [] before (none_first (script_result st [] bytes).run.past) ([], refl) leaves
+          ends,
     )
 
     pub unopened : {S : Type 0} (done : S → Type 0) (fault : OpenFault) → LoadsAs {T = S} (Err fault) done

@@ -16,7 +16,7 @@ use Rattle.upload_rules.specs.Store.{HasAllBytes, Store, Upload, upload_of}
 use Rattle.tus_session.specs.History.{State, Mark, Marked, beginning, history}
 use Rattle.tus_session.specs.Images.{last_stores}
 use Rattle.gateway_script.specs.Script as script
-use Rattle.gateway_script.specs.Script.{script as the_script, Ran, AtLine, Faulted}
+use Rattle.gateway_script.specs.Script.{script_result, Ran, AtLine, Faulted}
 use Rattle.gateway_script.specs.Outputs.{IsFirst, output_of, WroteMost}
 use Rattle.gateway_script.specs.declared.faults.CallFault.TheVariants as calls
 use Rattle.gateway_script.specs.declared.faults.ScriptFault.TheVariants as scripts
@@ -26,7 +26,7 @@ use Rattle.gateway_rounds.specs.declared.faults.RunFault.TheVariants.{Open, Scri
 use Rattle.gateway_rounds.specs.declared.round.End.{End}
 use Rattle.gateway_rounds.specs.declared.round.End.TheVariants.{Crash, Nothing}
 use Rattle.gateway_rounds.specs.declared.round.Round.{Round}
-use Rattle.gateway_rounds.specs.declared.round.Run.{Run as RunOf}
+use Rattle.gateway_rounds.specs.declared.round.Run as code_run
 use Rattle.gateway_rounds.specs.declared.round.Work.{Work}
 use Rattle.gateway_rounds.specs.declared.round.Work.TheVariants.{Run, Upgrade}
 
@@ -73,11 +73,11 @@ pub record PassesRun (n : ℕ) (m : Store) (bytes : List ℕ) (fault : Option Ru
     (before left : List Store) : Type 0 where
   pub marks : List Mark
   pub past : List Marked
-  pub first : IsFirst past (the_script (beginning m (Some n)) marks bytes).run.past
+  pub first : IsFirst past (script_result (beginning m (Some n)) marks bytes).run.past
   pub unwritten : List ℕ
   pub replies : output_of (beginning m (Some n)) past ≡ out ++ unwritten
   pub leaves : left ≡ left_by_run fault (beginning m (Some n)) past before
-  pub ends : RunEndsAs fault (beginning m (Some n)) (the_script (beginning m (Some n)) marks bytes) past out
+  pub ends : RunEndsAs fault (beginning m (Some n)) (script_result (beginning m (Some n)) marks bytes) past out
 
 -- what is read of a script: its limit and one byte more, so that a longer one is refused at its line
 abbrev pub read_of : List ℕ → List ℕ
@@ -86,7 +86,7 @@ read_of bytes = take 1073741825 bytes
 -- A run as it was reported, from a disk to the disk that came back. It ends with `Script Io` exactly where what it
 -- wrote was refused to grow
 pub record IsRun {D : Type 0} (disk : Ghosts D) (n : ℕ) (given back : D) (before left : List Store)
-    (run reported : RunOf) : Type 0 where
+    (run reported : code_run.Run) : Type 0 where
   pub script : reported.script ≡ run.script
   pub store : Store
   pub opened : OpensWith disk given n before store

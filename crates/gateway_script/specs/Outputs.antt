@@ -3,7 +3,7 @@ use Rattle.std.specs.Prelude.{◌≡◌, ◌⊎◌, ℕ, Bool, List, [], ◌∷�
 use Rattle.std.specs.Fmt.{decimal}
 use Rattle.std.specs.Io.KnownBytes.{Appends}
 use Rattle.common.specs.declared.stop.Stop.TheVariants.{NoMemory, DiskFault}
-use Rattle.tus_action.specs.Serves.{Appends as Given}
+use Rattle.tus_action.specs.Serves as serves
 use Rattle.tus_session.specs.History.{State, Marked, Outcome, Gave, step, history, conn_in}
 use Rattle.gateway_script.specs.Script.{written}
 use Rattle.gateway_script.specs.declared.faults.CallFault.{CallFault}
@@ -23,7 +23,7 @@ output_of st (e ∷ past) = output_of st past ++ last_output st (e ∷ past)
 -- history's, and the same where that is sure. All else is the history's
 abbrev pub WritesAs : Bool → ℕ → Outcome → List ℕ → List ℕ → Type 0
 WritesAs sure n (Gave bytes taken closes more) text out =
-    (given : List ℕ) × Given sure [] given bytes text × (out ≡ written n (Gave given taken closes more))
+    (given : List ℕ) × serves.Appends sure [] given bytes text × (out ≡ written n (Gave given taken closes more))
 WritesAs sure n outcome text out = out ≡ written n outcome
 
 -- the same of the latest event

@@ -231,8 +231,8 @@ abbrev pub run_from : State → List Mark → Run
 run_from st marks = record { state = st; past = []; marks = marks; out = []; down = false }
 
 -- THE SCRIPT: its result over the marks of its calls
-unfoldable pub script : State → List Mark → List ℕ → Result
-script st marks bytes = run_lines 1 0 (script_lines bytes) (run_from st marks)
+unfoldable pub script_result : State → List Mark → List ℕ → Result
+script_result st marks bytes = run_lines 1 0 (script_lines bytes) (run_from st marks)
 
 -- the script is what the reader had left, where that is known, up to one byte more than a script may have
 abbrev pub IsScript : Option (List ℕ) → List ℕ → Type 0

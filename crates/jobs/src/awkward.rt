@@ -14,7 +14,6 @@ use crate::tongues::{
     ISO_2022_JP, SHIFT_JIS, UTF_8, UTF_16LE, WINDOWS_1252, in_utf8, japanese_sjis,
 };
 use crate::words::Language;
-use gateway_engine::run as run_script;
 use spool_image::Spool;
 use std::alloc::{AllocError, Global};
 
@@ -70,7 +69,12 @@ pub(crate) fn run(mut job: Job<'_>) -> Result<Digest, Fault> {
             Ok(spool) => spool,
             Err((_, fault)) => return Err(Fault::from(fault)),
         };
-        disk = match run_script(job.alloc, &mut writer.script.as_bytes(), &mut output, spool) {
+        disk = match gateway_engine::run(
+            job.alloc,
+            &mut writer.script.as_bytes(),
+            &mut output,
+            spool,
+        ) {
             Ok(disk) => disk,
             Err((_, fault)) => return Err(Fault::from(fault)),
         };

@@ -6,7 +6,7 @@ use Rattle.std.proofs.lemmas.Bool.{cases_lt, cases_eq}
 use Rattle.std.proofs.lemmas.Option.{same_Some}
 use Rattle.common.specs.declared.limits.TheConstants.{SLOTS}
 use Rattle.enc_model.specs.Indexes.{IndexSet}
-use Rattle.spool_texts.specs.Reading.{IsRead as IsPieceRead}
+use Rattle.spool_texts.specs.Reading as pieces
 use Rattle.upload_rules.specs.Reading.{IsRead, no_such, text_at}
 use Rattle.upload_rules.specs.Records.{RepresentsValid, RepresentsOf, above, with_number}
 use Rattle.upload_rules.specs.Store.{Upload, Store, find, upload_of, text_of}
@@ -54,7 +54,8 @@ pub text_there : (m : Store) (o : Option Upload) (u : Upload) (text : List ℕ) 
 text_there m None u text there is = absurd cc
 text_there m (Some w) u text there is = (refl, ap (text_of m.indexes) (same_Some w u there) ∙ sym is)
 
-pub same_read : (text : List ℕ) (at n : ℕ) (old new : List ℕ) → IsPieceRead text at n old new → IsRead text at n old new
+pub same_read : (text : List ℕ) (at n : ℕ) (old new : List ℕ) → pieces.IsRead text at n old new
+    → IsRead text at n old new
 same_read text at n old new is = record { count = is.count; bytes = is.bytes }
 
 -- the record of the only slot of a number

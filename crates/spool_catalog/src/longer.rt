@@ -1,7 +1,7 @@
 //! An upload of the catalog gets longer, or its length.
 ghost use Rattle.std.specs.Prelude.{◌≡◌, ◌≤◌, ◌<◌, ◌/◌, ◌++◌, List, [], Some, None, length, get_or, drop, slice_set};
 ghost use Rattle.std.specs.Prelude.{IfOk, OnOk, OnErr, IsSome};
-ghost use Rattle.spool_blocks.specs.Blocks.{Row as HeldRow};
+ghost use Rattle.spool_blocks.specs.Blocks.{Row};
 ghost use Rattle.spool_journal.specs.Image.{journal_pages, InArea};
 ghost use Rattle.spool_pages.specs.Changes.{ChangesButRows, with_record, SameRowsBut};
 ghost use Rattle.spool_pages.specs.View.{SlotRecord, View};
@@ -72,7 +72,7 @@ impl Catalog {
         requires reserved { IsReserved self.now.blocks more.now }
         ensures below { (r : SlotRecord) → get_or self.now.slots slot None ≡ Some r
             → IfOk result (λ blocks. AllBelow self.now.layout blocks.items) }
-        ensures differ { (r : SlotRecord) → get_or self.now.slots slot None ≡ Some r → (old new : List HeldRow)
+        ensures differ { (r : SlotRecord) → get_or self.now.slots slot None ≡ Some r → (old new : List Row)
             → (length more.now ≡ 0 → SameRowsBut [] old new)
             → (0 < length more.now
             → SameRowsBut (more.now ++ drop (r.text_len / PAGE) (get_or self.now.lists slot [])) old new)
@@ -101,7 +101,7 @@ impl Catalog {
         ensures some { IfOk result (λ pages. 1 ≤ length pages) }
         ensures changes { (v : View) → v.blocks ≡ self.now.layout → v.version ≡ self.now.version
             → v.slots ≡ self.now.slots → (r : SlotRecord) → get_or self.now.slots longer.now.slot None ≡ Some r
-            → (rows : List HeldRow) → (length more.now ≡ 0 → SameRowsBut [] v.rows rows)
+            → (rows : List Row) → (length more.now ≡ 0 → SameRowsBut [] v.rows rows)
             → (0 < length more.now
             → SameRowsBut (more.now ++ drop (r.text_len / PAGE) (get_or self.now.lists longer.now.slot [])) v.rows rows)
             → IfOk result (λ pages. ChangesButRows pages v (record

@@ -1,6 +1,6 @@
 //! An upload goes out of the catalog.
 ghost use Rattle.std.specs.Prelude.{◌≡◌, ◌≤◌, ℕ, List, [], None, length, get_or, IfOk};
-ghost use Rattle.spool_blocks.specs.Blocks.{Row as HeldRow};
+ghost use Rattle.spool_blocks.specs.Blocks.{Row};
 ghost use Rattle.spool_journal.specs.Image.{journal_pages, InArea};
 ghost use Rattle.spool_pages.specs.Changes.{ChangesButRows, with_slot, SameRowsBut};
 ghost use Rattle.spool_pages.specs.View.{View};
@@ -30,7 +30,7 @@ impl Catalog {
         ensures area { IfOk result (λ pages. InArea (journal_pages self.now.layout) pages) }
         ensures some { IfOk result (λ pages. 1 ≤ length pages) }
         ensures changes { (v : View) → v.blocks ≡ self.now.layout → v.version ≡ self.now.version
-            → v.slots ≡ self.now.slots → (rows : List HeldRow) → SameRowsBut (get_or self.now.lists slot []) v.rows rows
+            → v.slots ≡ self.now.slots → (rows : List Row) → SameRowsBut (get_or self.now.lists slot []) v.rows rows
             → IfOk result (λ pages. ChangesButRows pages v (record (with_slot v slot None) { rows = rows })) }
     {
         let list = self.list(slot);

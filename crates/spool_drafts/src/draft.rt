@@ -1,7 +1,7 @@
 //! The draft of an append.
 ghost use Rattle.std.specs.Prelude.{◌≡◌, ◌⊎◌, get_or, ◌≤◌, ◌*◌, ◌+◌, ◌<◌, ◌/◌, ◌-◌, ◌↔◌, ◌^◌, ℕ, List, []};
 ghost use Rattle.std.specs.Prelude.{false, min, length, IsOk, IsErrOf, OnOk, IfOk};
-ghost use Rattle.enc_model.specs.Indexes.{IndexSet as Indexes};
+ghost use Rattle.enc_model.specs.Indexes.{IndexSet};
 ghost use Rattle.spool_disk.specs.Disk.{Counts, IsImage, Preserves};
 ghost use Rattle.spool_disk.specs.Views.{Lasts};
 ghost use Rattle.spool_journal.specs.Image.{journal_pages, all_pages, text_page};
@@ -12,7 +12,7 @@ ghost use Rattle.upload_rules.specs.Records.{RepresentsValid};
 ghost use Rattle.upload_rules.specs.States.{IsState};
 ghost use Rattle.upload_rules.specs.Store.{Upload, text_of, is_complete};
 ghost use Rattle.upload_rules.specs.World.{Patch};
-ghost use Rattle.upload_rules.specs.declared.errors.UploadRefusal.{UploadRefusal as Refusal};
+ghost use Rattle.upload_rules.specs.declared.errors.UploadRefusal.{UploadRefusal};
 ghost use Rattle.spool_drafts.specs.Effect.{Effect};
 ghost use Rattle.spool_drafts.specs.Drafts.{Holds, Carries, EndsAs, EndsAfter, IsBegun, IsAfter, IsLonger};
 ghost use Rattle.spool_drafts.specs.Drafts.{IsTailPlaced};
@@ -73,9 +73,9 @@ impl SpoolDraft {
     ) -> Result<Self, UploadRefusal>
         requires long { upload.now.text_len ≤ PAGE * length list.now }
         requires few { length list.now ≤ MOST_BLOCKS }
-        ensures begun { (x : Indexes) (n : ℕ) (u : Upload) → RepresentsValid x n upload.now u
+        ensures begun { (x : IndexSet) (n : ℕ) (u : Upload) → RepresentsValid x n upload.now u
             → IsBegun x n offset count declare u result }
-        ensures content { (x : Indexes) (n : ℕ) (u : Upload) (current : ℕ → ℕ) (first : ℕ)
+        ensures content { (x : IndexSet) (n : ℕ) (u : Upload) (current : ℕ → ℕ) (first : ℕ)
             → RepresentsValid x n upload.now u
             → text_on current first list.now upload.now.text_len ≡ text_of x u
             → IfOk result (λ d. Carries x current first (first_patch n count declare u) d) }
@@ -296,7 +296,7 @@ impl SpoolDraft {
             → IfOk result (EndsAfter len state (list_of self.new)) }
         ensures room { (len : ℕ) (state : List ℕ) → IsAfter len state self.old → IsOk result
             → offset_of self.old + 1 < 2 ^ 64 }
-        ensures refusal { (e : Refusal) → IsErrOf result (UploadError.Refused e)
+        ensures refusal { (e : UploadRefusal) → IsErrOf result (UploadError.Refused e)
             → (e ≡ UploadRefusal.Unencodable) ⊎ (e ≡ UploadRefusal.Full) }
 
         // Nothing is written. Nothing is read either if the committed text has no unfinished block.
@@ -354,10 +354,10 @@ impl SpoolDraft {
             × (transcoder_of self.new ≡ transcoder_of self.old) }
         ensures placed { (blocks : ℕ) → IsTailPlaced blocks self.old → IsTailPlaced blocks self.new }
         ensures after { (len : ℕ) (state : List ℕ) → IsAfter len state self.old → IsAfter len state self.new }
-        ensures holds { (x : Indexes) (p : Patch) → Holds x p self.old → Holds x p self.new }
+        ensures holds { (x : IndexSet) (p : Patch) → Holds x p self.old → Holds x p self.new }
 
         // A draft with blocks has the same bytes as before.
-        ensures content { (x : Indexes) (current : ℕ → ℕ) (first : ℕ) (p : Patch)
+        ensures content { (x : IndexSet) (current : ℕ → ℕ) (first : ℕ) (p : Patch)
             → 1 ≤ length (list_of self.old)
             → Carries x current first p self.old → Carries x current first p self.new }
     {

@@ -1,14 +1,14 @@
 //! The progress of a draft: the state of transcoding, and the new text.
 ghost use Rattle.std.specs.Prelude.{◌≡◌, ◌≤◌, ◌*◌, ◌++◌, ℕ, false, None, List, [], length, MatchOption, IfOk, IfSome};
 ghost use Rattle.std.specs.Prelude.{IsErrOf, IsOk};
-ghost use Rattle.enc_model.specs.Indexes.{IndexSet as Indexes};
+ghost use Rattle.enc_model.specs.Indexes.{IndexSet};
 ghost use Rattle.enc_stream.specs.StateBytes.{IsValidState};
 ghost use Rattle.spool_texts.specs.Drafts.{IsReserved, GivesBack};
 ghost use Rattle.upload_rules.specs.Lengths.{is_length};
 ghost use Rattle.upload_rules.specs.Records.{Represents};
 ghost use Rattle.upload_rules.specs.Store.{Upload, text_with, is_complete};
 ghost use Rattle.upload_rules.specs.States.{IsState, SameEncodings, transcoder_with};
-ghost use Rattle.upload_rules.specs.declared.errors.UploadRefusal.{UploadRefusal as Refusal};
+ghost use Rattle.upload_rules.specs.declared.errors.UploadRefusal.{UploadRefusal};
 ghost use Rattle.spool_drafts.specs.Progress.{IsStateAfter, ReadsOn, IsStateOf, IsGrowing, FinishesAs, Starts};
 ghost use Rattle.spool_drafts.specs.Progress.{blocks_in, transcoder_in};
 ghost use Rattle.common.specs.declared.stop.Stop.{Stop};
@@ -45,7 +45,7 @@ impl Progress {
     /// record's state bytes aren't a state.
     pub(crate) fn after(alloc: Global, upload: &Record, list: &[BlockNo]) -> Option<Self>
         requires { upload.now.text_len ≤ PAGE * length list.now }
-        ensures state_after { (x : Indexes) (n : ℕ) (u : Upload) → Represents x n upload.now u
+        ensures state_after { (x : IndexSet) (n : ℕ) (u : Upload) → Represents x n upload.now u
             → (text_with x u [] (is_complete u)).fault ≡ None
             → IsValidState (transcoder_with x u [] (is_complete u))
             → MatchOption result ⊥ (λ p. IsStateAfter x u [] (transcoder_in p)) }
@@ -117,7 +117,7 @@ impl Progress {
             → IfOk result (λ end. SameEncodings state end.0) }
         ensures growing { IsOk result → IsGrowing (transcoder_in self.now) }
         ensures no_disk_fault { IsErrOf result (UploadError.Stop Stop.DiskFault) → ⊥ }
-        ensures refusal { (e : Refusal) → IsErrOf result (UploadError.Refused e) → e ≡ UploadRefusal.Unencodable }
+        ensures refusal { (e : UploadRefusal) → IsErrOf result (UploadError.Refused e) → e ≡ UploadRefusal.Unencodable }
     {
         let Some(transcoder) = self.transcoder() else {
             return Err(UploadError::Refused(UploadRefusal::Unencodable));

@@ -1,6 +1,6 @@
 //! Making a spool without uploads.
 ghost use Rattle.std.specs.Prelude.{◌≡◌, ◌≤◌, ◌<◌, ◌*◌, ◌+◌, ◌↔◌, ℕ, true, false, IsErr, IsOk, IfOk, OnOk, Err, get_or};
-ghost use Rattle.enc_model.specs.Indexes.{IndexSet as Indexes};
+ghost use Rattle.enc_model.specs.Indexes.{IndexSet};
 ghost use Rattle.enc_index.specs.Sets.{IsIndexSet};
 ghost use Rattle.spool_disk.specs.Disk.{IsImage, Counts, Preserves};
 ghost use Rattle.spool_disk.specs.Views.{Lasts};
@@ -69,11 +69,11 @@ fn write_first<D: Disk>(disk: &mut D, layout: &Layout) -> Result<(), DiskFault>
     ensures counts { Counts (IsErr result) (D.failures disk.old) (D.failures disk.new) }
     ensures is_synced { D.honest disk.old → OnOk result ((p : ℕ) → D.unsynced disk.new p → ⊥) }
     ensures fresh { D.honest disk.old → OnOk result
-        ((x : Indexes) → IsFreshTo layout.now x (PAGE * all_pages layout.now) (D.current disk.old)
+        ((x : IndexSet) → IsFreshTo layout.now x (PAGE * all_pages layout.now) (D.current disk.old)
         → IsFresh layout.now x (D.current disk.new)) }
     ensures least { 16 ≤ layout.now }
     ensures most { layout.now ≤ MOST_BLOCKS }
-    ensures crash { D.honest disk.old → (x : Indexes) → IsIndexSet x
+    ensures crash { D.honest disk.old → (x : IndexSet) → IsIndexSet x
         → IsFreshTo layout.now x (PAGE * all_pages layout.now) (D.current disk.old)
         → Lasts D.Disk disk.old disk.new (LeftByFormat layout.now x (D.current disk.old) (D.unsynced disk.old)) }
 {

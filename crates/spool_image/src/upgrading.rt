@@ -11,12 +11,12 @@ ghost use Rattle.spool_catalog.specs.Shows.{IsValid};
 ghost use Rattle.spool_load.specs.Loaded.{OpenedFrom};
 ghost use Rattle.spool_load.specs.Reads.{NeedsReplay};
 ghost use Rattle.spool_load.specs.Recovered.{LeavesRead, OfView, ReadsSame, Recovered, Unwritten};
-ghost use Rattle.spool_catalog.specs.declared.error.OpenFault.{OpenFault as Fault};
+ghost use Rattle.spool_catalog.specs.declared.error.OpenFault.{OpenFault};
 ghost use Rattle.spool_load.specs.Refusals.{HasOtherVersion, IsNoSpool};
 ghost use Rattle.spool_pages.specs.Changes.{upgraded};
 ghost use Rattle.spool_pages.specs.Rests.{Rests};
 ghost use Rattle.spool_pages.specs.View.{View, IsViewOf};
-ghost use Rattle.spool_pages.specs.declared.version.Version.{Version as Known};
+ghost use Rattle.spool_pages.specs.declared.version.Version.{Version};
 ghost use Rattle.spool_image.specs.LeftOnly.{AllShow, IsSpool, LeftOrShows};
 ghost use Rattle.spool_image.specs.Upgrade.{CommitOfUpgrade, IsAlreadyNew, IsLateRefusal, IsOldDamaged};
 ghost use Rattle.spool_image.specs.Opening.{ReadsBy};
@@ -34,7 +34,7 @@ use std::alloc::Global;
 fn load_old<D: Disk>(alloc: Global, disk: &mut D) -> Result<Catalog, UpgradeError>
     ensures size { D.size disk.new ≡ D.size disk.old }
     ensures honest { D.honest disk.old ↔ D.honest disk.new }
-    ensures counts { Counts (result ≡ Err (UpgradeError.Open (Fault.Stop Stop.DiskFault))) (D.failures disk.old)
+    ensures counts { Counts (result ≡ Err (UpgradeError.Open (OpenFault.Stop Stop.DiskFault))) (D.failures disk.old)
         (D.failures disk.new) }
     ensures room { IfOk result (λ catalog. PAGE * all_pages catalog.layout ≤ D.size disk.old) }
     ensures decoded { D.honest disk.old → OfView (D.size disk.old) (D.current disk.old)
@@ -42,18 +42,18 @@ fn load_old<D: Disk>(alloc: Global, disk: &mut D) -> Result<Catalog, UpgradeErro
     ensures has { D.honest disk.old → OfView (D.size disk.old) (D.current disk.old)
         (λ v. IfOk result (λ catalog. HasViewAlone catalog v)) }
     ensures valid { D.honest disk.old → IfOk result (OpenedFrom (D.size disk.old) (D.current disk.old)) }
-    ensures version { IfOk result (λ catalog. catalog.version ≡ Known.One) }
+    ensures version { IfOk result (λ catalog. catalog.version ≡ Version.One) }
     ensures refused { D.honest disk.old → IfErr result (UpgradeRefusedFor (D.size disk.old) (D.current disk.old)) }
     ensures settled { D.honest disk.old → IfOk result (λ catalog.
         Recovered D.Disk catalog.layout disk.old disk.new) }
     ensures stays { D.honest disk.old → OfView (D.size disk.old) (D.current disk.old)
-        (λ v. IfErr result (λ e. (e ≡ UpgradeError.Open (Fault.Stop Stop.DiskFault) → ⊥)
+        (λ v. IfErr result (λ e. (e ≡ UpgradeError.Open (OpenFault.Stop Stop.DiskFault) → ⊥)
         → Rests v (D.current disk.new) (D.unsynced disk.new))) }
     ensures lasts { D.honest disk.old → OfView (D.size disk.old) (D.current disk.old)
         (λ v. LeavesRead D.Disk v.blocks disk.old disk.new) }
     ensures unwritten { D.honest disk.old → Unwritten D.Disk disk.old disk.new }
     ensures same { D.honest disk.old → ReadsSame D.Disk disk.old disk.new
-        (result ≡ Err (UpgradeError.Open (Fault.Stop Stop.DiskFault))) }
+        (result ≡ Err (UpgradeError.Open (OpenFault.Stop Stop.DiskFault))) }
     ensures given { ReadsBy (D.reads disk.old) (D.reads disk.new) (UpgradesBy (D.size disk.old) result) }
 {
     let found = find(disk)?;
@@ -69,7 +69,7 @@ fn rewrite<D: Disk>(alloc: Global, disk: &mut D, catalog: &Catalog) -> Result<()
     requires { PAGE * all_pages catalog.now.layout ≤ D.size disk.old }
     ensures size { D.size disk.new ≡ D.size disk.old }
     ensures honest { D.honest disk.old ↔ D.honest disk.new }
-    ensures counts { Counts (result ≡ Err (UpgradeError.Open (Fault.Stop Stop.DiskFault))) (D.failures disk.old)
+    ensures counts { Counts (result ≡ Err (UpgradeError.Open (OpenFault.Stop Stop.DiskFault))) (D.failures disk.old)
         (D.failures disk.new) }
     ensures reads { D.reads disk.new ≡ D.reads disk.old }
     ensures done { D.honest disk.old → (v : View) → HasView catalog.now v
@@ -82,7 +82,7 @@ fn rewrite<D: Disk>(alloc: Global, disk: &mut D, catalog: &Catalog) -> Result<()
     ensures lasts { D.honest disk.old → (v : View) → HasView catalog.now v
         → Rests v (D.current disk.old) (D.unsynced disk.old)
         → Lasts D.Disk disk.old disk.new (λ image. IsViewOf image v ⊎ IsViewOf image (upgraded v)) }
-    ensures untouched { IfErr result (λ e. (e ≡ UpgradeError.Open (Fault.Stop Stop.DiskFault) → ⊥)
+    ensures untouched { IfErr result (λ e. (e ≡ UpgradeError.Open (OpenFault.Stop Stop.DiskFault) → ⊥)
         → disk.new ≡ disk.old) }
 {
     let pages = catalog.pages_of_upgrade(alloc)?;
@@ -101,7 +101,7 @@ fn rewrite<D: Disk>(alloc: Global, disk: &mut D, catalog: &Catalog) -> Result<()
 pub fn upgrade<D: Disk>(alloc: Global, disk: &mut D) -> Result<(), UpgradeError>
     ensures size { D.size disk.new ≡ D.size disk.old }
     ensures honest { D.honest disk.old ↔ D.honest disk.new }
-    ensures counts { Counts (result ≡ Err (UpgradeError.Open (Fault.Stop Stop.DiskFault))) (D.failures disk.old)
+    ensures counts { Counts (result ≡ Err (UpgradeError.Open (OpenFault.Stop Stop.DiskFault))) (D.failures disk.old)
         (D.failures disk.new) }
 
     // If a read gives a valid spool of version 1, it is upgraded, unless memory or the disk refuses.
@@ -116,28 +116,28 @@ pub fn upgrade<D: Disk>(alloc: Global, disk: &mut D) -> Result<(), UpgradeError>
     // Each error has its reason, and each reason leads to its error, unless memory or the disk refuses.
     ensures refused { D.honest disk.old → IfErr result (UpgradeRefusedFor (D.size disk.old) (D.current disk.old)) }
     ensures not_a_spool { D.honest disk.old → IsNoSpool (D.size disk.old) (D.current disk.old)
-        → RefusesUpgradeAs result (UpgradeError.Open Fault.NotASpool) }
+        → RefusesUpgradeAs result (UpgradeError.Open OpenFault.NotASpool) }
     ensures version { D.honest disk.old → HasOtherVersion (D.size disk.old) (D.current disk.old)
-        → RefusesUpgradeAs result (UpgradeError.Open Fault.Version) }
+        → RefusesUpgradeAs result (UpgradeError.Open OpenFault.Version) }
     ensures already_new { D.honest disk.old → IsAlreadyNew (D.size disk.old) (D.current disk.old)
         → RefusesUpgradeAs result UpgradeError.AlreadyNew }
     ensures damaged { D.honest disk.old → IsOldDamaged (D.size disk.old) (D.current disk.old)
-        → RefusesUpgradeAs result (UpgradeError.Open Fault.Damaged) }
+        → RefusesUpgradeAs result (UpgradeError.Open OpenFault.Damaged) }
 
     // On any disk it answers by what its reads gave.
     ensures given { ReadsBy (D.reads disk.old) (D.reads disk.new) (UpgradesBy (D.size disk.old) result) }
 
     // An error leaves what a read gives, in the old version.
     ensures stays { D.honest disk.old → OfView (D.size disk.old) (D.current disk.old)
-        (λ v. IfErr result (λ e. (e ≡ UpgradeError.Open (Fault.Stop Stop.DiskFault) → ⊥)
+        (λ v. IfErr result (λ e. (e ≡ UpgradeError.Open (OpenFault.Stop Stop.DiskFault) → ⊥)
         → Rests v (D.current disk.new) (D.unsynced disk.new))) }
 
     // An error writes nothing if no journal has to be replayed, whatever is on the disk.
     ensures unwritten { D.honest disk.old → (NeedsReplay (D.size disk.old) (D.current disk.old) → ⊥)
-        → IfErr result (λ e. (e ≡ UpgradeError.Open (Fault.Stop Stop.DiskFault) → ⊥)
+        → IfErr result (λ e. (e ≡ UpgradeError.Open (OpenFault.Stop Stop.DiskFault) → ⊥)
         → Lasts D.Disk disk.old disk.new (IsImage (D.current disk.old) (D.unsynced disk.old))) }
     ensures same { D.honest disk.old → (NeedsReplay (D.size disk.old) (D.current disk.old) → ⊥)
-        → IfErr result (λ e. (e ≡ UpgradeError.Open (Fault.Stop Stop.DiskFault) → ⊥)
+        → IfErr result (λ e. (e ≡ UpgradeError.Open (OpenFault.Stop Stop.DiskFault) → ⊥)
         → Preserves (D.current disk.old) (D.current disk.new) (D.unsynced disk.old) (D.unsynced disk.new)) }
 
     // A crash leaves an image of before, or the same view in the old version or in version 2.
@@ -151,7 +151,7 @@ pub fn upgrade<D: Disk>(alloc: Global, disk: &mut D) -> Result<(), UpgradeError>
 
     // Afterwards every crash image shows them, unless there was a disk fault.
     ensures shows { (n : ℕ) (m : Store) → IsSpool D.Disk disk.old n m
-        → (result ≡ Err (UpgradeError.Open (Fault.Stop Stop.DiskFault)) → ⊥) → AllShow D.Disk disk.new n m }
+        → (result ≡ Err (UpgradeError.Open (OpenFault.Stop Stop.DiskFault)) → ⊥) → AllShow D.Disk disk.new n m }
 {
     let catalog = load_old(alloc, disk)?;
     rewrite(alloc, disk, &catalog)

@@ -6,16 +6,16 @@ ghost use Rattle.spool_disk.specs.Views.{Lasts};
 ghost use Rattle.spool_journal.specs.Image.{journal_pages, all_pages};
 ghost use Rattle.spool_drafts.specs.Drafts.{IsTailPlaced, list_of, upload_number_of};
 ghost use Rattle.spool_drafts.specs.Effect.{Effect};
-ghost use Rattle.spool_drafts.specs.declared.draft.SpoolDraft.{SpoolDraft as Draft};
+ghost use Rattle.spool_drafts.specs.declared.draft.SpoolDraft.{SpoolDraft};
 ghost use Rattle.spool_pages.specs.View.{SlotRecord};
 ghost use Rattle.spool_texts.specs.Drafts.{IsReserved};
 ghost use Rattle.upload_rules.specs.Answers.{Counts, Answers};
 ghost use Rattle.upload_rules.specs.Calls.{commit_outcome, commit_refusal, committed, dropped};
 ghost use Rattle.upload_rules.specs.Drafts.{draft_at};
-ghost use Rattle.upload_rules.specs.Lengths.{is_length as length_is, is_too_large};
+ghost use Rattle.upload_rules.specs.Lengths.{is_length, is_too_large};
 ghost use Rattle.upload_rules.specs.Store.{Store, find, patched_store};
 ghost use Rattle.upload_rules.specs.World.{Patch, World, reached};
-ghost use Rattle.upload_rules.specs.declared.errors.UploadRefusal.{UploadRefusal as Refusal};
+ghost use Rattle.upload_rules.specs.declared.errors.UploadRefusal.{UploadRefusal};
 ghost use Rattle.spool_kept.specs.Committing.{Finds, HasOtherCount, IsAfterSlot, IsCommit, IsFound, MayDeclare};
 ghost use Rattle.spool_kept.specs.Committing.{PreservesDisk, with_length_at};
 ghost use Rattle.spool_kept.specs.Drafting.{DraftsFit, OnlyReserves, StandsFor};
@@ -48,8 +48,8 @@ struct Found {
 
 // Whether a text stays: no bytes came, and no new length makes the accepted ones all.
 fn stays(declares: bool, declared: Option<u64>, accepted: u64, came: u64) -> bool
-    ensures stays { result ≡ true → (came ≡ 0) × (declares ≡ true → length_is declared accepted ≡ false) }
-    ensures goes { result ≡ false → (0 < came) ⊎ ((declares ≡ true) × (length_is declared accepted ≡ true)) }
+    ensures stays { result ≡ true → (came ≡ 0) × (declares ≡ true → is_length declared accepted ≡ false) }
+    ensures goes { result ≡ false → (0 < came) ⊎ ((declares ≡ true) × (is_length declared accepted ≡ true)) }
 {
     came == 0 && !(declares && is_length(declared, accepted))
 }
@@ -114,19 +114,19 @@ fn ended<D: Disk>(
     ensures may { IfOk result (λ e. MayExtend catalog.new e.0 (list_of draft.new)) }
     ensures more { IfOk result (λ e. (r : SlotRecord) → get_or catalog.new.slots e.0.slot None ≡ Some r
         → Advances r e.0) }
-    ensures refusal { (e : Refusal) → IsErrOf result (UploadError.Refused e)
+    ensures refusal { (e : UploadRefusal) → IsErrOf result (UploadError.Refused e)
         → (e ≡ UploadRefusal.Unencodable) ⊎ (e ≡ UploadRefusal.Full) }
-    ensures answer { (sure : Bool) (drafts : List (Option Draft)) (number : ℕ) (w : World) (p : Patch)
+    ensures answer { (sure : Bool) (drafts : List (Option SpoolDraft)) (number : ℕ) (w : World) (p : Patch)
         → IsCommit sure D.Disk disk.old catalog.old drafts number draft.old w p
         → Answers (commit_refusal w number p) result
         (λ e. (e.0.accepted ≡ reached p)
         × IsPending sure D.Disk disk.new catalog.new w.store p.number p.declare p.body e.0 (list_of draft.new)
         e.1.items)
         (Unit {0}) }
-    ensures stored { (sure : Bool) (drafts : List (Option Draft)) (number : ℕ) (w : World) (p : Patch)
+    ensures stored { (sure : Bool) (drafts : List (Option SpoolDraft)) (number : ℕ) (w : World) (p : Patch)
         → IsCommit sure D.Disk disk.old catalog.old drafts number draft.old w p
         → Stored sure D.Disk disk.new catalog.new w.store }
-    ensures quiet { (drafts : List (Option Draft)) (number : ℕ) (w : World) (p : Patch)
+    ensures quiet { (drafts : List (Option SpoolDraft)) (number : ℕ) (w : World) (p : Patch)
         → IsCommit true D.Disk disk.old catalog.old drafts number draft.old w p
         → Lasts D.Disk disk.old disk.new (λ image. ImageShows catalog.old.layout image w.store) }
 {
@@ -177,20 +177,20 @@ fn append_to<D: Disk>(
         (D.failures disk.new) }
     ensures layout { catalog.new.layout ≡ catalog.old.layout }
     ensures version { catalog.new.version ≡ catalog.old.version }
-    ensures fits { (drafts : List (Option Draft)) (number : ℕ) → DraftsFit catalog.old drafts
+    ensures fits { (drafts : List (Option SpoolDraft)) (number : ℕ) → DraftsFit catalog.old drafts
         → draft_at drafts number ≡ Some draft → DraftsFit catalog.new (slice_set drafts number None) }
-    ensures refusal { (e : Refusal) → IsErrOf result (UploadError.Refused e)
+    ensures refusal { (e : UploadRefusal) → IsErrOf result (UploadError.Refused e)
         → (e ≡ UploadRefusal.Unencodable) ⊎ (e ≡ UploadRefusal.Full) }
-    ensures answer { (sure : Bool) (drafts : List (Option Draft)) (number : ℕ) (w : World) (p : Patch)
+    ensures answer { (sure : Bool) (drafts : List (Option SpoolDraft)) (number : ℕ) (w : World) (p : Patch)
         → IsCommit sure D.Disk disk.old catalog.old drafts number draft w p
         → Answers (commit_refusal w number p) result
         (λ n. (n ≡ reached p)
         × StandsFor sure D.Disk disk.new catalog.new (slice_set drafts number None) (committed w number p))
         (StandsFor sure D.Disk disk.new catalog.new (slice_set drafts number None) (dropped w number)) }
-    ensures crash { (drafts : List (Option Draft)) (number : ℕ) (w : World) (p : Patch)
+    ensures crash { (drafts : List (Option SpoolDraft)) (number : ℕ) (w : World) (p : Patch)
         → IsCommit true D.Disk disk.old catalog.old drafts number draft w p
         → Lasts D.Disk disk.old disk.new (ShowsEither catalog.old.layout w.store (commit_outcome w number p)) }
-    ensures unmade { (drafts : List (Option Draft)) (number : ℕ) (w : World) (p : Patch)
+    ensures unmade { (drafts : List (Option SpoolDraft)) (number : ℕ) (w : World) (p : Patch)
         → IsCommit true D.Disk disk.old catalog.old drafts number draft w p
         → IsErrOf result (UploadError.Stop Stop.NoMemory)
         → Lasts D.Disk disk.old disk.new (λ image. ImageShows catalog.old.layout image w.store) }
@@ -234,8 +234,8 @@ fn set_length<D: Disk>(
     ensures layout { catalog.new.layout ≡ catalog.old.layout }
     ensures version { catalog.new.version ≡ catalog.old.version }
     ensures count { (r : SlotRecord) → get_or catalog.old.slots slot None ≡ Some r → IfOk result (λ n. n ≡ r.accepted) }
-    ensures fits { (drafts : List (Option Draft)) → DraftsFit catalog.old drafts → DraftsFit catalog.new drafts }
-    ensures answer { (sure : Bool) (drafts : List (Option Draft)) (w : World) (n : ℕ)
+    ensures fits { (drafts : List (Option SpoolDraft)) → DraftsFit catalog.old drafts → DraftsFit catalog.new drafts }
+    ensures answer { (sure : Bool) (drafts : List (Option SpoolDraft)) (w : World) (n : ℕ)
         → StandsFor sure D.Disk disk.old catalog.old drafts w → IsUsedBy catalog.old.slots slot n
         → is_too_large declared ≡ false
         → OnOk result (StandsFor sure D.Disk disk.new catalog.new drafts (with_length_at w n declared)) }
@@ -279,10 +279,10 @@ pub fn commit<D: Disk>(
 
     // Whatever the disk gave: it is refused with `NoSuch` exactly if the draft's upload is gone, and with `Offset`
     // exactly if the upload has another count of bytes than when the draft began.
-    ensures no_such { (o : Draft) → draft_at drafts.old.items number ≡ Some o
+    ensures no_such { (o : SpoolDraft) → draft_at drafts.old.items number ≡ Some o
         → (IsErrOf result (UploadError.Refused UploadRefusal.NoSuch)
         ↔ ((s : ℕ) → IsUsedBy catalog.old.slots s (upload_number_of o) → ⊥)) }
-    ensures offset { (o : Draft) → draft_at drafts.old.items number ≡ Some o
+    ensures offset { (o : SpoolDraft) → draft_at drafts.old.items number ≡ Some o
         → (IsErrOf result (UploadError.Refused UploadRefusal.Offset) ↔ HasOtherCount catalog.old.slots o) }
     ensures answer { (sure : Bool) (w : World) (p : Patch)
         → StandsFor sure D.Disk disk.old catalog.old drafts.old.items w

@@ -5,7 +5,7 @@ ghost use Rattle.std.specs.Prelude.{Bool, true};
 ghost use Rattle.spool_disk.specs.Disk.{Counts};
 ghost use Rattle.spool_disk.specs.Views.{Lasts};
 ghost use Rattle.spool_journal.specs.Image.{all_pages, text_page};
-ghost use Rattle.spool_drafts.specs.declared.draft.SpoolDraft.{SpoolDraft as Draft};
+ghost use Rattle.spool_drafts.specs.declared.draft.SpoolDraft.{SpoolDraft};
 ghost use Rattle.spool_pages.specs.View.{SlotRecord};
 ghost use Rattle.upload_rules.specs.Answers.{Answers};
 ghost use Rattle.upload_rules.specs.Calls.{create_refusal, outcome};
@@ -43,7 +43,7 @@ pub fn create<D: Disk>(
     ensures blocks { catalog.new.blocks ≡ catalog.old.blocks }
     ensures slots { (slot : ℕ) (r : SlotRecord) → get_or catalog.old.slots slot None ≡ Some r
         → get_or catalog.new.slots slot None ≡ Some r }
-    ensures fits { (drafts : List (Option Draft)) → DraftsFit catalog.old drafts → DraftsFit catalog.new drafts }
+    ensures fits { (drafts : List (Option SpoolDraft)) → DraftsFit catalog.old drafts → DraftsFit catalog.new drafts }
     ensures answer { (sure : Bool) (m : Store) → Stored sure D.Disk disk.old catalog.old m
         → Answers (create_refusal (at_rest m None) new) result
         (λ n. (n ≡ m.next) × Stored sure D.Disk disk.new catalog.new (created_store m new))

@@ -8,7 +8,7 @@ ghost use Rattle.spool_journal.specs.Image.{all_pages, text_page};
 ghost use Rattle.upload_rules.specs.Answers.{Answers};
 ghost use Rattle.upload_rules.specs.Calls.{terminate_refusal, terminated, terminate_outcome};
 ghost use Rattle.upload_rules.specs.World.{World};
-ghost use Rattle.upload_rules.specs.declared.errors.UploadRefusal.{UploadRefusal as Refusal};
+ghost use Rattle.upload_rules.specs.declared.errors.UploadRefusal.{UploadRefusal};
 ghost use Rattle.spool_kept.specs.Drafting.{DraftsFit, StandsFor};
 ghost use Rattle.spool_catalog.specs.Holding.{IsUsedBy};
 ghost use Rattle.spool_kept.specs.Stored.{ShowsEither};
@@ -74,7 +74,7 @@ pub fn terminate<D: Disk>(
         → IsUsedBy catalog.old.slots slot number → EachForgets number drafts.old.items drafts.new.items }
     ensures unmade { IsErrOf result (UploadError.Stop Stop.NoMemory)
         → (disk.new ≡ disk.old) × (catalog.new ≡ catalog.old) × (drafts.new.items ≡ drafts.old.items) }
-    ensures refused { (e : Refusal) → IsErrOf result (UploadError.Refused e)
+    ensures refused { (e : UploadRefusal) → IsErrOf result (UploadError.Refused e)
         → (disk.new ≡ disk.old) × (catalog.new ≡ catalog.old) × (drafts.new.items ≡ drafts.old.items) }
     ensures answer { (sure : Bool) (w : World) → StandsFor sure D.Disk disk.old catalog.old drafts.old.items w
         → Answers (terminate_refusal w number) result

@@ -19,7 +19,7 @@ use Rattle.spool_pages.specs.Bytes.{IsPadded}
 use Rattle.spool_pages.specs.View.{SlotRecord, AreAt, first_page, state_page, slot_bytes, slot_place, row_bytes}
 use Rattle.spool_pages.specs.View.{row_place}
 use Rattle.spool_pages.specs.Fits.{FitsSlotOf}
-use Rattle.spool_pages.specs.declared.version.Version.{Version as Known}
+use Rattle.spool_pages.specs.declared.version.Version.{Version}
 use Rattle.spool_pages.proofs.Encodes.{all_is}
 use Rattle.spool_load.specs.Reads.{OnlyReads, IsReadAt, IsPrefixOf, IsSameTo, SlotsAreAt, RowsAreAt}
 use Rattle.std.proofs.lemmas.List.{ext_get_or, get_or-append-add}
@@ -137,7 +137,7 @@ pub length-first : (n : ℕ) → length (first_page n) ≡ 12
 unfolding first_page
 length-first n = refl
 
-pub length-state : (version : Known) (next : ℕ) → length (state_page version next) ≡ 12
+pub length-state : (version : Version) (next : ℕ) → length (state_page version next) ≡ 12
 unfolding state_page
 length-state version next = refl
 
@@ -218,7 +218,7 @@ module _ (slots : List (Option SlotRecord)) (slot_there : Option SlotRecord) (ne
         subst (λ (k : ℕ). P k (get_or new k None)) here (subst (P (length slots)) (sym at_end) put)
   ]
 
-  pub at_push : (bytes : ℕ → ℕ) (n : ℕ) (version : Known) → SlotsAreAt bytes n version slots
+  pub at_push : (bytes : ℕ → ℕ) (n : ℕ) (version : Version) → SlotsAreAt bytes n version slots
       → AreAt bytes (slot_place n (length slots)) 2048 (slot_bytes version slot_there) → SlotsAreAt bytes n version new
   at_push bytes n version was are_at = record {
     each = each_with (λ s o. AreAt bytes (slot_place n s) 2048 (slot_bytes version o)) was.each are_at;

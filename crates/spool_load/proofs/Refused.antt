@@ -10,7 +10,7 @@ use Rattle.spool_journal.specs.declared.TheConstants.{PAGE}
 use Rattle.spool_journal.specs.Image.{journal_pages, all_pages, byte_of, overlaid}
 use Rattle.spool_journal.specs.Phases.{Settled}
 use Rattle.spool_pages.specs.View.{View, AreAt, IsViewOf, magic, first_page, state_page, state_place, version_number}
-use Rattle.spool_pages.specs.declared.version.Version.{Version as Known}
+use Rattle.spool_pages.specs.declared.version.Version as code_version
 use Rattle.spool_pages.specs.declared.version.Version.TheVariants.{One, Two}
 use Rattle.spool_pages.proofs.Numbers.{four_at}
 use Rattle.spool_pages.proofs.RecordBytes.{at_prefix, at_beyond}
@@ -58,23 +58,23 @@ encodes_one size current n m a b =
     number_one current 8 n m (omega (arith, a.most)) (omega (arith, b.most)) (number_at_place size current n a)
     (number_at_place size current m b)
 
-pub version_at : (f : ℕ → ℕ) (at size : ℕ) (version : Known) (next : ℕ) → 4 ≤ size
+pub version_at : (f : ℕ → ℕ) (at size : ℕ) (version : code_version.Version) (next : ℕ) → 4 ≤ size
     → AreAt f at size (state_page version next) → EncodesVersion f at version
 unfolding state_page
 version_at f at size version next room are_at =
     at_prefix (to_be_bytes w32 (version_number version)) _ 4 refl room are_at
 
-pub known_version_at : (f : ℕ → ℕ) (at size : ℕ) (version : Known) (next : ℕ) → 4 ≤ size
+pub known_version_at : (f : ℕ → ℕ) (at size : ℕ) (version : code_version.Version) (next : ℕ) → 4 ≤ size
     → AreAt f at size (state_page version next) → EncodesKnownVersion f at
 known_version_at f at size version next room are_at =
     record { version = version; decoded = version_at f at size version next room are_at }
 
 -- a place encodes at most one version
-pub version_one : (f : ℕ → ℕ) (at : ℕ) (a b : Known) → EncodesVersion f at a → EncodesVersion f at b
+pub version_one : (f : ℕ → ℕ) (at : ℕ) (a b : code_version.Version) → EncodesVersion f at a → EncodesVersion f at b
     → version_number a ≡ version_number b
 version_one f at a b = number_one f at (version_number a) (version_number b) (small a) (small b)
   where
-    small : (version : Known) → version_number version < 2 ^ 32
+    small : (version : code_version.Version) → version_number version < 2 ^ 32
     small One = omega arith
     small Two = omega arith
 

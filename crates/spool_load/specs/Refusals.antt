@@ -12,7 +12,7 @@ use Rattle.spool_catalog.specs.declared.error.OpenFault.{OpenFault}
 use Rattle.spool_catalog.specs.declared.error.OpenFault.TheVariants.{NotASpool, Damaged, Version, Stop}
 use Rattle.spool_catalog.specs.Shows.{IsValid}
 use Rattle.spool_pages.specs.View.{View, Encodes, AreAt, state_place, version_number}
-use Rattle.spool_pages.specs.declared.version.Version.{Version as Known}
+use Rattle.spool_pages.specs.declared.version.Version as code_version
 use Rattle.spool_load.specs.Reads.{EncodesBlocks}
 
 -- If the gate is open, the journal's head is valid.
@@ -20,16 +20,16 @@ abbrev pub HasJournal : ℕ → (ℕ → ℕ) → Type 0
 HasJournal n current = current PAGE ≡ 165 → InForm (journal_pages n) (count current) (journal_number current)
 
 -- The number of this version is at the place.
-abbrev pub EncodesVersion : (ℕ → ℕ) → ℕ → Known → Type 0
+abbrev pub EncodesVersion : (ℕ → ℕ) → ℕ → code_version.Version → Type 0
 EncodesVersion bytes place version = AreAt bytes place 4 (to_be_bytes w32 (version_number version))
 
 -- The number of a known version is there.
 pub record EncodesKnownVersion (bytes : ℕ → ℕ) (place : ℕ) : Type 0 where
-  pub version : Known
+  pub version : code_version.Version
   pub decoded : EncodesVersion bytes place version
 
 -- The state page of a spool of n blocks has this version.
-abbrev pub NamesVersion : ℕ → (ℕ → ℕ) → Known → Type 0
+abbrev pub NamesVersion : ℕ → (ℕ → ℕ) → code_version.Version → Type 0
 NamesVersion n bytes version = EncodesVersion bytes (state_place n) version
 
 abbrev pub HasKnownVersion : ℕ → (ℕ → ℕ) → Type 0

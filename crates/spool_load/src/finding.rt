@@ -16,7 +16,7 @@ ghost use Rattle.spool_load.specs.Recovered.{LeavesRead, OfView, ReadsSame, Reco
 ghost use Rattle.spool_load.specs.Refusals.{IsNoSpool, NotFoundFor, RefusedAt, EncodesKnownVersion};
 ghost use Rattle.spool_pages.specs.Bytes.{IsPadded};
 ghost use Rattle.spool_pages.specs.View.{View, IsViewOf, AreAt, state_page, state_place};
-ghost use Rattle.spool_pages.specs.declared.version.Version.{Version as Known};
+ghost use Rattle.spool_pages.specs.declared.version.Version.{Version};
 
 use crate::reading::read_at;
 use spool_catalog::OpenFault;
@@ -91,7 +91,7 @@ fn find_layout<D: Disk>(disk: &mut D) -> Result<Option<Layout>, DiskFault>
 // What the state page gives; None if its version is unknown.
 fn found_in(layout: Layout, page: &[u8; PAGE]) -> Option<Found>
     ensures layout { IfSome result (λ found. found.layout ≡ layout) }
-    ensures decoded { (version : Known) (next : ℕ) → next < 2 ^ 64 → IsPadded page.now (state_page version next)
+    ensures decoded { (version : Version) (next : ℕ) → next < 2 ^ 64 → IsPadded page.now (state_page version next)
         → IsSomeAnd result (IsFoundState version next) }
     ensures fields { IfSome result (λ found. AreAt (byte_of page.now) 0 12 (state_page found.version found.next)) }
     ensures rest { IfSome result (λ found. IsTrue found.is_rest_blank
@@ -114,7 +114,7 @@ fn load_state<D: Disk>(disk: &mut D, layout: Layout) -> Result<Option<Found>, Di
     ensures counts { Counts (IsErr result) (D.failures disk.old) (D.failures disk.new) }
     ensures layout { IfOk result (λ decoded. IfSome decoded (λ found. found.layout ≡ layout)) }
     ensures decoded { (bytes : ℕ → ℕ) → ReadsGave bytes (D.reads disk.old) (D.reads disk.new)
-        → (version : Known) (next : ℕ) → next < 2 ^ 64
+        → (version : Version) (next : ℕ) → next < 2 ^ 64
         → AreAt bytes (state_place layout) PAGE (state_page version next)
         → IfOk result (λ decoded. IsSomeAnd decoded (IsFoundState version next)) }
     ensures found { (bytes : ℕ → ℕ) → ReadsGave bytes (D.reads disk.old) (D.reads disk.new)

@@ -1,7 +1,7 @@
 //! Reading page 0 and the index area of a spool whose bytes are all synced.
 ghost use Rattle.std.specs.Prelude.{◌≡◌, ◌≤◌, ◌<◌, ◌*◌, ◌+◌};
 ghost use Rattle.std.specs.Prelude.{ℕ, length, get_or, IsErr, IsErrOf, OnOk, IfOk};
-ghost use Rattle.enc_model.specs.Indexes.{IndexSet as Indexes};
+ghost use Rattle.enc_model.specs.Indexes.{IndexSet};
 ghost use Rattle.enc_index.specs.Area.{area_byte};
 ghost use Rattle.enc_index.specs.Sets.{IsIndexSet};
 ghost use Rattle.spool_disk.specs.Disk.{Counts};
@@ -101,7 +101,7 @@ pub(crate) fn load_indexes<D: Disk>(
     ensures counts { Counts (IsErrOf result (LoadError.Stop Stop.DiskFault)) (D.failures disk.old)
         (D.failures disk.new) }
     ensures decoded { (bytes : ℕ → ℕ) → ReadsGave bytes (D.reads disk.old) (D.reads disk.new)
-        → (x : Indexes) → IsIndexSet x
+        → (x : IndexSet) → IsIndexSet x
         → ((i : ℕ) → i < 90112 → bytes (index_place layout.now + i) ≡ area_byte x i)
         → Loads result (λ set. set ≡ x) }
     ensures set { IfOk result IsIndexSet }

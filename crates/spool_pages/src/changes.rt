@@ -1,7 +1,7 @@
 //! The pages that a change of the metadata writes.
 ghost use Rattle.std.specs.Prelude.{◌≡◌, ◌≢◌, ◌↔◌, ◌≤◌, ◌<◌, ℕ, IsTrue, IsSome, OnOk, IfOk, List, IfSome, None, length};
 ghost use Rattle.std.specs.Prelude.{get_or, option_copied};
-ghost use Rattle.spool_blocks.specs.Blocks.{Row as HeldRow};
+ghost use Rattle.spool_blocks.specs.Blocks.{Row};
 ghost use Rattle.spool_journal.specs.Image.{journal_pages, InMeta, InArea};
 ghost use Rattle.spool_pages.specs.Changes.{page_in, ChangesButRows, Changes, with_record, with_slot, neighbour};
 ghost use Rattle.spool_pages.specs.Changes.{SameRowsBut};
@@ -95,7 +95,7 @@ pub fn pages_of_change(
     ensures some { IfOk result (λ pages. 1 ≤ length pages) }
     ensures changes { (v : View) → v.blocks ≡ layout.now → v.version ≡ version → length v.slots ≡ SLOTS
         → slot_at v (neighbour slot) ≡ option_copied beside.entry
-        → (rows : List HeldRow) → SameRowsBut blocks.now v.rows rows
+        → (rows : List Row) → SameRowsBut blocks.now v.rows rows
         → IfOk result (λ pages. ChangesButRows pages v
         (record (with_slot v slot (option_copied own.entry)) { rows = rows })) }
 {

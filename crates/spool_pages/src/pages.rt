@@ -5,7 +5,7 @@ ghost use Rattle.std.specs.Int.{to_be_bytes, w32};
 ghost use Rattle.spool_journal.specs.Image.{byte_of};
 ghost use Rattle.spool_pages.specs.Bytes.{IsPadded};
 ghost use Rattle.spool_pages.specs.View.{AreAt, first_page, state_page, version_number};
-ghost use Rattle.spool_pages.specs.declared.version.Version.{Version as Known};
+ghost use Rattle.spool_pages.specs.declared.version.Version.{Version};
 
 use crate::Version;
 use crate::fields::{get_u32, get_u64, put};
@@ -92,10 +92,10 @@ pub fn is_blank(bytes: &[u8]) -> bool
 
 /// The version and the next number on a state page; None if the version is unknown.
 pub fn version_and_next(page: &[u8; PAGE]) -> Option<(Version, u64)>
-    ensures encoded { (version : Known) (next : ℕ) → next < 2 ^ 64 → IsPadded page.now (state_page version next)
+    ensures encoded { (version : Version) (next : ℕ) → next < 2 ^ 64 → IsPadded page.now (state_page version next)
         → result ≡ Some (version, next) }
     ensures there { IfSome result (λ encoded. AreAt (byte_of page.now) 0 12 (state_page encoded.0 encoded.1)) }
-    ensures unknown { result ≡ None → (version : Known)
+    ensures unknown { result ≡ None → (version : Version)
         → AreAt (byte_of page.now) 0 4 (to_be_bytes w32 (version_number version)) → ⊥ }
 {
     match Version::of(get_u32(page, 0)) {
@@ -108,7 +108,7 @@ pub fn version_and_next(page: &[u8; PAGE]) -> Option<(Version, u64)>
 pub fn is_blank_after_fields(page: &[u8; PAGE]) -> bool
     ensures first { (blocks : ℕ) → AreAt (byte_of page.now) 0 12 (first_page blocks)
         → (IsTrue result ↔ AreAt (byte_of page.now) 0 PAGE (first_page blocks)) }
-    ensures state { (version : Known) (next : ℕ) → AreAt (byte_of page.now) 0 12 (state_page version next)
+    ensures state { (version : Version) (next : ℕ) → AreAt (byte_of page.now) 0 12 (state_page version next)
         → (IsTrue result ↔ AreAt (byte_of page.now) 0 PAGE (state_page version next)) }
 {
     is_blank(&page[12..])

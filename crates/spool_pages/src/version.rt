@@ -1,7 +1,7 @@
 //! The versions of a spool's format.
 ghost use Rattle.std.specs.Prelude.{◌≡◌, Some, IfSome};
 ghost use Rattle.spool_pages.specs.View.{version_number};
-ghost use Rattle.spool_pages.specs.declared.version.Version.{Version as Known};
+ghost use Rattle.spool_pages.specs.declared.version.Version.{Version};
 
 /// The version of a spool. The versions differ in how records encode an unknown length.
 #[derive(Clone, Copy, Debug, PartialEq, Eq, Drop)]
@@ -15,7 +15,7 @@ pub enum Version {
 impl Version {
     /// The version of this number, if there is one.
     pub fn of(number: u32) -> Option<Version>
-        ensures known { (version : Known) → number ≡ version_number version → result ≡ Some version }
+        ensures known { (version : Version) → number ≡ version_number version → result ≡ Some version }
         ensures only { IfSome result (λ version. version_number version ≡ number) }
     {
         match number {

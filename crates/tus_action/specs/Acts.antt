@@ -3,7 +3,8 @@ use Rattle.std.specs.Prelude.{ℕ, Bool, true, false, ◌||◌, List, [], ◌∷
 use Rattle.std.specs.Prelude.{Option, Some, None}
 use Rattle.tus_request.specs.declared.faults.Fault.{Fault}
 use Rattle.tus_request.specs.declared.faults.Fault.TheVariants.{NoSuch}
-use Rattle.tus_request.specs.Requests.{Creation, Options, Create, Head, Get, Patch as Patches, Delete, Action, Request}
+use Rattle.tus_request.specs.Requests.{Creation, Options, Create, Head, Get, Delete, Action, Request}
+use Rattle.tus_request.specs.Requests as requests
 use Rattle.tus_request.specs.Requests.{Verdict, Asks, Refuses}
 use Rattle.tus_request.specs.Replies.{reply_options, reply_created, reply_head, reply_patched, reply_deleted}
 use Rattle.tus_request.specs.Replies.{reply_text, reply_continue, reply_refused}
@@ -110,7 +111,7 @@ acted_on w r Options = replied w (reply_options r.closes) r.closes
 acted_on w r (Create c) = post w r (new_of c) (create_refusal w (new_of c))
 acted_on w r (Head n) = head w r (upload_of w.store n)
 acted_on w r (Get n) = get w r n (upload_of w.store n)
-acted_on w r (Patches n offset declare) = patch w r n declare (begin_refusal w n offset r.length declare)
+acted_on w r (requests.Patch n offset declare) = patch w r n declare (begin_refusal w n offset r.length declare)
 acted_on w r (Delete n) = delete w r n (terminate_refusal w n)
 
 -- The result of a head by its verdict.

@@ -6,8 +6,8 @@ ghost use Rattle.upload_rules.specs.Calls.{begin_refusal};
 ghost use Rattle.upload_rules.specs.Answers.{Counts, Limits, Quiet};
 ghost use Rattle.upload_rules.specs.Records.{IsValidNew, IsOffered};
 ghost use Rattle.tus_request.specs.Requests.{Request};
-ghost use Rattle.tus_request.specs.Replies.{reply_continue as continue_bytes};
-ghost use Rattle.tus_action.specs.Acts.{post, delete as deleted, patch};
+ghost use Rattle.tus_request.specs.Replies.{reply_continue};
+ghost use Rattle.tus_action.specs.Acts.{post, delete, patch};
 ghost use Rattle.tus_action.specs.Serves.{Serves};
 ghost use Rattle.tus_request.specs.Replies.{longest_reply, GrowsBy};
 
@@ -67,7 +67,7 @@ pub(crate) fn delete<U: Uploads>(
     ensures answer { (sure : Bool) (w : World) (r : Request) → U.represents store.old sure w → bare ≡ r.bare
         → closes ≡ r.closes
         → Serves U.Uploads sure store.new result out.old.items out.new.items w
-        (deleted w r number (terminate_refusal w number)) }
+        (delete w r number (terminate_refusal w number)) }
     ensures crash { (w : World) → U.represents store.old true w
         → Limits (U.moment store.old) (U.moment store.new) (U.left_only store.old) (U.left_only store.new) w.store
         (terminate_outcome w number) }
@@ -92,7 +92,7 @@ pub(crate) fn delete<U: Uploads>(
 
 /// Appends `100 Continue` if the request expects it (RFC 9110, 10.1.1).
 fn append_continue(expects: bool, out: &mut Vec<u8>) -> Result<(), AllocError>
-    ensures ok { OnOk result (out.new.items ≡ out.old.items ++ (if expects then continue_bytes else [])) }
+    ensures ok { OnOk result (out.new.items ≡ out.old.items ++ (if expects then reply_continue else [])) }
     ensures err { OnErr result (out.new.items ≡ out.old.items) }
     ensures few { GrowsBy longest_reply out.old.items out.new.items }
 {

@@ -6,7 +6,8 @@ use Rattle.upload_rules.specs.declared.errors.UploadRefusal.{UploadRefusal}
 use Rattle.upload_rules.specs.Store.{New, Upload, find, upload_of}
 use Rattle.upload_rules.specs.World.{Patch, World}
 use Rattle.upload_rules.specs.Calls.{create_refusal, commit_refusal, spent}
-use Rattle.tus_request.specs.Requests.{Request, Action, Options, Create, Head, Get, Patch as Patches, Delete}
+use Rattle.tus_request.specs.Requests.{Request, Action, Options, Create, Head, Get, Delete}
+use Rattle.tus_request.specs.Requests as requests
 use Rattle.tus_request.specs.Requests.{Asks, Refuses, Verdict}
 use Rattle.tus_action.specs.Acts.{Acted, Giving, acted, acted_on, post, delete, new_of}
 use Rattle.tus_action.specs.Acts.{fed, commit_with}
@@ -52,7 +53,7 @@ module _ (st : State) (e : Event) where
   by_action r (Create c) = posted r (new_of c) (create_refusal st.world (new_of c))
   by_action r (Head n) = Nothing (grind arith)
   by_action r (Get n) = Nothing (grind arith)
-  by_action r (Patches n offset declare) = Nothing (grind arith)
+  by_action r (requests.Patch n offset declare) = Nothing (grind arith)
   by_action r (Delete n) = deleted r n (upload_of st.world.store n) refl
 
   by_verdict : (v : Verdict) → Changed st e (acted st.world v).world.store

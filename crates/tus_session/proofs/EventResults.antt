@@ -6,7 +6,8 @@ use Rattle.tus_session.specs.History.{State, Event, Opened, Came, More, Ended, S
 use Rattle.tus_session.specs.History.{Refused, step, put, turned, conn_in, lost_at, failed_at, came_at, more_at}
 use Rattle.tus_session.specs.History.{ended_at, is_closed, has_text}
 use Rattle.tus_session.specs.Represents.{SessionRepresents}
-use Rattle.tus_session.specs.Turned.{Turned, TurnedAs, EndedAs, Ended as EndedBy}
+use Rattle.tus_session.specs.Turned.{Turned, TurnedAs, EndedAs}
+use Rattle.tus_session.specs.Turned as turns
 use Rattle.common.specs.declared.stop.Stop.{Stop}
 use Rattle.common.specs.declared.stop.Stop.TheVariants as stops
 use Rattle.tus_session.specs.Results.{Follows, RepliesAs, EndsEvent}
@@ -104,7 +105,7 @@ module _ {U B : Type 0} (u : Ghosts U B) (sure : Bool) where
         rw done (record { represents = s; outcome = refl })
 
     pub ends_stopped : (stop : Stop) → IsLinkPut places all (conn_in e) None
-        → EndedBy u sure store' (Err stop) st.world conn.draft (ended_world st.world conn)
+        → turns.Ended u sure store' (Err stop) st.world conn.draft (ended_world st.world conn)
         → EndsEvent u sure all store' (Err (errors.Stop stop)) st e
     ends_stopped stops.NoMemory is_put shown = lost is_put shown
     ends_stopped stops.DiskFault is_put turn = failed_is st e conn on is

@@ -2,7 +2,8 @@
 use Rattle.std.proofs.Common.{ℕ, ◌+◌, ◌≤◌, ◌≡◌, ◌==◌, Bool, true, false, List, [], ◌∷◌, Option, Some, None, length}
 use Rattle.std.proofs.Common.{drop, refl, ap, if◌then◌else◌}
 use Rattle.std.proofs.lemmas.Bool.{eqb-true}
-use Rattle.tus_request.specs.Requests.{Request, Action, Options, Create, Head, Get, Delete, Asks, Patch as Patches}
+use Rattle.tus_request.specs.Requests.{Request, Action, Options, Create, Head, Get, Delete, Asks}
+use Rattle.tus_request.specs.Requests as requests
 use Rattle.upload_rules.specs.Store.{New, Upload, upload_of, find, text_of, accepted_count}
 use Rattle.upload_rules.specs.World.{World, free_number}
 use Rattle.upload_rules.specs.Calls.{create_refusal, terminate_refusal, begin_refusal, begin_refusal_at, begun_at}
@@ -23,7 +24,7 @@ pub record Opened (w : World) (r : Request) (a : Acted) : Type 0 where
   pub declare : Option ℕ
   pub up : Upload
   pub draft_is : a.draft ≡ Some d
-  pub action_is : r.action ≡ Patches number offset declare
+  pub action_is : r.action ≡ requests.Patch number offset declare
   pub there : upload_of w.store number ≡ Some up
   pub world_is : a.world ≡ record w { patches = (d, first_patch number r.length declare up) ∷ w.patches }
   pub free : find d w.patches ≡ None
@@ -89,7 +90,7 @@ module _ (w : World) (r : Request) where
       given number u (text_of w.store.indexes u)
       (if r.bare then [] else drop PIECE (text_of w.store.indexes u))
 
-  patched : (number offset : ℕ) (declare : Option ℕ) → r.action ≡ Patches number offset declare
+  patched : (number offset : ℕ) (declare : Option ℕ) → r.action ≡ requests.Patch number offset declare
       → (o : Option UploadRefusal) → begin_refusal w number offset r.length declare ≡ o
       → Leaves w r (patch w r number declare o)
   patched number offset declare action (Some f) e = Nothing (still w None) refl refl
@@ -118,7 +119,7 @@ module _ (w : World) (r : Request) where
   leaves_on (Create c) e = posted (new_of c) (create_refusal w (new_of c))
   leaves_on (Head n) e = shown (upload_of w.store n)
   leaves_on (Get n) e = got n (upload_of w.store n)
-  leaves_on (Patches n offset declare) e =
+  leaves_on (requests.Patch n offset declare) e =
       patched n offset declare e (begin_refusal w n offset r.length declare) refl
   leaves_on (Delete n) e = deleted n (terminate_refusal w n)
 

@@ -2,10 +2,10 @@
 
 ghost use Rattle.std.specs.Prelude.{◌≡◌, ◌++◌, [], ℕ, false, None, List, IfOk, IfSome, OnOk, OnErr};
 ghost use Rattle.std.specs.Prelude.{IsErrOf, IsOk, MatchOption};
-ghost use Rattle.enc_model.specs.Indexes.{IndexSet as Indexes};
+ghost use Rattle.enc_model.specs.Indexes.{IndexSet};
 ghost use Rattle.upload_rules.specs.Lengths.{is_length};
 ghost use Rattle.upload_rules.specs.Store.{Upload, text_with, is_complete};
-ghost use Rattle.upload_rules.specs.declared.errors.UploadRefusal.{UploadRefusal as Refusal};
+ghost use Rattle.upload_rules.specs.declared.errors.UploadRefusal.{UploadRefusal};
 
 use crate::lengths::is_length;
 use crate::{Record, UploadError, UploadRefusal};
@@ -38,7 +38,7 @@ impl NewText {
 
     /// Nothing yet, for an append to this upload. None if the record's state bytes aren't a state.
     pub fn after(alloc: Global, upload: &Record) -> Option<Self>
-        ensures holds { (x : Indexes) (n : ℕ) (u : Upload) → Represents x n upload.now u
+        ensures holds { (x : IndexSet) (n : ℕ) (u : Upload) → Represents x n upload.now u
             → (text_with x u [] (is_complete u)).fault ≡ None
             → IsValidState (transcoder_with x u [] (is_complete u)) → MatchOption result ⊥ (HoldsText x u []) }
 
@@ -109,7 +109,7 @@ impl NewText {
             → IfOk result (λ end. SameEncodings state end.0) }
         ensures growing { IsOk result → IsGrowingText self }
         ensures no_disk_fault { IsErrOf result (UploadError.Stop Stop.DiskFault) → ⊥ }
-        ensures refusal { (e : Refusal) → IsErrOf result (UploadError.Refused e) → e ≡ UploadRefusal.Unencodable }
+        ensures refusal { (e : UploadRefusal) → IsErrOf result (UploadError.Refused e) → e ≡ UploadRefusal.Unencodable }
     {
         let NewText::Growing {
             mut transcoder,

@@ -19,7 +19,7 @@ pub(crate) struct Slot {
 impl Slot {
     ghost use Rattle.std.specs.Prelude.{◌≡◌, ◌++◌, ◌≤◌, length, OnOk, OnErr};
     ghost use Rattle.enc_stream.specs.TranscoderState.{IsOutput};
-    ghost use Rattle.enc_model.specs.Indexes.{IndexSet as Indexes};
+    ghost use Rattle.enc_model.specs.Indexes.{IndexSet};
     ghost use Rattle.upload_rules.specs.Store.{new_upload};
     ghost use Rattle.upload_rules.specs.Slots.{SlotRepresents};
 
@@ -27,7 +27,7 @@ impl Slot {
     pub(crate) fn new(alloc: Global, number: u64, fields: New) -> Self
         requires output { IsOutput fields.to }
         requires short { length fields.metadata ≤ MOST_METADATA }
-        ensures { (x : Indexes) → SlotRepresents x number (new_upload fields) result }
+        ensures { (x : IndexSet) → SlotRepresents x number (new_upload fields) result }
     {
         Slot {
             record: Record::first(number, fields),

@@ -15,7 +15,7 @@ use Rattle.upload_rules.specs.Lengths.{is_length, is_new, is_too_large, known_or
 use Rattle.upload_rules.specs.Store.{Upload, Store, find, is_complete, patched_store, upload_of, accepted_count}
 use Rattle.upload_rules.specs.World.{Patch, World, completes, reached}
 use Rattle.upload_rules.specs.declared.errors.UploadError.{UploadError}
-use Rattle.common.specs.declared.stop.Stop.{Stop as WhyStopped}
+use Rattle.common.specs.declared.stop.Stop as stops
 use Rattle.upload_rules.specs.declared.errors.UploadError.TheVariants.{Stop, Refused}
 use Rattle.upload_rules.specs.declared.errors.UploadRefusal.{UploadRefusal}
 use Rattle.upload_rules.specs.declared.errors.UploadRefusal.TheVariants.{NoSuch, Offset, TooLong, Unencodable, Full}
@@ -277,7 +277,7 @@ refused_exactly slots o LengthSet other =
 refused_exactly slots o e found = absurd found
 
 -- a stop is no refusal
-pub stop_refuses_not : {T : Type 0} (result : Result T UploadError) (stop : WhyStopped) → result ≡ Err (Stop stop)
+pub stop_refuses_not : {T : Type 0} (result : Result T UploadError) (stop : stops.Stop) → result ≡ Err (Stop stop)
     → (e : UploadRefusal) → IsErrOf result (Refused e) → (e ≡ Unencodable) ⊎ (e ≡ Full)
 stop_refuses_not result stop is e refused = absurd cc
 

@@ -22,7 +22,7 @@ use Rattle.upload_rules.specs.Store.{with_length, without}
 use Rattle.upload_rules.specs.World.{Patch, World}
 use Rattle.upload_rules.specs.declared.errors.UploadError.{UploadError}
 use Rattle.upload_rules.specs.declared.errors.UploadError.TheVariants.{Stop, Refused}
-use Rattle.common.specs.declared.stop.Stop.{Stop as WhyStopped}
+use Rattle.common.specs.declared.stop.Stop as stops
 use Rattle.common.specs.declared.stop.Stop.TheVariants.{NoMemory, DiskFault}
 use Rattle.upload_rules.specs.declared.errors.UploadRefusal.{UploadRefusal}
 use Rattle.upload_rules.proofs.Growing.{grown_dropped, grown_put}
@@ -69,7 +69,7 @@ also_refused refusal (Stop DiskFault) done done' X Y is y = is
 also_refused refusal (Refused f) done done' X Y is y = (is.0, y)
 
 -- a call stopped that the rules don't refuse
-pub stopped : {T : Type 0} (refusal : Option UploadRefusal) (stop : WhyStopped) (done : T → Type 0) (same : Type 0)
+pub stopped : {T : Type 0} (refusal : Option UploadRefusal) (stop : stops.Stop) (done : T → Type 0) (same : Type 0)
     → refusal ≡ None → (stop ≡ NoMemory → same) → Answers refusal (Err (Stop stop)) done same
 stopped refusal NoMemory done same none unmade = (subst IsLate (sym none) tt, unmade refl)
 stopped refusal DiskFault done same none unmade = subst IsLate (sym none) tt

@@ -1,5 +1,5 @@
 use Rattle.std.proofs.Common.{◌≡◌, ◌<◌, ◌+◌, ◌∙◌, ℕ, List, length, get_or, rules, sym, ap, subst, arith}
-use Rattle.enc_model.specs.Indexes.{IndexSet as Indexes}
+use Rattle.enc_model.specs.Indexes.{IndexSet}
 use Rattle.enc_index.specs.Area.{IsAreaOf, area_byte}
 use Rattle.spool_load.specs.Reads.{IsReadAt}
 use Rattle.spool_load.proofs.reading.load_indexes.Goals as goal
@@ -16,7 +16,7 @@ returns-in-Ok-clause-valid g c bytes gave =
           sym (read.each i (omega (arith, inside, lt))) ∙ ap (λ (xs : List ℕ). get_or xs i 0) same ∙ written.bytes i lt;
     }
 
-area_there : (x : Indexes) (bytes : ℕ → ℕ) (place : ℕ) (area now : List ℕ) → IsReadAt bytes place area
+area_there : (x : IndexSet) (bytes : ℕ → ℕ) (place : ℕ) (area now : List ℕ) → IsReadAt bytes place area
     → length area ≡ 90112 → area ≡ now → ((i : ℕ) → i < 90112 → bytes (place + i) ≡ area_byte x i) → IsAreaOf x now
 area_there x bytes place area now read long same there = subst (IsAreaOf x) same (record {
   long = long;
