@@ -1,9 +1,11 @@
 -- What users conclude from what the reads of a disk gave.
-use Rattle.std.proofs.Common.{◌≡◌, ℕ, List, [], ◌∷◌, ◌++◌, length, sym, ◌∙◌, ap, subst, Result, Ok, Err, OnOk, OnErr}
+use Rattle.std.proofs.Common.{◌≡◌, ◌⊎◌, inl, inr, ◌≤◌, ◌<◌, ◌+◌, ◌-◌, ℕ, List, [], ◌∷◌, ◌++◌, length, get_or, refl}
+use Rattle.std.proofs.Common.{sym, ◌∙◌, ap, subst, arith, Result, Ok, Err, OnOk, OnErr, ⊎_elim}
 use Rattle.std.proofs.lemmas.List.{append_assoc, append_cancel_right}
 use Rattle.spool_disk.specs.Disk.{span}
-use Rattle.spool_disk.specs.Given.{given, AllGave, MoreReads, ReadsGave}
+use Rattle.spool_disk.specs.Given.{given, AllGave, AreApart, IsOf, IsOfAny, MoreReads, ReadsGave, ReadsOnce}
 use Rattle.common.specs.declared.given.GivenRead.{GivenRead}
+use Rattle.spool_disk.proofs.Span.{in_or_out, span_is, span_same}
 
 -- Calls that aren't reads forget none.
 pub grew_none : {old new : List GivenRead} → new ≡ old → MoreReads old new
@@ -96,3 +98,101 @@ pub of_one : {bytes : ℕ → ℕ} {old new : List GivenRead} {at : ℕ} {bs : L
     → ReadsGave bytes old new
 unfolding grew_one
 of_one e is = record { since = grew_one e; all = (is, tt) }
+
+-- READS OF NO PLACE TWICE
+
+pub once_none : {P : ℕ → Type 0} {old new : List GivenRead} → new ≡ old → ReadsOnce P old new
+unfolding grew_none
+once_none same = record { since = grew_none same; within = λ p never. absurd never; once = tt }
+
+pub once_one : {P : ℕ → Type 0} {old new : List GivenRead} {at : ℕ} {bs : List ℕ} → new ≡ given at bs ∷ old
+    → ((p : ℕ) → at ≤ p → p < at + length bs → P p) → ReadsOnce P old new
+unfolding grew_one
+once_one e within = record {
+  since = grew_one e;
+  within = λ p of. ⊎_elim (λ here. within p here.from here.below) (λ never. absurd never) of;
+  once = (λ p here never. never, tt);
+}
+
+-- a read, whether it succeeds or not
+pub read_once : {T E : Type 0} {P : ℕ → Type 0} {old new : List GivenRead} (at : ℕ) (bs : List ℕ) (r : Result T E)
+    → OnOk r (new ≡ given at bs ∷ old) → OnErr r (new ≡ old) → ((p : ℕ) → at ≤ p → p < at + length bs → P p)
+    → ReadsOnce P old new
+read_once at bs (Ok t) read failed within = once_one read within
+read_once at bs (Err e) read failed within = once_none failed
+
+any_of : (later earlier : List GivenRead) (p : ℕ) → IsOfAny (later ++ earlier) p → IsOfAny later p ⊎ IsOfAny earlier p
+any_of [] earlier p of = inr of
+any_of (g ∷ later) earlier p (inl here) = inl (inl here)
+any_of (g ∷ later) earlier p (inr of) = ⊎_elim (λ late. inl (inr late)) (λ early. inr early) (any_of later earlier p of)
+
+apart_both : (later earlier : List GivenRead) → ((p : ℕ) → IsOfAny later p → IsOfAny earlier p → ⊥) → AreApart later
+    → AreApart earlier → AreApart (later ++ earlier)
+apart_both [] earlier apart late early = early
+apart_both (g ∷ later) earlier apart late early = (
+  λ p here of. ⊎_elim (λ also. late.0 p here also) (λ also. apart p (inl here) also) (any_of later earlier p of),
+  apart_both later earlier (λ p of also. apart p (inr of) also) late.1 early,
+)
+
+-- Some calls, and then others that read other places.
+pub once_on : {P Q R : ℕ → Type 0} {a b c : List GivenRead} → ReadsOnce P a b → ReadsOnce Q b c
+    → ((p : ℕ) → P p → Q p → ⊥) → ((p : ℕ) → P p → R p) → ((p : ℕ) → Q p → R p) → ReadsOnce R a c
+unfolding grew_on
+once_on f g apart first_in rest_in = record {
+  since = grew_on f.since g.since;
+  within =
+      λ p of. ⊎_elim (λ late. rest_in p (g.within p late)) (λ early. first_in p (f.within p early))
+      (any_of g.since.added f.since.added p of);
+  once =
+      apart_both g.since.added f.since.added (λ p late early. apart p (f.within p early) (g.within p late)) g.once
+      f.once;
+}
+
+pub once_more : {P Q : ℕ → Type 0} {a b : List GivenRead} → ((p : ℕ) → P p → Q p) → ReadsOnce P a b → ReadsOnce Q a b
+once_more wider f = record { since = f.since; within = λ p of. wider p (f.within p of); once = f.once }
+
+-- THERE ARE BYTES THAT SUCH READS GAVE
+
+-- the bytes of a read, and others elsewhere
+module _ (g : GivenRead) (bytes : ℕ → ℕ) (p : ℕ) where
+  abbrev given_at : IsOf g p ⊎ (IsOf g p → ⊥) → ℕ
+  given_at (inl here) = get_or g.bytes.items (p - g.at) 0
+  given_at (inr elsewhere) = bytes p
+
+  given_here : (o : IsOf g p ⊎ (IsOf g p → ⊥)) → IsOf g p → given_at o ≡ get_or g.bytes.items (p - g.at) 0
+  given_here (inl here) within = refl
+  given_here (inr elsewhere) within = absurd (elsewhere within)
+
+  given_elsewhere : (o : IsOf g p ⊎ (IsOf g p → ⊥)) → (IsOf g p → ⊥) → given_at o ≡ bytes p
+  given_elsewhere (inl here) out = absurd (out here)
+  given_elsewhere (inr elsewhere) out = refl
+
+abbrev bytes_given : List GivenRead → ℕ → ℕ
+bytes_given [] p = 0
+bytes_given (g ∷ gs) p = given_at g (bytes_given gs) p (in_or_out g.at (length g.bytes.items) p)
+
+all_same : (f f' : ℕ → ℕ) (gs : List GivenRead) → ((p : ℕ) → IsOfAny gs p → f p ≡ f' p) → AllGave f gs → AllGave f' gs
+all_same f f' [] same all = tt
+all_same f f' (g ∷ gs) same all = (
+  span_same f' f g.at (length g.bytes.items) (λ p here. sym (same p (inl here))) ∙ all.0,
+  all_same f f' gs (λ p of. same p (inr of)) all.1,
+)
+
+all_given : (gs : List GivenRead) → AreApart gs → AllGave (bytes_given gs) gs
+all_given [] apart = tt
+all_given (g ∷ gs) apart = (
+  span_is (bytes_given (g ∷ gs)) g.at g.bytes.items
+      (λ k lt.
+      let here : IsOf g (g.at + k) = record { from = omega arith; below = omega (arith, lt) } in
+      let same : g.at + k - g.at ≡ k = omega arith in
+      given_here g (bytes_given gs) (g.at + k) (in_or_out g.at (length g.bytes.items) (g.at + k)) here
+      ∙ ap (λ (i : ℕ). get_or g.bytes.items i 0) same),
+  all_same (bytes_given gs) (bytes_given (g ∷ gs)) gs
+      (λ p of. sym (given_elsewhere g (bytes_given gs) p (in_or_out g.at (length g.bytes.items) p)
+      (λ here. apart.0 p here of))) (all_given gs apart.1),
+)
+
+-- a law: what reads gave that read no place twice isn't contradictory
+pub some_gave : {P : ℕ → Type 0} {old new : List GivenRead} → ReadsOnce P old new
+    → (bytes : ℕ → ℕ) × ReadsGave bytes old new
+some_gave f = (bytes_given f.since.added, record { since = f.since; all = all_given f.since.added f.once })
