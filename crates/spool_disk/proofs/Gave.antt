@@ -3,7 +3,7 @@ use Rattle.std.proofs.Common.{◌≡◌, ◌⊎◌, inl, inr, ◌≤◌, ◌<◌
 use Rattle.std.proofs.Common.{sym, ◌∙◌, ap, subst, arith, Result, Ok, Err, OnOk, OnErr, ⊎_elim}
 use Rattle.std.proofs.lemmas.List.{append_assoc, append_cancel_right}
 use Rattle.spool_disk.specs.Disk.{span}
-use Rattle.spool_disk.specs.Given.{given, AllGave, AreApart, IsOf, IsOfAny, MoreReads, ReadsGave, ReadsOnce}
+use Rattle.spool_disk.specs.Given.{given, AllGave, AreApart, Between, IsOf, IsOfAny, MoreReads, ReadsGave, ReadsOnce}
 use Rattle.common.specs.declared.given.GivenRead.{GivenRead}
 use Rattle.spool_disk.proofs.Span.{in_or_out, span_is, span_same}
 
@@ -150,6 +150,17 @@ once_on f g apart first_in rest_in = record {
 
 pub once_more : {P Q : ℕ → Type 0} {a b : List GivenRead} → ((p : ℕ) → P p → Q p) → ReadsOnce P a b → ReadsOnce Q a b
 once_more wider f = record { since = f.since; within = λ p of. wider p (f.within p of); once = f.once }
+
+-- ranges of places
+module _ {a b : List GivenRead} (lo hi : ℕ) (reads : ReadsOnce (Between lo hi) a b) where
+  pub between_more : (lo' hi' : ℕ) → lo' ≤ lo → hi ≤ hi' → ReadsOnce (Between lo' hi') a b
+  between_more lo' hi' low high = once_more (λ p is. (omega (arith, is.0, low), omega (arith, is.1, high))) reads
+
+  pub between_on : {c : List GivenRead} (lo' hi' : ℕ) → ReadsOnce (Between lo' hi') b c → lo ≤ lo' → hi ≤ lo' → hi ≤ hi'
+      → ReadsOnce (Between lo hi') a c
+  between_on lo' hi' then low over high =
+      once_on reads then (λ p is also. omega (arith, is.1, also.0, over)) (λ p is. (is.0, omega (arith, is.1, high)))
+      (λ p is. (omega (arith, is.0, low), is.1))
 
 -- THERE ARE BYTES THAT SUCH READS GAVE
 

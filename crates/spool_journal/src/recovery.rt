@@ -2,7 +2,7 @@
 ghost use Rattle.std.specs.Prelude.{◌≡◌, ◌⊎◌, ◌≤◌, ◌<◌, ◌*◌, ◌+◌, ◌↔◌, ℕ, IsErr, IfOk, OnOk, ◌==◌, true, false};
 ghost use Rattle.std.specs.Prelude.{Err};
 ghost use Rattle.spool_disk.specs.Disk.{IsImage, Counts};
-ghost use Rattle.spool_disk.specs.Given.{MoreReads, ReadsGave};
+ghost use Rattle.spool_disk.specs.Given.{Between, ReadsGave, ReadsOnce};
 ghost use Rattle.spool_disk.specs.Views.{Lasts};
 ghost use Rattle.spool_journal.specs.Image.{journal_pages, all_pages, replayed, overlaid, word, byte_of, area_end};
 ghost use Rattle.spool_journal.specs.Image.{count, journal_number, InForm};
@@ -34,7 +34,7 @@ fn is_open<D: Disk>(disk: &mut D) -> Result<bool, DiskFault>
     ensures size { D.size disk.new ≡ D.size disk.old }
     ensures honest { D.honest disk.old ↔ D.honest disk.new }
     ensures counts { Counts (IsErr result) (D.failures disk.old) (D.failures disk.new) }
-    ensures reads { MoreReads (D.reads disk.old) (D.reads disk.new) }
+    ensures reads { ReadsOnce (Between PAGE (PAGE + 1)) (D.reads disk.old) (D.reads disk.new) }
     ensures still { D.honest disk.old → (bytes : ℕ → ℕ) → Still bytes (D.current disk.old) (D.unsynced disk.old)
         → Still bytes (D.current disk.new) (D.unsynced disk.new) }
     ensures open { D.honest disk.old → (bytes : ℕ → ℕ) → Still bytes (D.current disk.old) (D.unsynced disk.old)
@@ -55,7 +55,7 @@ fn read_head<D: Disk>(disk: &mut D, head: &mut [u8; PAGE]) -> Result<(), DiskFau
     ensures size { D.size disk.new ≡ D.size disk.old }
     ensures honest { D.honest disk.old ↔ D.honest disk.new }
     ensures counts { Counts (IsErr result) (D.failures disk.old) (D.failures disk.new) }
-    ensures reads { MoreReads (D.reads disk.old) (D.reads disk.new) }
+    ensures reads { ReadsOnce (Between 8192 12288) (D.reads disk.old) (D.reads disk.new) }
     ensures still { D.honest disk.old → (bytes : ℕ → ℕ) → Still bytes (D.current disk.old) (D.unsynced disk.old)
         → Still bytes (D.current disk.new) (D.unsynced disk.new) }
     ensures head { D.honest disk.old → (bytes : ℕ → ℕ) → Still bytes (D.current disk.old) (D.unsynced disk.old)
@@ -110,7 +110,7 @@ fn copy_page<D: Disk>(disk: &mut D, from: u32, to: u32) -> Result<(), DiskFault>
     ensures size { D.size disk.new ≡ D.size disk.old }
     ensures honest { D.honest disk.old ↔ D.honest disk.new }
     ensures counts { Counts (IsErr result) (D.failures disk.old) (D.failures disk.new) }
-    ensures reads { MoreReads (D.reads disk.old) (D.reads disk.new) }
+    ensures reads { ReadsOnce (Between (PAGE * from) (PAGE * (from + 1))) (D.reads disk.old) (D.reads disk.new) }
     ensures placing { D.honest disk.old → (j i : ℕ) (opened : ℕ → ℕ) → Placing j opened (D.current disk.old)
         (D.unsynced disk.old) → i < count opened → journal_number opened i ≡ to → Placing j opened (D.current disk.new)
         (D.unsynced disk.new) }
@@ -135,7 +135,7 @@ fn replay<D: Disk>(disk: &mut D, head: &[u8; PAGE], journal: u32) -> Result<(), 
     ensures size { D.size disk.new ≡ D.size disk.old }
     ensures honest { D.honest disk.old ↔ D.honest disk.new }
     ensures counts { Counts (IsErr result) (D.failures disk.old) (D.failures disk.new) }
-    ensures reads { MoreReads (D.reads disk.old) (D.reads disk.new) }
+    ensures reads { ReadsOnce (Between 12288 (PAGE * (3 + journal))) (D.reads disk.old) (D.reads disk.new) }
     ensures placing { D.honest disk.old → (opened : ℕ → ℕ) → HeadOf opened head.now
         → Placing journal opened (D.current disk.old) (D.unsynced disk.old)
         → Placing journal opened (D.current disk.new)
@@ -163,7 +163,7 @@ fn replay_all<D: Disk>(disk: &mut D, head: &[u8; PAGE], journal: u32) -> Result<
     ensures size { D.size disk.new ≡ D.size disk.old }
     ensures honest { D.honest disk.old ↔ D.honest disk.new }
     ensures counts { Counts (IsErr result) (D.failures disk.old) (D.failures disk.new) }
-    ensures reads { MoreReads (D.reads disk.old) (D.reads disk.new) }
+    ensures reads { ReadsOnce (Between 12288 (PAGE * (3 + journal))) (D.reads disk.old) (D.reads disk.new) }
     ensures settled { D.honest disk.old → (bytes : ℕ → ℕ) → HeadOf bytes head.now
         → Still bytes (D.current disk.old) (D.unsynced disk.old) → bytes PAGE ≡ 165
         → OnOk result (Settled journal (replayed bytes) (D.current disk.new) (D.unsynced disk.new)) }
@@ -184,7 +184,7 @@ fn mend<D: Disk>(disk: &mut D, journal: u32) -> Result<(), RecoverError>
     ensures size { D.size disk.new ≡ D.size disk.old }
     ensures honest { D.honest disk.old ↔ D.honest disk.new }
     ensures counts { Counts (result ≡ Err RecoverError.DiskFault) (D.failures disk.old) (D.failures disk.new) }
-    ensures reads { MoreReads (D.reads disk.old) (D.reads disk.new) }
+    ensures reads { ReadsOnce (Between 8192 (PAGE * (3 + journal))) (D.reads disk.old) (D.reads disk.new) }
     ensures settled { D.honest disk.old → (bytes : ℕ → ℕ) → Still bytes (D.current disk.old) (D.unsynced disk.old)
         → bytes PAGE ≡ 165 → OnOk result (Settled journal (replayed bytes) (D.current disk.new) (D.unsynced disk.new)) }
     ensures form { D.honest disk.old → (bytes : ℕ → ℕ) → Still bytes (D.current disk.old) (D.unsynced disk.old)
@@ -220,7 +220,10 @@ pub fn recover<D: Disk>(disk: &mut D, layout: &Layout) -> Result<(), RecoverErro
     ensures size { D.size disk.new ≡ D.size disk.old }
     ensures honest { D.honest disk.old ↔ D.honest disk.new }
     ensures counts { Counts (result ≡ Err RecoverError.DiskFault) (D.failures disk.old) (D.failures disk.new) }
-    ensures reads { MoreReads (D.reads disk.old) (D.reads disk.new) }
+
+    // It reads places of the gate's page, the head and the journal's pages, and none twice.
+    ensures reads { ReadsOnce (Between PAGE (PAGE * (3 + journal_pages layout.now))) (D.reads disk.old)
+        (D.reads disk.new) }
 
     // Every crash image then is what a plain reading gave, except for the gate and the journal.
     ensures settled { D.honest disk.old → OnOk result

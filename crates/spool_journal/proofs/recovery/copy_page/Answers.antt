@@ -1,7 +1,8 @@
-use Rattle.std.proofs.Common.{rules, ◌*◌, ◌+◌, ℕ, refl, sym, ◌∙◌, ap}
+use Rattle.std.proofs.Common.{◌≡◌, length, rules, ◌*◌, ◌+◌, ℕ, refl, sym, ◌∙◌, ap, arith, subst}
+use Rattle.spool_disk.specs.Given.{ReadsOnce}
 use Rattle.spool_journal.specs.declared.TheConstants.{PAGE}
 use Rattle.spool_disk.proofs.Firm.{lasts_call, lasts_on}
-use Rattle.spool_disk.proofs.Gave.{grew_none, grew_one, grew_on}
+use Rattle.spool_disk.proofs.Gave.{once_none, once_one}
 use Rattle.spool_journal.proofs.Gate.{placing_image}
 use Rattle.spool_journal.proofs.Recovers.{placing_preserves, page_read_at, placing_content}
 use Rattle.spool_journal.proofs.recovery.copy_page.Goals as goal
@@ -26,4 +27,10 @@ returns-clause-lasts g c honest j i few opened placing lt e =
     (c.place.ensures.lasts (c.read.ensures.honest.0 honest) j i few opened unchanged lt e)
 
 pub returns-clause-reads : goal.returns-clause-reads
-returns-clause-reads g c = grew_on (grew_one c.in_ok-read.ensures.given) (grew_none c.place.ensures.reads)
+returns-clause-reads g c =
+    let wide : length c.read.new.buf ≡ PAGE = search rules in
+    subst (ReadsOnce _ _) (sym c.place.ensures.reads)
+    (once_one c.in_ok-read.ensures.given (λ p from below. (omega (arith, from), omega (arith, below, wide))))
+
+pub returns-in_err-read-clause-reads : goal.returns-in_err-read-clause-reads
+returns-in_err-read-clause-reads g c = once_none c.in_err-read.ensures.none

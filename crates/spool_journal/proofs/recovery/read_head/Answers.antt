@@ -1,6 +1,6 @@
-use Rattle.std.proofs.Common.{rules, ◌+◌, arith}
+use Rattle.std.proofs.Common.{◌≡◌, length, rules, ◌+◌, arith}
 use Rattle.spool_disk.proofs.Firm.{on_ok, on_more}
-use Rattle.spool_disk.proofs.Gave.{read_grew, one}
+use Rattle.spool_disk.proofs.Gave.{read_once, one}
 use Rattle.spool_journal.proofs.Recovers.{page_read, head_given}
 use Rattle.spool_journal.proofs.recovery.read_head.Goals as goal
 
@@ -10,7 +10,10 @@ returns-clause-head g c honest bytes still =
     (still.reads (8192 + i)))
 
 pub returns-clause-reads : goal.returns-clause-reads
-returns-clause-reads g c = read_grew _ _ c.read.result c.read.ensures.given c.read.ensures.none
+returns-clause-reads g c =
+    let wide : length c.read.new.buf ≡ 4096 = search rules in
+    read_once _ _ c.read.result c.read.ensures.given c.read.ensures.none
+    (λ p from below. (omega (arith, from), omega (arith, below, wide)))
 
 pub returns-clause-gave : goal.returns-clause-gave
 returns-clause-gave g c bytes gave =
