@@ -10,7 +10,7 @@ ghost use Rattle.upload_rules.specs.Reading.{text_at};
 ghost use Rattle.upload_rules.specs.Store.{Store, upload_of};
 ghost use Rattle.upload_rules.specs.World.{World};
 ghost use Rattle.spool_image.specs.LeftOnly.{AllShow, IsSpool};
-ghost use Rattle.spool_image.specs.Opening.{ReadsBy};
+ghost use Rattle.spool_image.specs.Opening.{OpeningReadsBy};
 ghost use Rattle.gateway_files.specs.declared.faults.Fault.{Fault};
 ghost use Rattle.gateway_files.specs.Changing.{IsChangeResult, IsChangeFault};
 ghost use Rattle.gateway_files.specs.Exporting.{Exports, ExportsAs, ExportsOneAs, ExportsSome, ExportsSomeAs};
@@ -96,8 +96,8 @@ pub fn export_on<D: Disk + Drop, F: Folder, W: Write>(
     // A spool's texts are written, unless memory, the disk, the folder or the writer refuses it.
     ensures exports { (n : ℕ) (m : Store) → IsSpool D.Disk disk n m → IsChangeResult result.1 }
 
-    // On any disk it answers by what its reads gave: for the uploads of the view that they encode.
-    ensures given { ReadsBy (D.reads disk) (D.reads result.0) (AnswersAs
+    // On any disk it answers by what the opening's reads gave: for the uploads of the view that they encode.
+    ensures given { OpeningReadsBy (D.reads disk) (D.reads result.0) (AnswersAs
         (λ m. (files : Files) → F.holds folder.old files → ExportsAs false (F.holds folder.new) m (jobs_of all m) files)
         (D.size disk) result.1) }
 

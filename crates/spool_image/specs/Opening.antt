@@ -7,7 +7,7 @@ use Rattle.spool_catalog.specs.Shows.{IsValid}
 use Rattle.spool_catalog.specs.declared.error.OpenFault.{OpenFault}
 use Rattle.spool_catalog.specs.declared.error.OpenFault.TheVariants.{NotASpool, Damaged, Version, Stop}
 use Rattle.spool_load.specs.Loaded.{EncodesBy, ReadsView}
-pub use Rattle.spool_load.specs.ReadBy.{ReadsBy}
+pub use Rattle.spool_load.specs.ReadBy.{OpeningReadsBy, ReadsBy}
 pub use Rattle.spool_load.specs.Recovered.{ReadsSame, Unwritten}
 use Rattle.spool_load.specs.Refusals.{IsNoSpool, ReadsDamage, ReadsOtherVersion, RefusedBy}
 use Rattle.spool_pages.specs.View.{View}

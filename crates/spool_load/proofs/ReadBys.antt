@@ -2,9 +2,9 @@
 use Rattle.std.proofs.Common.{◌≡◌, ℕ, List, Option, Some, None, Result, Ok, Err, IfOk, MatchOption}
 use Rattle.std.proofs.Common.{MatchResult, refl, subst, sym}
 use Rattle.std.specs.Option.{ok_or}
-use Rattle.spool_disk.specs.Given.{ReadsGave, MoreReads}
+use Rattle.spool_disk.specs.Given.{Anywhere, ReadsGave, ReadsOnce}
 use Rattle.common.specs.declared.given.GivenRead.{GivenRead}
-use Rattle.spool_disk.proofs.Gave.{first, grew_none, grew_on, rest}
+use Rattle.spool_disk.proofs.Gave.{first, once_more, once_none, once_on, rest}
 use Rattle.spool_pages.specs.View.{View, Encodes, state_place}
 use Rattle.spool_catalog.specs.Holding.{Holding}
 use Rattle.spool_catalog.specs.Catalog.{HasViewAlone}
@@ -13,7 +13,7 @@ use Rattle.spool_catalog.specs.declared.error.OpenFault.{OpenFault}
 use Rattle.spool_catalog.specs.declared.error.OpenFault.TheVariants.{Version}
 use Rattle.spool_load.specs.Faults.{IsStopError, load_fault}
 use Rattle.spool_load.specs.Loaded.{FindsBy, FoundBy, IsFoundOf, LoadedFrom, LoadsBy, RestoresBy, FoundIsAt}
-use Rattle.spool_load.specs.ReadBy.{ReadsBy}
+use Rattle.spool_load.specs.ReadBy.{PartsBy, ReadsBy}
 use Rattle.spool_load.specs.Reads.{EncodesBlocks}
 use Rattle.spool_load.specs.Refusals.{HasJournal, NotFoundBy, RefusedHere, EncodesKnownVersion}
 use Rattle.spool_load.specs.declared.error.LoadError.{LoadError}
@@ -23,43 +23,59 @@ use Rattle.spool_load.proofs.Refused.{found_reason, read_reason, encodes_one, un
 
 -- THE TWO PARTS OF THE READS
 
-module _ {So : (before after : ℕ → ℕ) → Type 0} {a b : List GivenRead} (grew : MoreReads a b) where
+module _ {So : (before after : ℕ → ℕ) → Type 0} {P : ℕ → Type 0} {a b : List GivenRead} (reads : ReadsOnce P a b) where
   -- all reads belong to the first part
-  pub by_first : ((before after : ℕ → ℕ) → ReadsGave before a b → So before after) → ReadsBy a b So
+  pub by_first : {Q : ℕ → Type 0} → ((before after : ℕ → ℕ) → ReadsGave before a b → So before after)
+      → PartsBy P Q a b So
   by_first so = record {
     recovered = b;
-    first = grew;
-    last = grew_none refl;
+    first = reads;
+    last = once_none refl;
     so = λ before after early late. so before after early;
   }
 
-  pub by_both : {c : List GivenRead} → MoreReads b c
-      → ((before after : ℕ → ℕ) → ReadsGave before a b → ReadsGave after b c → So before after) → ReadsBy a c So
-  by_both then so = record { recovered = b; first = grew; last = then; so = so }
+  pub by_both : {Q : ℕ → Type 0} {c : List GivenRead} → ReadsOnce Q b c
+      → ((before after : ℕ → ℕ) → ReadsGave before a b → ReadsGave after b c → So before after) → PartsBy P Q a c So
+  by_both then so = record { recovered = b; first = reads; last = then; so = so }
 
   -- more reads before, in the first part
-  pub by_before : {c : List GivenRead} {So' : (before after : ℕ → ℕ) → Type 0} → ReadsBy b c So'
-      → ((before after : ℕ → ℕ) → ReadsGave before a b → So' before after → So before after) → ReadsBy a c So
-  by_before is more = record {
+  pub by_before : {P' Q : ℕ → Type 0} {c : List GivenRead} {So' : (before after : ℕ → ℕ) → Type 0}
+      → PartsBy P' Q b c So' → ((p : ℕ) → P p → P' p → ⊥)
+      → ((before after : ℕ → ℕ) → ReadsGave before a b → So' before after → So before after)
+      → PartsBy Anywhere Q a c So
+  by_before is apart more = record {
     recovered = is.recovered;
-    first = grew_on grew is.first;
+    first = once_on reads is.first apart (λ p of. tt) (λ p of. tt);
     last = is.last;
     so =
-        λ before after early late. more before after (first grew is.first early)
-        (is.so before after (rest grew is.first early) late);
+        λ before after early late. more before after (first reads.since is.first.since early)
+        (is.so before after (rest reads.since is.first.since early) late);
   }
 
--- more reads afterwards, in the second part
-pub by_after : {So So' : (before after : ℕ → ℕ) → Type 0} {a b c : List GivenRead} → ReadsBy a b So' → MoreReads b c
-    → ((before after : ℕ → ℕ) → So' before after → ReadsGave after b c → So before after) → ReadsBy a c So
-by_after is grew more = record {
-  recovered = is.recovered;
-  first = is.first;
-  last = grew_on is.last grew;
-  so =
-      λ before after early late. more before after (is.so before after early (first is.last grew late))
-      (rest is.last grew late);
-}
+module _ {So So' : (before after : ℕ → ℕ) → Type 0} {P Q : ℕ → Type 0} {a b : List GivenRead} (is : PartsBy P Q a b So')
+  where
+    -- no more reads
+    pub by_same : {c : List GivenRead} → c ≡ b → ((before after : ℕ → ℕ) → So' before after → So before after)
+        → ReadsBy a c So
+    by_same same more = subst (λ (l : List GivenRead). ReadsBy a l So) (sym same) (record {
+      recovered = is.recovered;
+      first = once_more (λ p of. tt) is.first;
+      last = once_more (λ p of. tt) is.last;
+      so = λ before after early late. more before after (is.so before after early late);
+    })
+
+    -- more reads afterwards, in the second part
+    pub by_after : {Q' : ℕ → Type 0} {c : List GivenRead} → ReadsOnce Q' b c → ((p : ℕ) → Q p → Q' p → ⊥)
+        → ((before after : ℕ → ℕ) → So' before after → ReadsGave after b c → So before after) → ReadsBy a c So
+    by_after reads apart more = record {
+      recovered = is.recovered;
+      first = once_more (λ p of. tt) is.first;
+      last = once_on is.last reads apart (λ p of. tt) (λ p of. tt);
+      so =
+          λ before after early late. more before after
+          (is.so before after early (first is.last.since reads.since late))
+          (rest is.last.since reads.since late);
+    }
 
 -- THE ANSWERS
 

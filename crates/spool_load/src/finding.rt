@@ -1,16 +1,16 @@
 //! Finding a spool on a disk, and recovering it.
-ghost use Rattle.std.specs.Prelude.{◌≡◌, ◌⊎◌, ◌≤◌, ◌<◌, ◌*◌, ◌^◌, ◌↔◌};
+ghost use Rattle.std.specs.Prelude.{◌≡◌, ◌⊎◌, ◌≤◌, ◌<◌, ◌+◌, ◌*◌, ◌^◌, ◌↔◌};
 ghost use Rattle.std.specs.Prelude.{ℕ, Err, IsErr, IfOk, IfErr, IfSome, IsNone, IsSomeAnd, IsTrue, MatchOption, get_or};
 ghost use Rattle.common.specs.declared.stop.Stop.{Stop};
 ghost use Rattle.spool_disk.specs.Disk.{IsImage, Counts, Preserves};
-ghost use Rattle.spool_disk.specs.Given.{ReadsGave, MoreReads};
+ghost use Rattle.spool_disk.specs.Given.{Anywhere, Between, ReadsGave, ReadsOnce};
 ghost use Rattle.spool_disk.specs.Views.{Lasts};
 ghost use Rattle.spool_journal.specs.Image.{journal_pages, all_pages, byte_of, overlaid};
 ghost use Rattle.spool_journal.specs.Phases.{Settled, ReadsAs};
 ghost use Rattle.spool_catalog.specs.Loads.{LoadsAs};
 ghost use Rattle.spool_catalog.specs.Shows.{IsValid};
 ghost use Rattle.spool_load.specs.Loaded.{FindsBy, FoundOn, IsFoundOf, RestoresBy, IsFoundState, FoundIsAt};
-ghost use Rattle.spool_load.specs.ReadBy.{ReadsBy};
+ghost use Rattle.spool_load.specs.ReadBy.{IsOfFound, IsOfState, PartsBy};
 ghost use Rattle.spool_load.specs.Reads.{OnlyReads, EncodesBlocks};
 ghost use Rattle.spool_load.specs.Recovered.{LeavesRead, OfView, ReadsSame, Recovered, Unwritten};
 ghost use Rattle.spool_load.specs.Refusals.{IsNoSpool, NotFoundFor, RefusedAt, EncodesKnownVersion};
@@ -47,7 +47,7 @@ fn read_prefix<D: Disk>(disk: &mut D) -> Result<[u8; 12], DiskFault>
         → Preserves (D.current disk.old) (D.current disk.new) (D.unsynced disk.old) (D.unsynced disk.new) }
     ensures lasts { D.honest disk.old → Lasts D.Disk disk.old disk.new
         (IsImage (D.current disk.old) (D.unsynced disk.old)) }
-    ensures grew { MoreReads (D.reads disk.old) (D.reads disk.new) }
+    ensures once { ReadsOnce (Between 0 12) (D.reads disk.old) (D.reads disk.new) }
     ensures gave { D.honest disk.old → ReadsGave (D.current disk.old) (D.reads disk.old) (D.reads disk.new) }
     ensures bytes { (bytes : ℕ → ℕ) → ReadsGave bytes (D.reads disk.old) (D.reads disk.new)
         → IfOk result (λ prefix. (i : ℕ) → i < 12 → get_or prefix i 0 ≡ bytes i) }
@@ -67,7 +67,7 @@ fn find_layout<D: Disk>(disk: &mut D) -> Result<Option<Layout>, DiskFault>
     ensures lasts { D.honest disk.old → Lasts D.Disk disk.old disk.new
         (IsImage (D.current disk.old) (D.unsynced disk.old)) }
     ensures room { IfOk result (λ found. IfSome found (λ layout. PAGE * all_pages layout ≤ D.size disk.old)) }
-    ensures grew { MoreReads (D.reads disk.old) (D.reads disk.new) }
+    ensures once { ReadsOnce (Between 0 12) (D.reads disk.old) (D.reads disk.new) }
     ensures gave { D.honest disk.old → ReadsGave (D.current disk.old) (D.reads disk.old) (D.reads disk.new) }
     ensures found { (bytes : ℕ → ℕ) → ReadsGave bytes (D.reads disk.old) (D.reads disk.new) → IfOk result
         (λ found. MatchOption found (IsNoSpool (D.size disk.old) bytes) (EncodesBlocks (D.size disk.old) bytes)) }
@@ -111,6 +111,7 @@ fn found_in(layout: Layout, page: &[u8; PAGE]) -> Option<Found>
 fn load_state<D: Disk>(disk: &mut D, layout: Layout) -> Result<Option<Found>, DiskFault>
     requires { PAGE * all_pages layout ≤ D.size disk.old }
     ensures reads { OnlyReads D.Disk disk.old disk.new }
+    ensures once { ReadsOnce (IsOfState layout) (D.reads disk.old) (D.reads disk.new) }
     ensures counts { Counts (IsErr result) (D.failures disk.old) (D.failures disk.new) }
     ensures layout { IfOk result (λ decoded. IfSome decoded (λ found. found.layout ≡ layout)) }
     ensures decoded { (bytes : ℕ → ℕ) → ReadsGave bytes (D.reads disk.old) (D.reads disk.new)
@@ -146,7 +147,8 @@ fn restore<D: Disk>(disk: &mut D, layout: Layout) -> Result<Found, OpenFault>
     ensures same { D.honest disk.old → (D.current disk.old PAGE ≡ 165 → ⊥)
         → (result ≡ Err (OpenFault.Stop Stop.DiskFault) → ⊥)
         → Preserves (D.current disk.old) (D.current disk.new) (D.unsynced disk.old) (D.unsynced disk.new) }
-    ensures given { ReadsBy (D.reads disk.old) (D.reads disk.new) (RestoresBy layout result) }
+    ensures given { PartsBy (Between PAGE (PAGE * (3 + journal_pages layout))) (IsOfFound result) (D.reads disk.old)
+        (D.reads disk.new) (RestoresBy layout result) }
 {
     recover(disk, &layout)?;
     load_state(disk, layout)?.ok_or(OpenFault::Version)
@@ -172,8 +174,8 @@ pub fn find<D: Disk>(disk: &mut D) -> Result<Found, OpenFault>
     ensures found { D.honest disk.old → IfOk result (FoundOn (D.size disk.old) (D.current disk.old)) }
     ensures refused { D.honest disk.old → IfErr result (NotFoundFor (D.size disk.old) (D.current disk.old)) }
 
-    // On any disk the answer follows from the bytes that the reads gave.
-    ensures given { ReadsBy (D.reads disk.old) (D.reads disk.new)
+    // On any disk the answer follows from the bytes that the reads gave. After the recovery only the state page is read.
+    ensures given { PartsBy Anywhere (IsOfFound result) (D.reads disk.old) (D.reads disk.new)
         (λ before after. FindsBy (D.size disk.old) before after result) }
 
     // All of the disk is synced then, and the gate is closed.

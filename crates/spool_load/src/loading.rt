@@ -3,18 +3,19 @@ ghost use Rattle.std.specs.Prelude.{◌≡◌, ◌≤◌, ◌<◌, ◌*◌, ◌-
 ghost use Rattle.std.specs.Prelude.{ℕ, None, false, replicate, length, get_or, IfOk, IsErrOf};
 ghost use Rattle.common.specs.declared.stop.Stop.{Stop};
 ghost use Rattle.spool_disk.specs.Disk.{Counts};
-ghost use Rattle.spool_disk.specs.Given.{ReadsGave};
+ghost use Rattle.spool_disk.specs.Given.{Between, ReadsGave, ReadsOnce};
 ghost use Rattle.spool_journal.specs.Image.{all_pages, journal_pages};
 ghost use Rattle.spool_catalog.specs.Checks.{RowsPass};
 ghost use Rattle.spool_load.specs.Faults.{Loads};
 ghost use Rattle.spool_load.specs.Loaded.{IsFoundOf, LoadedFrom, FoundIsAt};
+ghost use Rattle.spool_load.specs.ReadBy.{IsOfState};
 ghost use Rattle.spool_load.specs.Reads.{OnlyReads, FieldsAreAt, RowsAreAt};
 ghost use Rattle.spool_catalog.specs.Catalog.{HasViewAlone};
 ghost use Rattle.spool_catalog.specs.Shows.{IsValid, Shows};
 ghost use Rattle.enc_index.specs.Sets.{IsIndexSet};
 ghost use Rattle.upload_rules.specs.Store.{Store};
 ghost use Rattle.spool_pages.specs.Fits.{FitsRow};
-ghost use Rattle.spool_pages.specs.View.{View, Encodes};
+ghost use Rattle.spool_pages.specs.View.{View, Encodes, row_place, state_place};
 
 use crate::owners::load_rows;
 use crate::reading::{check_first, load_indexes};
@@ -32,6 +33,7 @@ use std::alloc::Global;
 fn load_fields<D: Disk>(alloc: Global, disk: &mut D, layout: &Layout) -> Result<IndexSet, LoadError>
     requires { PAGE * all_pages layout.now ≤ D.size disk.old }
     ensures reads { OnlyReads D.Disk disk.old disk.new }
+    ensures once { ReadsOnce (Between 0 (state_place layout.now)) (D.reads disk.old) (D.reads disk.new) }
     ensures counts { Counts (IsErrOf result (LoadError.Stop Stop.DiskFault)) (D.failures disk.old)
         (D.failures disk.new) }
     ensures decoded { (bytes : ℕ → ℕ) → ReadsGave bytes (D.reads disk.old) (D.reads disk.new)
@@ -57,6 +59,7 @@ fn load_blocks<D: Disk>(
     ensures long { IfOk result (λ blocks. length blocks.rows ≡ layout.now) }
     ensures fits { IfOk result (λ blocks. (b : ℕ) → FitsRow (get_or blocks.rows b None)) }
     ensures reads { OnlyReads D.Disk disk.old disk.new }
+    ensures once { ReadsOnce (Between (row_place layout.now 0) (row_place layout.now (ROWS * (journal_pages layout.now - 257)))) (D.reads disk.old) (D.reads disk.new) }
     ensures counts { Counts (IsErrOf result (LoadError.Stop Stop.DiskFault)) (D.failures disk.old)
         (D.failures disk.new) }
     ensures decoded { (bytes : ℕ → ℕ) → ReadsGave bytes (D.reads disk.old) (D.reads disk.new)
@@ -84,6 +87,7 @@ fn load_blocks<D: Disk>(
 pub fn read<D: Disk>(alloc: Global, disk: &mut D, found: Found) -> Result<Catalog, LoadError>
     requires { PAGE * all_pages found.layout ≤ D.size disk.old }
     ensures reads { OnlyReads D.Disk disk.old disk.new }
+    ensures once { ReadsOnce (λ p. IsOfState found.layout p → ⊥) (D.reads disk.old) (D.reads disk.new) }
     ensures counts { Counts (IsErrOf result (LoadError.Stop Stop.DiskFault)) (D.failures disk.old)
         (D.failures disk.new) }
     ensures layout { IfOk result (λ catalog. catalog.layout ≡ found.layout) }

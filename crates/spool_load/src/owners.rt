@@ -3,7 +3,7 @@ ghost use Rattle.std.specs.Prelude.{◌≡◌, ◌≢◌, ◌≤◌, ◌<◌, �
 ghost use Rattle.std.specs.Prelude.{ℕ, List, Option, None, length, get_or, IsErrOf, IsOkAnd, IfOk, OnOk, OnErr};
 ghost use Rattle.common.specs.declared.stop.Stop.{Stop};
 ghost use Rattle.spool_disk.specs.Disk.{Counts};
-ghost use Rattle.spool_disk.specs.Given.{ReadsGave};
+ghost use Rattle.spool_disk.specs.Given.{Between, ReadsGave, ReadsOnce};
 ghost use Rattle.spool_journal.specs.Image.{journal_pages, all_pages, byte_of};
 ghost use Rattle.spool_pages.specs.Fits.{FitsRow};
 ghost use Rattle.spool_load.specs.Faults.{Loads};
@@ -85,6 +85,7 @@ fn load_page<D: Disk>(
     requires few { page < 128 }
     requires free { IsFreeFrom (ROWS * page) rows.old }
     ensures reads { OnlyReads D.Disk disk.old disk.new }
+    ensures once { ReadsOnce (Between (row_place layout.now (ROWS * page)) (row_place layout.now (ROWS * (page + 1)))) (D.reads disk.old) (D.reads disk.new) }
     ensures counts { Counts (IsErrOf result (LoadError.Stop Stop.DiskFault)) (D.failures disk.old)
         (D.failures disk.new) }
     ensures decoded { (bytes : ℕ → ℕ) → ReadsGave bytes (D.reads disk.old) (D.reads disk.new)
@@ -108,6 +109,7 @@ fn load_pages<D: Disk>(disk: &mut D, layout: &Layout, rows: &mut [Row]) -> Resul
     requires room { PAGE * all_pages layout.now ≤ D.size disk.old }
     requires free { IsFreeFrom 0 rows.old }
     ensures reads { OnlyReads D.Disk disk.old disk.new }
+    ensures once { ReadsOnce (Between (row_place layout.now 0) (row_place layout.now (ROWS * (journal_pages layout.now - 257)))) (D.reads disk.old) (D.reads disk.new) }
     ensures counts { Counts (IsErrOf result (LoadError.Stop Stop.DiskFault)) (D.failures disk.old)
         (D.failures disk.new) }
     ensures decoded { (bytes : ℕ → ℕ) → ReadsGave bytes (D.reads disk.old) (D.reads disk.new)
@@ -132,6 +134,7 @@ pub(crate) fn load_rows<D: Disk>(
 ) -> Result<Vec<Row>, LoadError>
     requires { PAGE * all_pages layout.now ≤ D.size disk.old }
     ensures reads { OnlyReads D.Disk disk.old disk.new }
+    ensures once { ReadsOnce (Between (row_place layout.now 0) (row_place layout.now (ROWS * (journal_pages layout.now - 257)))) (D.reads disk.old) (D.reads disk.new) }
     ensures counts { Counts (IsErrOf result (LoadError.Stop Stop.DiskFault)) (D.failures disk.old)
         (D.failures disk.new) }
     ensures long { IfOk result (λ rows. length rows.items ≡ layout.now) }

@@ -5,11 +5,11 @@ ghost use Rattle.enc_model.specs.Indexes.{IndexSet};
 ghost use Rattle.enc_index.specs.Area.{area_byte};
 ghost use Rattle.enc_index.specs.Sets.{IsIndexSet};
 ghost use Rattle.spool_disk.specs.Disk.{Counts};
-ghost use Rattle.spool_disk.specs.Given.{ReadsGave};
+ghost use Rattle.spool_disk.specs.Given.{Between, ReadsGave, ReadsOnce};
 ghost use Rattle.spool_journal.specs.Image.{all_pages};
 ghost use Rattle.spool_load.specs.Faults.{Loads};
 ghost use Rattle.spool_load.specs.Reads.{OnlyReads, IsReadAt, AreaIsAt};
-ghost use Rattle.spool_pages.specs.View.{AreAt, first_page, index_place};
+ghost use Rattle.spool_pages.specs.View.{AreAt, first_page, index_place, state_place};
 
 use crate::LoadError;
 use common::Stop;
@@ -23,6 +23,7 @@ use std::alloc::Global;
 pub(crate) fn read_at<D: Disk>(disk: &mut D, place: u64, buf: &mut [u8]) -> Result<(), DiskFault>
     requires { place + length buf.old ≤ D.size disk.old }
     ensures reads { OnlyReads D.Disk disk.old disk.new }
+    ensures once { ReadsOnce (Between place (place + length buf.new)) (D.reads disk.old) (D.reads disk.new) }
     ensures counts { Counts (IsErr result) (D.failures disk.old) (D.failures disk.new) }
     ensures bytes { (bytes : ℕ → ℕ) → ReadsGave bytes (D.reads disk.old) (D.reads disk.new)
         → OnOk result (IsReadAt bytes place buf.new) }
@@ -34,6 +35,7 @@ pub(crate) fn read_at<D: Disk>(disk: &mut D, place: u64, buf: &mut [u8]) -> Resu
 pub(crate) fn check_first<D: Disk>(disk: &mut D, layout: &Layout) -> Result<(), LoadError>
     requires { PAGE * all_pages layout.now ≤ D.size disk.old }
     ensures reads { OnlyReads D.Disk disk.old disk.new }
+    ensures once { ReadsOnce (Between 0 PAGE) (D.reads disk.old) (D.reads disk.new) }
     ensures counts { Counts (IsErrOf result (LoadError.Stop Stop.DiskFault)) (D.failures disk.old)
         (D.failures disk.new) }
     ensures decoded { (bytes : ℕ → ℕ) → ReadsGave bytes (D.reads disk.old) (D.reads disk.new)
@@ -60,6 +62,7 @@ fn push_area_page<D: Disk>(
     requires room { PAGE * all_pages layout.now ≤ D.size disk.old }
     requires page { page < 22 }
     ensures reads { OnlyReads D.Disk disk.old disk.new }
+    ensures once { ReadsOnce (Between (index_place layout.now + PAGE * page) (index_place layout.now + PAGE * (page + 1))) (D.reads disk.old) (D.reads disk.new) }
     ensures counts { Counts (IsErrOf result (LoadError.Stop Stop.DiskFault)) (D.failures disk.old)
         (D.failures disk.new) }
     ensures others { Loads result (λ done. length area.new.items ≡ length area.old.items + PAGE) }
@@ -77,6 +80,7 @@ fn push_area_page<D: Disk>(
 fn load_area<D: Disk>(alloc: Global, disk: &mut D, layout: &Layout) -> Result<Vec<u8>, LoadError>
     requires { PAGE * all_pages layout.now ≤ D.size disk.old }
     ensures reads { OnlyReads D.Disk disk.old disk.new }
+    ensures once { ReadsOnce (Between (index_place layout.now) (state_place layout.now)) (D.reads disk.old) (D.reads disk.new) }
     ensures counts { Counts (IsErrOf result (LoadError.Stop Stop.DiskFault)) (D.failures disk.old)
         (D.failures disk.new) }
     ensures long { Loads result (λ area. length area.items ≡ 90112) }
@@ -98,6 +102,7 @@ pub(crate) fn load_indexes<D: Disk>(
 ) -> Result<IndexSet, LoadError>
     requires { PAGE * all_pages layout.now ≤ D.size disk.old }
     ensures reads { OnlyReads D.Disk disk.old disk.new }
+    ensures once { ReadsOnce (Between (index_place layout.now) (state_place layout.now)) (D.reads disk.old) (D.reads disk.new) }
     ensures counts { Counts (IsErrOf result (LoadError.Stop Stop.DiskFault)) (D.failures disk.old)
         (D.failures disk.new) }
     ensures decoded { (bytes : ℕ → ℕ) → ReadsGave bytes (D.reads disk.old) (D.reads disk.new)

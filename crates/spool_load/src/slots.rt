@@ -2,7 +2,7 @@
 ghost use Rattle.std.specs.Prelude.{◌≡◌, ◌≤◌, ◌<◌, ◌*◌, ◌+◌, ◌-◌};
 ghost use Rattle.std.specs.Prelude.{ℕ, List, Option, None, length, get_or, IfOk, IsErrOf, MatchResult, OnOk};
 ghost use Rattle.spool_disk.specs.Disk.{Counts};
-ghost use Rattle.spool_disk.specs.Given.{ReadsGave};
+ghost use Rattle.spool_disk.specs.Given.{Between, ReadsGave, ReadsOnce};
 ghost use Rattle.spool_journal.specs.Image.{all_pages};
 ghost use Rattle.spool_pages.specs.Bytes.{IsPadded};
 ghost use Rattle.spool_pages.specs.Fits.{FitsSlotOf};
@@ -51,6 +51,7 @@ fn load_slot<D: Disk>(
     requires room { PAGE * all_pages layout.now ≤ D.size disk.old }
     requires slot { slot < SLOTS }
     ensures reads { OnlyReads D.Disk disk.old disk.new }
+    ensures once { ReadsOnce (Between (slot_place layout.now slot) (slot_place layout.now (slot + 1))) (D.reads disk.old) (D.reads disk.new) }
     ensures counts { Counts (IsErrOf result (LoadError.Stop Stop.DiskFault)) (D.failures disk.old)
         (D.failures disk.new) }
     ensures decoded { (bytes : ℕ → ℕ) → ReadsGave bytes (D.reads disk.old) (D.reads disk.new)
@@ -78,6 +79,7 @@ fn push_slot<D: Disk>(
     requires room { PAGE * all_pages layout.now ≤ D.size disk.old }
     requires slot { slot < SLOTS }
     ensures reads { OnlyReads D.Disk disk.old disk.new }
+    ensures once { ReadsOnce (Between (slot_place layout.now slot) (slot_place layout.now (slot + 1))) (D.reads disk.old) (D.reads disk.new) }
     ensures counts { Counts (IsErrOf result (LoadError.Stop Stop.DiskFault)) (D.failures disk.old)
         (D.failures disk.new) }
     ensures long { OnOk result (length slots.new.items ≡ length slots.old.items + 1) }
@@ -108,6 +110,7 @@ pub(crate) fn load_slots<D: Disk>(
 ) -> Result<Vec<Option<CatalogRecord>>, LoadError>
     requires { PAGE * all_pages layout.now ≤ D.size disk.old }
     ensures reads { OnlyReads D.Disk disk.old disk.new }
+    ensures once { ReadsOnce (Between (slot_place layout.now 0) (slot_place layout.now SLOTS)) (D.reads disk.old) (D.reads disk.new) }
     ensures counts { Counts (IsErrOf result (LoadError.Stop Stop.DiskFault)) (D.failures disk.old)
         (D.failures disk.new) }
     ensures long { IfOk result (λ slots. length slots.items ≡ SLOTS) }

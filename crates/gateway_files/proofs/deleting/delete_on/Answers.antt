@@ -1,6 +1,5 @@
 use Rattle.std.proofs.Common.{[], ◌∷◌, Some, ap, false, inl, inr, refl, subst, sym, true, ◌∙◌}
-use Rattle.spool_disk.proofs.Gave.{grew_none}
-use Rattle.spool_load.proofs.ReadBys.{by_after}
+use Rattle.spool_load.proofs.ReadBys.{by_same}
 use Rattle.spool_image.specs.LeftOnly.{AllShow}
 use Rattle.spool_image.specs.Spool.{disk_of, block_count_of}
 use Rattle.spool_image.specs.contracts.spool.SpoolUploads.TheImpl.Laws.{durable-law}
@@ -59,9 +58,9 @@ returns-in-Err-clause-damaged g c honest is = is_damaged _ _ c.from.ensures (c.i
 pub returns-in-Ok-clause-given : goal.returns-in-Ok-clause-given
 returns-in-Ok-clause-given g c =
     let done = c.delete_uploads-deleted in
-    by_after c.in-Ok.ensures.given
-    (grew_none (ap g.D.Disk.reads c.into_disk.ensures.same ∙ done.ensures.reads))
-    (λ before after is late. record {
+    by_same c.in-Ok.ensures.given
+    (ap g.D.Disk.reads c.into_disk.ensures.same ∙ done.ensures.reads)
+    (λ before after is. record {
       refused = change_refused _ before after done.result done.ensures.refused;
       done =
           done_by _ before after _ _ done.result (λ v m shows has_view.
@@ -72,5 +71,5 @@ returns-in-Ok-clause-given g c =
 
 pub returns-in-Err-clause-given : goal.returns-in-Err-clause-given
 returns-in-Err-clause-given g c =
-    by_after c.in-Err.ensures.given (grew_none refl)
-    (λ before after is late. unopened _ before after c.in-Err.fault c.from.result c.from.ensures is.exact.refused)
+    by_same c.in-Err.ensures.given refl
+    (λ before after is. unopened _ before after c.in-Err.fault c.from.result c.from.ensures is.exact.refused)

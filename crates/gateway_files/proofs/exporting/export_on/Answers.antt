@@ -1,6 +1,6 @@
 use Rattle.std.proofs.Common.{[], ◌∷◌, Some, ap, false, inl, inr, refl, true}
 use Rattle.spool_disk.proofs.Gave.{grew_none, grew_on}
-use Rattle.spool_load.proofs.ReadBys.{by_after}
+use Rattle.spool_load.proofs.ReadBys.{by_same}
 use Rattle.spool_image.specs.Spool.{disk_of, block_count_of}
 use Rattle.spool_image.specs.contracts.spool.SpoolUploads.TheImpl.Laws.{durable-law}
 use Rattle.upload_rules.specs.World.{at_rest}
@@ -76,18 +76,24 @@ returns-in-Err-clause-damaged g c honest is = is_damaged _ _ c.from.ensures (c.i
 pub returns-in-Ok-clause-given : goal.returns-in-Ok-clause-given
 returns-in-Ok-clause-given g c =
     let done = c.export_uploads-exported in
-    by_after c.in-Ok.ensures.given
-    (grew_on done.ensures.reads (grew_none (ap g.D.Disk.reads c.into_disk.ensures.same)))
-    (λ before after is late. record {
-      refused = change_refused _ before after done.result done.ensures.refused;
-      done =
-          done_by _ before after _ _ done.result (λ v m shows has_view. ok_each _ done.result (λ files.
-          ok_each _ done.result (λ held.
-          done.ensures.files false (at_rest m (Some v.blocks)) (c.in-Ok.ensures.represents_view v m shows has_view)
-          (shown_in_order v m shows) files held))) is.memory;
-    })
+    record {
+      opened = g.D.Disk.reads (disk_of c.in-Ok.spool);
+      by = by_same c.in-Ok.ensures.given refl (λ before after is. record {
+        refused = change_refused _ before after done.result done.ensures.refused;
+        done =
+            done_by _ before after _ _ done.result (λ v m shows has_view. ok_each _ done.result (λ files.
+            ok_each _ done.result (λ held.
+            done.ensures.files false (at_rest m (Some v.blocks)) (c.in-Ok.ensures.represents_view v m shows has_view)
+            (shown_in_order v m shows) files held))) is.memory;
+      });
+      others = grew_on done.ensures.reads (grew_none (ap g.D.Disk.reads c.into_disk.ensures.same));
+    }
 
 pub returns-in-Err-clause-given : goal.returns-in-Err-clause-given
 returns-in-Err-clause-given g c =
-    by_after c.in-Err.ensures.given (grew_none refl)
-    (λ before after is late. unopened _ before after c.in-Err.fault c.from.result c.from.ensures is.exact.refused)
+    record {
+      opened = g.D.Disk.reads c.in-Err.disk;
+      by = by_same c.in-Err.ensures.given refl
+          (λ before after is. unopened _ before after c.in-Err.fault c.from.result c.from.ensures is.exact.refused);
+      others = grew_none refl;
+    }

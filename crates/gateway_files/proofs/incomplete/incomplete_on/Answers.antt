@@ -1,6 +1,5 @@
 use Rattle.std.proofs.Common.{ap, Some, false, refl, subst, sym, true}
-use Rattle.spool_disk.proofs.Gave.{grew_none}
-use Rattle.spool_load.proofs.ReadBys.{by_after}
+use Rattle.spool_load.proofs.ReadBys.{by_same}
 use Rattle.spool_disk.specs.Views.{Lasts}
 use Rattle.spool_image.specs.LeftOnly.{AllShow, LeftOrShows}
 use Rattle.upload_rules.specs.World.{at_rest}
@@ -30,8 +29,8 @@ returns-in-Err-clause-damaged g c honest is = is_damaged _ _ c.from.ensures (c.i
 pub returns-in-Ok-clause-given : goal.returns-in-Ok-clause-given
 returns-in-Ok-clause-given g c =
     let found = c.incomplete_numbers-numbers in
-    by_after c.in-Ok.ensures.given (grew_none (ap g.D.Disk.reads c.into_disk.ensures.same))
-    (λ before after is late. record {
+    by_same c.in-Ok.ensures.given (ap g.D.Disk.reads c.into_disk.ensures.same)
+    (λ before after is. record {
       refused = memory_refused _ before after found.result found.ensures.refused;
       done =
           done_by _ before after _ _ found.result (λ v m shows has_view. ok_if _ found.result
@@ -42,5 +41,5 @@ returns-in-Ok-clause-given g c =
 
 pub returns-in-Err-clause-given : goal.returns-in-Err-clause-given
 returns-in-Err-clause-given g c =
-    by_after c.in-Err.ensures.given (grew_none refl)
-    (λ before after is late. unopened _ before after c.in-Err.fault c.from.result c.from.ensures is.exact.refused)
+    by_same c.in-Err.ensures.given refl
+    (λ before after is. unopened _ before after c.in-Err.fault c.from.result c.from.ensures is.exact.refused)

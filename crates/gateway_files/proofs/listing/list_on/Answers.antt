@@ -1,7 +1,6 @@
 use Rattle.std.proofs.Common.{ap, Err, Some, false, refl, subst, sym, true}
 use Rattle.spool_disk.specs.Views.{Lasts}
-use Rattle.spool_disk.proofs.Gave.{grew_none}
-use Rattle.spool_load.proofs.ReadBys.{by_after}
+use Rattle.spool_load.proofs.ReadBys.{by_same}
 use Rattle.spool_image.specs.LeftOnly.{AllShow, LeftOrShows}
 use Rattle.spool_image.specs.Spool.{SpoolRepresents}
 use Rattle.spool_image.proofs.Opening.{view_more}
@@ -41,8 +40,8 @@ returns-in-Err-clause-damaged g c honest is = is_damaged _ _ c.from.ensures (c.i
 
 pub returns-in-Ok-written-clause-given : goal.returns-in-Ok-written-clause-given
 returns-in-Ok-written-clause-given g c =
-    by_after c.in-Ok.ensures.given (grew_none (ap g.D.Disk.reads c.into_disk-disk.ensures.same))
-    (λ before after is late. record {
+    by_same c.in-Ok.ensures.given (ap g.D.Disk.reads c.into_disk-disk.ensures.same)
+    (λ before after is. record {
       refused = tt;
       done =
           view_more (λ v has_view m shows. c.in-Ok-written.ensures.lines false (at_rest m (Some v.blocks))
@@ -51,8 +50,8 @@ returns-in-Ok-written-clause-given g c =
 
 pub returns-in-Err-written-clause-given : goal.returns-in-Err-written-clause-given
 returns-in-Err-written-clause-given g c =
-    by_after c.in-Ok.ensures.given (grew_none (ap g.D.Disk.reads c.into_disk-disk.ensures.same))
-    (λ before after is late. record {
+    by_same c.in-Ok.ensures.given (ap g.D.Disk.reads c.into_disk-disk.ensures.same)
+    (λ before after is. record {
       refused =
           change_refused _ before after {T = Survey} (Err c.in-Err-written.fault)
           (write_fault _ c.in-Err-written.ensures.refused);
@@ -61,5 +60,5 @@ returns-in-Err-written-clause-given g c =
 
 pub returns-in-Err-clause-given : goal.returns-in-Err-clause-given
 returns-in-Err-clause-given g c =
-    by_after c.in-Err.ensures.given (grew_none refl)
-    (λ before after is late. unopened _ before after c.in-Err.fault c.from.result c.from.ensures is.exact.refused)
+    by_same c.in-Err.ensures.given refl
+    (λ before after is. unopened _ before after c.in-Err.fault c.from.result c.from.ensures is.exact.refused)

@@ -1,14 +1,13 @@
 use Rattle.std.proofs.Common.{refl}
 use Rattle.std.proofs.lemmas.Result.{err_from_is_err_and}
-use Rattle.spool_disk.proofs.Gave.{grew_none}
-use Rattle.spool_load.proofs.ReadBys.{by_after}
+use Rattle.spool_load.proofs.ReadBys.{by_same}
 use Rattle.spool_image.proofs.Opening.{opened_exactly}
 use Rattle.gateway_files.proofs.Refusals.{loads_err}
 use Rattle.gateway_files.proofs.surveying.open_surveyed.Goals as goal
 
 pub returns-clause-given : goal.returns-clause-given
 returns-clause-given g c =
-    by_after c.in_ok-spool.ensures.given (grew_none refl) (λ before after is late. record {
+    by_same c.in_ok-spool.ensures.given refl (λ before after is. record {
       exact = opened_exactly _ before after is.memory;
       memory = is.memory;
       opened = is.opened;
@@ -17,7 +16,7 @@ returns-clause-given g c =
 pub returns-in_err-spool-clause-given : goal.returns-in_err-spool-clause-given
 returns-in_err-spool-clause-given g c =
     let p = err_from_is_err_and c.from_residual.result c.from_residual.ensures.1 in
-    rw (p.1, p.2) (by_after c.in_err-spool.ensures.given (grew_none refl) (λ before after is late. record {
+    rw (p.1, p.2) (by_same c.in_err-spool.ensures.given refl (λ before after is. record {
       exact = is.exact;
       memory = tt;
       opened = λ v valid encodes. loads_err _ _ _ (is.opened v valid encodes);

@@ -1,7 +1,6 @@
 use Rattle.std.proofs.Common.{◌≡◌, ◌∙◌, ℕ, Err, ap, refl, sym, subst, rules}
 use Rattle.std.proofs.lemmas.Result.{err_from_is_err_and}
 use Rattle.spool_disk.proofs.Firm.{counts_on}
-use Rattle.spool_disk.proofs.Gave.{grew_none}
 use Rattle.spool_journal.specs.Image.{journal_pages, overlaid}
 use Rattle.spool_journal.specs.Phases.{Settled}
 use Rattle.spool_catalog.specs.Catalog.{HasViewAlone}
@@ -12,7 +11,7 @@ use Rattle.spool_load.specs.Faults.{load_fault}
 use Rattle.spool_load.specs.Loaded.{IsFoundOf}
 use Rattle.spool_load.proofs.Faults.{counts_reported, is_stop_error}
 use Rattle.spool_load.proofs.Looks.{ok_no_fault}
-use Rattle.spool_load.proofs.ReadBys.{by_after, loads_by, unread_by}
+use Rattle.spool_load.proofs.ReadBys.{by_after, by_same, loads_by, unread_by}
 use Rattle.spool_load.proofs.Opens.{read_lasts, read_same, read_settled, read_unwritten, recovered_encodes}
 use Rattle.spool_load.proofs.Opens.{settled_still}
 use Rattle.spool_load.proofs.Refused.{found_back, opened_on, read_reason}
@@ -184,20 +183,20 @@ returns-then-eq-clause-stays g c honest v valid is room device =
 pub returns-in_err-found-clause-given : goal.returns-in_err-found-clause-given
 returns-in_err-found-clause-given g c =
     let e = err_from_is_err_and c.from_residual.result c.from_residual.ensures.1 in
-    rw (e.1, e.2) (by_after c.in_err-found.ensures.given (grew_none refl)
-    (λ before after is late. unfound_upgrade _ before after c.in_err-found.field-0.0 is.answer))
+    rw (e.1, e.2) (by_same c.in_err-found.ensures.given refl
+    (λ before after is. unfound_upgrade _ before after c.in_err-found.field-0.0 is.answer))
 
 pub returns-then-eq-clause-given : goal.returns-then-eq-clause-given
 returns-then-eq-clause-given g c =
     let new : c.in_ok-found.found.version ≡ Two = search rules in
-    by_after c.in_ok-found.ensures.given (grew_none refl)
-    (λ before after is late. found_new _ before after c.in_ok-found.found is.answer new)
+    by_same c.in_ok-found.ensures.given refl
+    (λ before after is. found_new _ before after c.in_ok-found.found is.answer new)
 
 pub returns-in_err-catalog-clause-given : goal.returns-in_err-catalog-clause-given
 returns-in_err-catalog-clause-given g c =
     let e = err_from_is_err_and c.from_residual-in_err-catalog.result c.from_residual-in_err-catalog.ensures.1 in
     let old : c.in_ok-found.found.version ≡ One = search rules in
-    rw (e.1, e.2) (by_after c.in_ok-found.ensures.given c.read.ensures.reads.grew
+    rw (e.1, e.2) (by_after c.in_ok-found.ensures.given c.read.ensures.once (λ p is elsewhere. elsewhere is)
     (λ before after is late. old_reason _ before after (load_fault c.in_err-catalog.field-0.0)
     (λ damaged. found_old _ before after c.in_ok-found.found is.answer old)
     (unread_by _ before after c.in_ok-found.found is c.in_err-catalog.field-0.0
@@ -206,7 +205,7 @@ returns-in_err-catalog-clause-given g c =
 pub returns-clause-given : goal.returns-clause-given
 returns-clause-given g c =
     let old : c.in_ok-found.found.version ≡ One = search rules in
-    by_after c.in_ok-found.ensures.given c.read.ensures.reads.grew
+    by_after c.in_ok-found.ensures.given c.read.ensures.once (λ p is elsewhere. elsewhere is)
     (λ before after is late. upgrades_by _ before after c.in_ok-found.found c.in_ok-catalog.catalog old
     c.in_ok-catalog.ensures.version
     (loads_by _ before after c.in_ok-found.found is c.in_ok-catalog.catalog

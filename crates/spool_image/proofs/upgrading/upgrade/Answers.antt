@@ -5,12 +5,11 @@ use Rattle.spool_journal.specs.declared.TheConstants.{PAGE}
 use Rattle.spool_disk.specs.Disk.{IsImage, Preserves}
 use Rattle.spool_disk.specs.Views.{Lasts}
 use Rattle.spool_disk.proofs.Firm.{lasts_on, lasts_more}
-use Rattle.spool_disk.proofs.Gave.{grew_none}
 use Rattle.spool_journal.specs.Image.{all_pages, journal_pages, overlaid, Outside}
 use Rattle.spool_catalog.specs.declared.error.OpenFault.TheVariants.{Stop}
 use Rattle.spool_pages.specs.Rests.{Rests}
 use Rattle.spool_load.proofs.Looks.{ok_no_fault}
-use Rattle.spool_load.proofs.ReadBys.{by_after}
+use Rattle.spool_load.proofs.ReadBys.{by_same}
 use Rattle.spool_image.specs.declared.error.UpgradeError.TheVariants.{Open}
 use Rattle.spool_image.proofs.Opens.{reads_shows, view_room}
 use Rattle.spool_image.proofs.Refused.{opened_is_known, opened_is_old, opened_is_spool, opened_is_whole}
@@ -199,9 +198,9 @@ returns-clause-same g c honest none =
 pub returns-in_err-catalog-clause-given : goal.returns-in_err-catalog-clause-given
 returns-in_err-catalog-clause-given g c =
     let e = err_from_is_err_and c.from_residual.result c.from_residual.ensures.1 in
-    rw (e.1, e.2) (by_after c.in_err-catalog.ensures.given (grew_none refl) (λ before after is late. is))
+    rw (e.1, e.2) (by_same c.in_err-catalog.ensures.given refl (λ before after is. is))
 
 pub returns-clause-given : goal.returns-clause-given
 returns-clause-given g c =
-    by_after c.in_ok-catalog.ensures.given (grew_none c.rewrite.ensures.reads)
-    (λ before after is late. late_by _ before after c.rewrite.result c.rewrite.ensures.late is)
+    by_same c.in_ok-catalog.ensures.given c.rewrite.ensures.reads
+    (λ before after is. late_by _ before after c.rewrite.result c.rewrite.ensures.late is)

@@ -1,5 +1,6 @@
 use Rattle.std.proofs.Common.{◌≡◌, inl, inr, ℕ, Result, Ok, Err, IfOk, IfErr, MatchOption, None, Option, Some, sym}
-use Rattle.std.proofs.Common.{subst, ⊎_elim}
+use Rattle.std.proofs.Common.{arith, subst, ⊎_elim}
+use Rattle.spool_disk.proofs.Gave.{once_more}
 use Rattle.std.proofs.lemmas.Result.{err_from_is_err_and}
 use Rattle.spool_disk.proofs.Firm.{lasts_on, lasts_more}
 use Rattle.spool_journal.specs.Image.{journal_pages, overlaid}
@@ -136,18 +137,19 @@ returns-in-Some-clause-settled g c honest =
 pub returns-in_err-layout-clause-given : goal.returns-in_err-layout-clause-given
 returns-in_err-layout-clause-given g c =
     let p = err_from_is_err_and c.from_residual.result c.from_residual.ensures.1 in
-    by_first c.find_layout.ensures.grew
+    by_first (once_more (λ p of. tt) c.find_layout.ensures.once)
     (λ before after early. rw (p.1, p.2) (record { answer = tt; finds = λ v valid encodes_by. tt }))
 
 pub returns-in-None-clause-given : goal.returns-in-None-clause-given
 returns-in-None-clause-given g c =
-    by_first c.find_layout.ensures.grew (λ before after early.
+    by_first (once_more (λ p of. tt) c.find_layout.ensures.once) (λ before after early.
     let none = none_there _ _ _ c.in-None.is (c.in_ok-layout.ensures.found before early) in
     record { answer = none; finds = λ v valid encodes_by. absurd (none v.blocks encodes_by.begins) })
 
 pub returns-in-Some-clause-given : goal.returns-in-Some-clause-given
 returns-in-Some-clause-given g c =
-    by_before c.find_layout.ensures.grew c.restore.ensures.given (λ before after early is.
+    by_before c.find_layout.ensures.once c.restore.ensures.given (λ p is also. omega (arith, is.1, also.0))
+    (λ before after early is.
     finds_by _ before after c.in-Some.layout
     (encodes_there _ _ _ _ c.in-Some.is (c.in_ok-layout.ensures.found before early)) c.restore.result
     c.restore.ensures.layout is)

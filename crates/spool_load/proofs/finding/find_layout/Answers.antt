@@ -3,7 +3,7 @@ use Rattle.std.proofs.Common.{arith, ⊎_elim}
 use Rattle.std.proofs.lemmas.Bool.{cases_lt}
 use Rattle.std.proofs.lemmas.Option.{same_Some}
 use Rattle.common.specs.declared.limits.TheConstants.{LEAST_BLOCKS, MOST_BLOCKS}
-use Rattle.spool_disk.proofs.Gave.{none}
+use Rattle.spool_disk.proofs.Gave.{none, once_none}
 use Rattle.spool_journal.specs.Image.{all_pages}
 use Rattle.spool_pages.specs.View.{first_page}
 use Rattle.spool_load.proofs.Opens.{some_pages}
@@ -73,3 +73,6 @@ returns-clause-found g c bytes gave =
 
 pub returns-then-len-lt12-clause-gave : goal.returns-then-len-lt12-clause-gave
 returns-then-len-lt12-clause-gave g c honest = none refl
+
+pub returns-then-len-lt12-clause-once : goal.returns-then-len-lt12-clause-once
+returns-then-len-lt12-clause-once g c = once_none refl

@@ -1,4 +1,5 @@
 use Rattle.std.proofs.Common.{◌≡◌, rules, ◌+◌, length, arith}
+use Rattle.spool_disk.proofs.Gave.{between_more}
 use Rattle.spool_journal.specs.declared.TheConstants.{PAGE}
 use Rattle.spool_pages.specs.View.{state_place, state_page}
 use Rattle.spool_pages.proofs.Encodes.{all_is, some_journal}
@@ -24,3 +25,17 @@ returns-clause-found g c bytes gave =
     let here : state_place c.args.layout ≡ c.state_place.result + 0 = omega (arith, c.state_place.ensures) in
     state_read bytes c.args.layout _ c.read_at.new.buf c.found_in.result (c.in_ok-read_at.ensures.bytes bytes gave)
     wide here c.found_in.ensures.layout c.found_in.ensures.fields c.found_in.ensures.rest c.found_in.ensures.unknown
+
+pub returns-in_err-read_at-clause-once : goal.returns-in_err-read_at-clause-once
+returns-in_err-read_at-clause-once g c =
+    let wide : length c.read_at.new.buf ≡ PAGE = search rules in
+    between_more c.state_place.result (c.state_place.result + length c.read_at.new.buf) c.read_at.ensures.once
+    (state_place c.args.layout) (state_place c.args.layout + PAGE) (omega (arith, c.state_place.ensures))
+    (omega (arith, wide, c.state_place.ensures))
+
+pub returns-clause-once : goal.returns-clause-once
+returns-clause-once g c =
+    let wide : length c.read_at.new.buf ≡ PAGE = search rules in
+    between_more c.state_place.result (c.state_place.result + length c.read_at.new.buf) c.read_at.ensures.once
+    (state_place c.args.layout) (state_place c.args.layout + PAGE) (omega (arith, c.state_place.ensures))
+    (omega (arith, wide, c.state_place.ensures))

@@ -1,14 +1,19 @@
 use Rattle.std.proofs.Common.{◌≡◌, ◌+◌, ℕ, List, get_or, length, rules, sym, ◌∙◌, ap, arith}
 use Rattle.spool_disk.specs.Disk.{span}
-use Rattle.spool_disk.proofs.Gave.{grew_one, none, of_one, one}
+use Rattle.spool_disk.proofs.Gave.{none, of_one, once_none, once_one, one}
 use Rattle.spool_journal.proofs.Recovers.{get_span}
 use Rattle.spool_load.proofs.finding.read_prefix.Goals as goal
 
 pub returns-in_err-read-clause-gave : goal.returns-in_err-read-clause-gave
 returns-in_err-read-clause-gave g c honest = none c.in_err-read.ensures.none
 
-pub returns-clause-grew : goal.returns-clause-grew
-returns-clause-grew g c = grew_one c.in_ok-read.ensures.given
+pub returns-in_err-read-clause-once : goal.returns-in_err-read-clause-once
+returns-in_err-read-clause-once g c = once_none c.in_err-read.ensures.none
+
+pub returns-clause-once : goal.returns-clause-once
+returns-clause-once g c =
+    let wide : length c.read.new.buf ≡ 12 = search rules in
+    once_one c.in_ok-read.ensures.given (λ p from below. (omega (arith, from), omega (arith, below, wide)))
 
 pub returns-clause-gave : goal.returns-clause-gave
 returns-clause-gave g c honest =

@@ -164,14 +164,14 @@ pub returns-in_err-load_state-clause-given : goal.returns-in_err-load_state-clau
 returns-in_err-load_state-clause-given g c =
     let p =
     err_from_is_err_and c.from_residual-in_err-load_state.result c.from_residual-in_err-load_state.ensures.1 in
-    by_both c.recover.ensures.reads c.load_state.ensures.reads.grew
+    by_both c.recover.ensures.reads c.load_state.ensures.once
     (λ before after early late. rw (p.1, p.2) (record { answer = tt; restores = λ v valid blocks journal encodes. tt }))
 
 pub returns-clause-given : goal.returns-clause-given
 returns-clause-given g c =
     let n = c.args.layout in
     let decoded = c.in_ok-load_state.field-0 in
-    by_both c.recover.ensures.reads c.load_state.ensures.reads.grew (λ before after early late.
+    by_both c.recover.ensures.reads c.load_state.ensures.once (λ before after early late.
     subst (λ (r : Result Found OpenFault). RestoresBy n r before after) (sym c.ok_or.ensures.value) (record {
       answer =
           restored_by 0 before after n decoded (c.in_ok-recover.ensures.gave_form before early)

@@ -1,7 +1,8 @@
-use Rattle.std.proofs.Common.{ℕ, rules, subst, sym}
+use Rattle.std.proofs.Common.{ℕ, arith, rules, subst, sym}
+use Rattle.spool_disk.proofs.Gave.{between_more, between_on}
 use Rattle.spool_disk.proofs.Firm.{counts_on}
 use Rattle.spool_journal.specs.declared.TheConstants.{PAGE}
-use Rattle.spool_pages.specs.View.{AreAt, first_page}
+use Rattle.spool_pages.specs.View.{AreAt, first_page, index_place, state_place}
 use Rattle.spool_load.proofs.Looks.{gave_first, gave_rest, if_ok_more, ok_no_fault, reads_on}
 use Rattle.spool_load.proofs.ValidViews.{area_encoded}
 use Rattle.spool_load.proofs.loading.load_fields.Goals as goal
@@ -32,3 +33,13 @@ returns-clause-valid g c bytes gave =
     in
     if_ok_more c.load_indexes.result (λ x area. record { first = page; area = area })
     (c.load_indexes.ensures.valid bytes (gave_rest c.check_first.ensures.reads c.load_indexes.ensures.reads gave))
+
+pub returns-in_err-check_first-clause-once : goal.returns-in_err-check_first-clause-once
+returns-in_err-check_first-clause-once g c =
+    between_more 0 PAGE c.check_first.ensures.once 0 (state_place c.args.layout.now) (omega arith) (omega arith)
+
+pub returns-clause-once : goal.returns-clause-once
+returns-clause-once g c =
+    let n = c.args.layout.now in
+    between_on 0 PAGE c.check_first.ensures.once (index_place n) (state_place n) c.load_indexes.ensures.once (omega arith)
+    (omega arith) (omega arith)

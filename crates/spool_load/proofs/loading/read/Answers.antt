@@ -1,7 +1,13 @@
-use Rattle.std.proofs.Common.{◌≡◌, ◌∙◌, ℕ, List, Option, rules, sym, subst}
+use Rattle.std.proofs.Common.{◌≡◌, ◌∙◌, ◌-◌, ◌*◌, ℕ, List, Option, arith, refl, rules, sym, subst}
+use Rattle.common.specs.declared.given.GivenRead.{GivenRead}
+use Rattle.common.specs.declared.limits.TheConstants.{ROWS, SLOTS}
+use Rattle.spool_disk.specs.Given.{Between, ReadsOnce}
+use Rattle.spool_disk.proofs.Gave.{between_on, once_more, once_none, once_on}
+use Rattle.spool_journal.specs.Image.{journal_pages}
 use Rattle.std.proofs.lemmas.Bool.{false≢true}
 use Rattle.spool_disk.proofs.Firm.{counts_on}
-use Rattle.spool_pages.specs.View.{SlotRecord}
+use Rattle.spool_pages.specs.View.{SlotRecord, row_place, slot_place, state_place}
+use Rattle.spool_load.specs.ReadBy.{IsOfState}
 use Rattle.spool_catalog.specs.Checks.{RecordsPass}
 use Rattle.spool_load.proofs.ValidViews.{slots_updated, valid_passes, read_loaded, read_shows}
 use Rattle.spool_load.proofs.Faults.{check_sound, check_reported}
@@ -148,3 +154,53 @@ returns-clause-view g c =
 
 pub returns-then-not-found-clause-reads : goal.returns-then-not-found-clause-reads
 returns-then-not-found-clause-reads g c = reads_none c.args.disk.now
+
+-- WHICH PLACES ARE READ: page 0 and the index area, then the slots, then the rows
+module _ (n : ℕ) {a b : List GivenRead} (fields : ReadsOnce (Between 0 (state_place n)) a b) where
+  abbrev IsElsewhere : ℕ → Type 0
+  IsElsewhere p = IsOfState n p → ⊥
+
+  only_fields : ReadsOnce IsElsewhere a b
+  only_fields = once_more (λ p is state. omega (arith, is.1, state.0)) fields
+
+  then_slots : {c : List GivenRead} → ReadsOnce (Between (slot_place n 0) (slot_place n SLOTS)) b c
+      → ReadsOnce IsElsewhere a c
+  then_slots slots =
+      once_on fields slots (λ p is also. omega (arith, is.1, also.0)) (λ p is state. omega (arith, is.1, state.0))
+      (λ p is state. omega (arith, is.0, state.1))
+
+  then_rows : {c d : List GivenRead} → ReadsOnce (Between (slot_place n 0) (slot_place n SLOTS)) b c
+      → ReadsOnce (Between (row_place n 0) (row_place n (ROWS * (journal_pages n - 257)))) c d
+      → ReadsOnce IsElsewhere a d
+  then_rows slots rows =
+      once_on fields
+      (between_on (slot_place n 0) (slot_place n SLOTS) slots (row_place n 0)
+      (row_place n (ROWS * (journal_pages n - 257))) rows (omega arith) (omega arith) (omega arith))
+      (λ p is also. omega (arith, is.1, also.0)) (λ p is state. omega (arith, is.1, state.0))
+      (λ p is state. omega (arith, is.0, state.1))
+
+pub returns-then-not-found-clause-once : goal.returns-then-not-found-clause-once
+returns-then-not-found-clause-once g c = once_none refl
+
+pub returns-in_err-indexes-clause-once : goal.returns-in_err-indexes-clause-once
+returns-in_err-indexes-clause-once g c = only_fields c.args.found.layout c.load_fields.ensures.once
+
+pub returns-in_err-slots-clause-once : goal.returns-in_err-slots-clause-once
+returns-in_err-slots-clause-once g c =
+    then_slots c.args.found.layout c.load_fields.ensures.once c.load_slots.ensures.once
+
+pub returns-then-not-are_valid-clause-once : goal.returns-then-not-are_valid-clause-once
+returns-then-not-are_valid-clause-once g c =
+    then_slots c.args.found.layout c.load_fields.ensures.once c.load_slots.ensures.once
+
+pub returns-in_err-blocks-clause-once : goal.returns-in_err-blocks-clause-once
+returns-in_err-blocks-clause-once g c =
+    then_rows c.args.found.layout c.load_fields.ensures.once c.load_slots.ensures.once c.load_blocks.ensures.once
+
+pub returns-in_err-catalog-clause-once : goal.returns-in_err-catalog-clause-once
+returns-in_err-catalog-clause-once g c =
+    then_rows c.args.found.layout c.load_fields.ensures.once c.load_slots.ensures.once c.load_blocks.ensures.once
+
+pub returns-clause-once : goal.returns-clause-once
+returns-clause-once g c =
+    then_rows c.args.found.layout c.load_fields.ensures.once c.load_slots.ensures.once c.load_blocks.ensures.once

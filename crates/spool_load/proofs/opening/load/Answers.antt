@@ -2,7 +2,6 @@ use Rattle.std.proofs.Common.{◌∙◌, ℕ, ◌*◌, ◌≤◌, Err, ap, refl,
 use Rattle.std.proofs.lemmas.Result.{err_from_is_err_and}
 use Rattle.spool_journal.specs.declared.TheConstants.{PAGE}
 use Rattle.spool_disk.proofs.Firm.{counts_on}
-use Rattle.spool_disk.proofs.Gave.{grew_none}
 use Rattle.spool_journal.specs.Image.{all_pages, journal_pages, overlaid}
 use Rattle.spool_journal.specs.Phases.{Settled}
 use Rattle.spool_catalog.specs.Catalog.{HasViewAlone}
@@ -12,7 +11,7 @@ use Rattle.spool_load.proofs.Looks.{ok_no_fault}
 use Rattle.spool_load.proofs.Opens.{read_lasts, read_same, read_settled, read_unwritten, recovered_encodes}
 use Rattle.spool_load.proofs.Opens.{settled_still}
 use Rattle.spool_load.proofs.Refused.{found_back, opened_on, read_reason, unfound_reason}
-use Rattle.spool_load.proofs.ReadBys.{by_after, loads_by, unfound_by, unread_by}
+use Rattle.spool_load.proofs.ReadBys.{by_after, by_same, loads_by, unfound_by, unread_by}
 use Rattle.spool_pages.specs.View.{IsViewOf}
 use Rattle.spool_load.proofs.opening.load.Goals as goal
 
@@ -142,19 +141,19 @@ returns-in_err-catalog-clause-same g c honest none fine =
 pub returns-in_err-found-clause-given : goal.returns-in_err-found-clause-given
 returns-in_err-found-clause-given g c =
     let p = err_from_is_err_and c.from_residual.result c.from_residual.ensures.1 in
-    by_after c.in_err-found.ensures.given (grew_none refl)
-    (λ before after is late. rw (p.1, p.2) (unfound_by _ before after c.in_err-found.field-0.0 is))
+    by_same c.in_err-found.ensures.given refl
+    (λ before after is. rw (p.1, p.2) (unfound_by _ before after c.in_err-found.field-0.0 is))
 
 pub returns-in_err-catalog-clause-given : goal.returns-in_err-catalog-clause-given
 returns-in_err-catalog-clause-given g c =
     let p = err_from_is_err_and c.from_residual-in_err-catalog.result c.from_residual-in_err-catalog.ensures.1 in
-    by_after c.in_ok-found.ensures.given c.read.ensures.reads.grew
+    by_after c.in_ok-found.ensures.given c.read.ensures.once (λ p is elsewhere. elsewhere is)
     (λ before after is late. rw (p.1, p.2) (unread_by _ before after c.in_ok-found.found is c.in_err-catalog.field-0.0
     (λ v valid found encodes. c.in_err-catalog.ensures.decoded after late v valid found encodes)))
 
 pub returns-clause-given : goal.returns-clause-given
 returns-clause-given g c =
-    by_after c.in_ok-found.ensures.given c.read.ensures.reads.grew
+    by_after c.in_ok-found.ensures.given c.read.ensures.once (λ p is elsewhere. elsewhere is)
     (λ before after is late. loads_by _ before after c.in_ok-found.found is c.in_ok-catalog.catalog
     (c.in_ok-catalog.ensures.valid after late is.answer.state)
     (λ v valid found encodes. c.in_ok-catalog.ensures.decoded after late v valid found encodes))

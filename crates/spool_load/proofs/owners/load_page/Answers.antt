@@ -1,6 +1,8 @@
 use Rattle.std.proofs.Common.{◌≡◌, ◌+◌, ◌*◌, ℕ, length, rules, subst, arith}
 use Rattle.common.specs.declared.limits.TheConstants.{ROWS, SLOTS}
+use Rattle.spool_disk.proofs.Gave.{between_more}
 use Rattle.spool_journal.specs.declared.TheConstants.{PAGE}
+use Rattle.spool_pages.specs.View.{row_place}
 use Rattle.spool_load.specs.Reads.{IsSameTo}
 use Rattle.spool_load.proofs.Looks.{before_texts, rows_read, rows_at_place}
 use Rattle.spool_load.proofs.owners.load_page.Goals as goal
@@ -37,3 +39,27 @@ returns-clause-valid g c bytes gave was =
     rows_read bytes n _ page c.read_at.new.buf c.args.rows.now c.fill.new.rows
     (c.in_ok-read_at.ensures.bytes bytes gave) wide (omega (arith, c.rows_place.ensures)) was
     c.fill.ensures.before c.in_ok-fill.ensures.valid
+
+pub returns-in_err-read_at-clause-once : goal.returns-in_err-read_at-clause-once
+returns-in_err-read_at-clause-once g c =
+    let n = c.args.layout.now in
+    let wide : length c.read_at.new.buf ≡ PAGE = search rules in
+    between_more c.rows_place.result (c.rows_place.result + length c.read_at.new.buf) c.read_at.ensures.once
+    (row_place n (ROWS * c.args.page)) (row_place n (ROWS * (c.args.page + 1))) (omega (arith, c.rows_place.ensures))
+    (omega (arith, wide, c.rows_place.ensures))
+
+pub returns-in_err-fill-clause-once : goal.returns-in_err-fill-clause-once
+returns-in_err-fill-clause-once g c =
+    let n = c.args.layout.now in
+    let wide : length c.read_at.new.buf ≡ PAGE = search rules in
+    between_more c.rows_place.result (c.rows_place.result + length c.read_at.new.buf) c.read_at.ensures.once
+    (row_place n (ROWS * c.args.page)) (row_place n (ROWS * (c.args.page + 1))) (omega (arith, c.rows_place.ensures))
+    (omega (arith, wide, c.rows_place.ensures))
+
+pub returns-clause-once : goal.returns-clause-once
+returns-clause-once g c =
+    let n = c.args.layout.now in
+    let wide : length c.read_at.new.buf ≡ PAGE = search rules in
+    between_more c.rows_place.result (c.rows_place.result + length c.read_at.new.buf) c.read_at.ensures.once
+    (row_place n (ROWS * c.args.page)) (row_place n (ROWS * (c.args.page + 1))) (omega (arith, c.rows_place.ensures))
+    (omega (arith, wide, c.rows_place.ensures))

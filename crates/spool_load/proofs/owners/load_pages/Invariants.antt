@@ -1,7 +1,7 @@
 use Rattle.std.proofs.Common.{◌≡◌, ◌<◌, ◌-◌, ◌*◌, ℕ, List, Option, None, length, get_or}
 use Rattle.common.specs.declared.limits.TheConstants.{ROWS}
 use Rattle.spool_journal.specs.Image.{journal_pages}
-use Rattle.spool_disk.specs.Given.{ReadsGave}
+use Rattle.spool_disk.specs.Given.{Between, ReadsGave, ReadsOnce}
 use Rattle.spool_pages.specs.Fits.{FitsRow}
 use Rattle.spool_load.specs.Reads.{OnlyReads, IsFreeFrom, IsSameTo, RowsAreAt}
 use Rattle.spool_pages.specs.View.{AreAt, row_bytes, row_place}
@@ -10,6 +10,8 @@ use Rattle.spool_load.proofs.owners.load_pages.Given as goal
 abbrev pub invariant-loop-page : goal.invariant-loop-page
 invariant-loop-page g l = record {
   reads : OnlyReads g.D.Disk l.fn.disk l.disk;
+  once : ReadsOnce (Between (row_place l.layout 0) (row_place l.layout (ROWS * l.page))) (g.D.Disk.reads l.fn.disk)
+      (g.D.Disk.reads l.disk);
   free : IsFreeFrom (ROWS * l.page) l.rows;
   counts : g.D.Disk.failures l.disk ≡ g.D.Disk.failures l.fn.disk;
   decoded : (bytes : ℕ → ℕ) → ReadsGave bytes (g.D.Disk.reads l.fn.disk) (g.D.Disk.reads l.disk) →

@@ -1,6 +1,7 @@
-use Rattle.std.proofs.Common.{◌≡◌, ◌∙◌, ◌-◌, ◌*◌, ℕ, List, Option, length, rules, sym, subst, arith}
+use Rattle.std.proofs.Common.{◌≡◌, ◌∙◌, ◌-◌, ◌*◌, ℕ, List, Option, length, refl, rules, sym, subst, arith}
 use Rattle.common.specs.declared.limits.TheConstants.{ROWS}
 use Rattle.spool_journal.specs.Image.{journal_pages}
+use Rattle.spool_disk.proofs.Gave.{once_none}
 use Rattle.spool_load.specs.Reads.{RowsAreAt}
 use Rattle.spool_load.proofs.Looks.{reads_none, same_all, take_new}
 use Rattle.spool_catalog.proofs.Valid.{rows_cover}
@@ -30,3 +31,6 @@ returns-clause-decoded g c bytes gave all long fits are_at =
 
 pub returns-in_err-rows-clause-reads : goal.returns-in_err-rows-clause-reads
 returns-in_err-rows-clause-reads g c = reads_none c.args.disk.now
+
+pub returns-in_err-rows-clause-once : goal.returns-in_err-rows-clause-once
+returns-in_err-rows-clause-once g c = once_none refl

@@ -1,8 +1,9 @@
-use Rattle.std.proofs.Common.{◌≡◌, ℕ, List, length, refl, rules, sym, ◌∙◌, subst, arith}
+use Rattle.std.proofs.Common.{◌≡◌, ◌+◌, ℕ, List, length, refl, rules, sym, ◌∙◌, subst, arith}
 use Rattle.std.proofs.lemmas.Bool.{false≢true}
 use Rattle.std.proofs.lemmas.Bool.Decides.{Decides-eqb}
 use Rattle.std.proofs.lemmas.List.{ext_get_or}
 use Rattle.std.proofs.lemmas.Slice.Eq.{slice_eq-Decides}
+use Rattle.spool_disk.proofs.Gave.{between_more}
 use Rattle.spool_journal.specs.declared.TheConstants.{PAGE}
 use Rattle.spool_pages.specs.Bytes.{IsPadded}
 use Rattle.spool_pages.specs.View.{AreAt, first_page}
@@ -36,3 +37,18 @@ returns-else-eq-clause-decoded g c bytes gave are_at =
     let same : c.read_at.new.buf ≡ c.first_page.result =
     ext_get_or 0 _ _ (wide ∙ sym long) (λ i lt. padded.each i ∙ sym (c.first_page.ensures.each i)) in
     absurd (false≢true (sym c.if-eq.false ∙ (slice_eq-Decides Decides-eqb _ _ c.eq.result c.eq.ensures).1 same))
+
+pub returns-in_err-read_at-clause-once : goal.returns-in_err-read_at-clause-once
+returns-in_err-read_at-clause-once g c =
+    let wide : length c.read_at.new.buf ≡ PAGE = search rules in
+    between_more 0 (0 + length c.read_at.new.buf) c.read_at.ensures.once 0 PAGE (omega arith) (omega (arith, wide))
+
+pub returns-then-eq-clause-once : goal.returns-then-eq-clause-once
+returns-then-eq-clause-once g c =
+    let wide : length c.read_at.new.buf ≡ PAGE = search rules in
+    between_more 0 (0 + length c.read_at.new.buf) c.read_at.ensures.once 0 PAGE (omega arith) (omega (arith, wide))
+
+pub returns-else-eq-clause-once : goal.returns-else-eq-clause-once
+returns-else-eq-clause-once g c =
+    let wide : length c.read_at.new.buf ≡ PAGE = search rules in
+    between_more 0 (0 + length c.read_at.new.buf) c.read_at.ensures.once 0 PAGE (omega arith) (omega (arith, wide))

@@ -1,4 +1,5 @@
-use Rattle.std.proofs.Common.{◌≡◌, rules, arith}
+use Rattle.std.proofs.Common.{◌≡◌, ◌+◌, length, rules, arith}
+use Rattle.spool_disk.proofs.Gave.{between_more}
 use Rattle.spool_pages.specs.View.{slot_place, slot_bytes}
 use Rattle.spool_pages.proofs.Encodes.{some_journal}
 use Rattle.spool_load.proofs.Faults.{check_sound, check_reported}
@@ -42,3 +43,27 @@ returns-clause-are_at g c bytes gave =
     padded_back bytes _ (slot_place c.args.layout.now c.args.slot) c.read_at.new.buf
     (slot_bytes c.args.version c.in_ok-catalog_record_of.field-0) 2048 (c.in_ok-read_at.ensures.bytes bytes gave)
     (search rules) here c.in_ok-catalog_record_of.ensures.are_at
+
+pub returns-in_err-read_at-clause-once : goal.returns-in_err-read_at-clause-once
+returns-in_err-read_at-clause-once g c =
+    let n = c.args.layout.now in
+    let wide : length c.read_at.new.buf ≡ 2048 = search rules in
+    between_more c.slot_place.result (c.slot_place.result + length c.read_at.new.buf) c.read_at.ensures.once
+    (slot_place n c.args.slot) (slot_place n (c.args.slot + 1)) (omega (arith, c.slot_place.ensures))
+    (omega (arith, wide, c.slot_place.ensures))
+
+pub returns-in_err-catalog_record_of-clause-once : goal.returns-in_err-catalog_record_of-clause-once
+returns-in_err-catalog_record_of-clause-once g c =
+    let n = c.args.layout.now in
+    let wide : length c.read_at.new.buf ≡ 2048 = search rules in
+    between_more c.slot_place.result (c.slot_place.result + length c.read_at.new.buf) c.read_at.ensures.once
+    (slot_place n c.args.slot) (slot_place n (c.args.slot + 1)) (omega (arith, c.slot_place.ensures))
+    (omega (arith, wide, c.slot_place.ensures))
+
+pub returns-clause-once : goal.returns-clause-once
+returns-clause-once g c =
+    let n = c.args.layout.now in
+    let wide : length c.read_at.new.buf ≡ 2048 = search rules in
+    between_more c.slot_place.result (c.slot_place.result + length c.read_at.new.buf) c.read_at.ensures.once
+    (slot_place n c.args.slot) (slot_place n (c.args.slot + 1)) (omega (arith, c.slot_place.ensures))
+    (omega (arith, wide, c.slot_place.ensures))

@@ -1,6 +1,6 @@
 use Rattle.std.proofs.Common.{◌≡◌, ◌<◌, ℕ, List, Option, None, length, get_or}
 use Rattle.common.specs.declared.limits.TheConstants.{SLOTS}
-use Rattle.spool_disk.specs.Given.{ReadsGave}
+use Rattle.spool_disk.specs.Given.{Between, ReadsGave, ReadsOnce}
 use Rattle.spool_catalog.specs.Records.{FitsCatalog}
 use Rattle.spool_pages.specs.Fits.{FitsSlotOf}
 use Rattle.spool_load.specs.Reads.{OnlyReads, IsPrefixOf, SlotsAreAt}
@@ -10,6 +10,8 @@ use Rattle.spool_load.proofs.slots.load_slots.Given as goal
 abbrev pub invariant-loop-slot : goal.invariant-loop-slot
 invariant-loop-slot g l = record {
   reads : OnlyReads g.D.Disk l.fn.disk l.disk;
+  once : ReadsOnce (Between (slot_place l.layout 0) (slot_place l.layout l.slot)) (g.D.Disk.reads l.fn.disk)
+      (g.D.Disk.reads l.disk);
   counts : g.D.Disk.failures l.disk ≡ g.D.Disk.failures l.fn.disk;
   long : length l.slots.items ≡ l.slot;
   decoded : (bytes : ℕ → ℕ) → ReadsGave bytes (g.D.Disk.reads l.fn.disk) (g.D.Disk.reads l.disk) →

@@ -2,9 +2,8 @@ use Rattle.std.proofs.Common.{true, false, Some, ap, refl, sym, subst, ◌∙◌
 use Rattle.std.proofs.lemmas.Result.{err_from_is_err_and}
 use Rattle.common.specs.declared.stop.Stop.TheVariants.{NoMemory}
 use Rattle.spool_disk.specs.Views.{Lasts}
-use Rattle.spool_disk.proofs.Gave.{grew_none}
 use Rattle.spool_catalog.specs.declared.error.OpenFault.TheVariants.{Stop}
-use Rattle.spool_load.proofs.ReadBys.{by_after}
+use Rattle.spool_load.proofs.ReadBys.{by_same}
 use Rattle.spool_image.specs.Spool.{SpoolHasView, disk_of}
 use Rattle.spool_image.specs.LeftOnly.{AllShow, LeftOrShows}
 use Rattle.spool_image.specs.Opening.{ReadsSame, Unwritten}
@@ -69,8 +68,8 @@ returns-in_err-spool-clause-exact g c honest =
 pub returns-in-Ok-clause-given : goal.returns-in-Ok-clause-given
 returns-in-Ok-clause-given g c =
     let same = c.in-Ok.ensures.same in
-    by_after c.in_ok-spool.ensures.given (grew_none (ap (λ s. g.D.Disk.reads (disk_of s)) same))
-    (λ before after is late. record {
+    by_same c.in_ok-spool.ensures.given (ap (λ s. g.D.Disk.reads (disk_of s)) same)
+    (λ before after is. record {
       exact = opened_exactly _ before after is.memory;
       memory = view_more (λ v has_view. subst (λ s. SpoolHasView s v) (sym same) has_view) is.memory;
       opened = λ v valid encodes. subst (λ s. SpoolHasView s v) (sym same) (is.opened v valid encodes);
@@ -78,9 +77,9 @@ returns-in-Ok-clause-given g c =
 
 pub returns-in-Err-clause-given : goal.returns-in-Err-clause-given
 returns-in-Err-clause-given g c =
-    by_after c.in_ok-spool.ensures.given
-    (grew_none (ap g.D.Disk.reads (c.into_disk.ensures.same ∙ ap disk_of c.in-Err.ensures.back)))
-    (λ before after is late. record {
+    by_same c.in_ok-spool.ensures.given
+    (ap g.D.Disk.reads (c.into_disk.ensures.same ∙ ap disk_of c.in-Err.ensures.back))
+    (λ before after is. record {
       exact = refused_exactly _ before after (Stop NoMemory) tt;
       memory = tt;
       opened = λ v valid encodes. tt;
@@ -89,7 +88,7 @@ returns-in-Err-clause-given g c =
 pub returns-in_err-spool-clause-given : goal.returns-in_err-spool-clause-given
 returns-in_err-spool-clause-given g c =
     let p = err_from_is_err_and c.from_residual.result c.from_residual.ensures.1 in
-    rw (p.1, p.2) (by_after c.in_err-spool.ensures.given (grew_none refl) (λ before after is late. record {
+    rw (p.1, p.2) (by_same c.in_err-spool.ensures.given refl (λ before after is. record {
       exact = is.exact;
       memory = tt;
       opened = λ v valid encodes. refused_as _ _ _ (is.opened v valid encodes);

@@ -1,5 +1,4 @@
 use Rattle.std.proofs.Common.{◌≤◌, ◌*◌, ◌≡◌, ℕ, false, true, Some, refl, sym, subst}
-use Rattle.spool_disk.proofs.Gave.{grew_none}
 use Rattle.spool_journal.specs.declared.TheConstants.{PAGE}
 use Rattle.spool_journal.specs.Image.{journal_pages, all_pages, overlaid}
 use Rattle.spool_journal.specs.Phases.{ReadsAs}
@@ -11,7 +10,7 @@ use Rattle.spool_catalog.specs.Catalog.{HasViewAlone}
 use Rattle.spool_image.specs.Spool.{SpoolHasView}
 use Rattle.spool_load.proofs.Faults.{loads_err}
 use Rattle.spool_load.proofs.Opens.{settled_reads}
-use Rattle.spool_load.proofs.ReadBys.{by_after}
+use Rattle.spool_load.proofs.ReadBys.{by_same}
 use Rattle.spool_image.proofs.Opens.{image_shows, lasts_shown, view_room}
 use Rattle.spool_image.proofs.Refused.{opened_is_spool, opened_is_known, opened_is_whole, refused_no_spool}
 use Rattle.spool_image.proofs.Refused.{refused_version}
@@ -99,7 +98,7 @@ returns-in-Err-clause-damaged g c honest is =
 
 pub returns-in-Ok-clause-given : goal.returns-in-Ok-clause-given
 returns-in-Ok-clause-given g c =
-    by_after c.in-Ok.ensures.given (grew_none refl) (λ before after is late. record {
+    by_same c.in-Ok.ensures.given refl (λ before after is. record {
       exact = opened_exactly (g.D.Disk.size c.args.disk) before after is.answer;
       memory = is.answer;
       opened = is.loads;
@@ -107,7 +106,7 @@ returns-in-Ok-clause-given g c =
 
 pub returns-in-Err-clause-given : goal.returns-in-Err-clause-given
 returns-in-Err-clause-given g c =
-    by_after c.in-Err.ensures.given (grew_none refl) (λ before after is late. record {
+    by_same c.in-Err.ensures.given refl (λ before after is. record {
       exact = refused_exactly (g.D.Disk.size c.args.disk) before after c.in-Err.fault is.answer;
       memory = tt;
       opened =
