@@ -174,7 +174,8 @@ pub fn find<D: Disk>(disk: &mut D) -> Result<Found, OpenFault>
     ensures found { D.honest disk.old → IfOk result (FoundOn (D.size disk.old) (D.current disk.old)) }
     ensures refused { D.honest disk.old → IfErr result (NotFoundFor (D.size disk.old) (D.current disk.old)) }
 
-    // On any disk the answer follows from the bytes that the reads gave. After the recovery only the state page is read.
+    // On any disk the answer follows from the bytes that the reads gave. After the recovery it reads the state page
+    // alone.
     ensures given { PartsBy Anywhere (IsOfFound result) (D.reads disk.old) (D.reads disk.new)
         (λ before after. FindsBy (D.size disk.old) before after result) }
 

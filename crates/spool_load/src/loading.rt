@@ -59,7 +59,8 @@ fn load_blocks<D: Disk>(
     ensures long { IfOk result (λ blocks. length blocks.rows ≡ layout.now) }
     ensures fits { IfOk result (λ blocks. (b : ℕ) → FitsRow (get_or blocks.rows b None)) }
     ensures reads { OnlyReads D.Disk disk.old disk.new }
-    ensures once { ReadsOnce (Between (row_place layout.now 0) (row_place layout.now (ROWS * (journal_pages layout.now - 257)))) (D.reads disk.old) (D.reads disk.new) }
+    ensures once { ReadsOnce (Between (row_place layout.now 0)
+        (row_place layout.now (ROWS * (journal_pages layout.now - 257)))) (D.reads disk.old) (D.reads disk.new) }
     ensures counts { Counts (IsErrOf result (LoadError.Stop Stop.DiskFault)) (D.failures disk.old)
         (D.failures disk.new) }
     ensures decoded { (bytes : ℕ → ℕ) → ReadsGave bytes (D.reads disk.old) (D.reads disk.new)

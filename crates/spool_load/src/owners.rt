@@ -85,7 +85,8 @@ fn load_page<D: Disk>(
     requires few { page < 128 }
     requires free { IsFreeFrom (ROWS * page) rows.old }
     ensures reads { OnlyReads D.Disk disk.old disk.new }
-    ensures once { ReadsOnce (Between (row_place layout.now (ROWS * page)) (row_place layout.now (ROWS * (page + 1)))) (D.reads disk.old) (D.reads disk.new) }
+    ensures once { ReadsOnce (Between (row_place layout.now (ROWS * page)) (row_place layout.now (ROWS * (page + 1))))
+        (D.reads disk.old) (D.reads disk.new) }
     ensures counts { Counts (IsErrOf result (LoadError.Stop Stop.DiskFault)) (D.failures disk.old)
         (D.failures disk.new) }
     ensures decoded { (bytes : ℕ → ℕ) → ReadsGave bytes (D.reads disk.old) (D.reads disk.new)
@@ -109,7 +110,8 @@ fn load_pages<D: Disk>(disk: &mut D, layout: &Layout, rows: &mut [Row]) -> Resul
     requires room { PAGE * all_pages layout.now ≤ D.size disk.old }
     requires free { IsFreeFrom 0 rows.old }
     ensures reads { OnlyReads D.Disk disk.old disk.new }
-    ensures once { ReadsOnce (Between (row_place layout.now 0) (row_place layout.now (ROWS * (journal_pages layout.now - 257)))) (D.reads disk.old) (D.reads disk.new) }
+    ensures once { ReadsOnce (Between (row_place layout.now 0)
+        (row_place layout.now (ROWS * (journal_pages layout.now - 257)))) (D.reads disk.old) (D.reads disk.new) }
     ensures counts { Counts (IsErrOf result (LoadError.Stop Stop.DiskFault)) (D.failures disk.old)
         (D.failures disk.new) }
     ensures decoded { (bytes : ℕ → ℕ) → ReadsGave bytes (D.reads disk.old) (D.reads disk.new)
@@ -134,7 +136,8 @@ pub(crate) fn load_rows<D: Disk>(
 ) -> Result<Vec<Row>, LoadError>
     requires { PAGE * all_pages layout.now ≤ D.size disk.old }
     ensures reads { OnlyReads D.Disk disk.old disk.new }
-    ensures once { ReadsOnce (Between (row_place layout.now 0) (row_place layout.now (ROWS * (journal_pages layout.now - 257)))) (D.reads disk.old) (D.reads disk.new) }
+    ensures once { ReadsOnce (Between (row_place layout.now 0)
+        (row_place layout.now (ROWS * (journal_pages layout.now - 257)))) (D.reads disk.old) (D.reads disk.new) }
     ensures counts { Counts (IsErrOf result (LoadError.Stop Stop.DiskFault)) (D.failures disk.old)
         (D.failures disk.new) }
     ensures long { IfOk result (λ rows. length rows.items ≡ layout.now) }

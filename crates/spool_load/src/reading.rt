@@ -62,7 +62,8 @@ fn push_area_page<D: Disk>(
     requires room { PAGE * all_pages layout.now ≤ D.size disk.old }
     requires page { page < 22 }
     ensures reads { OnlyReads D.Disk disk.old disk.new }
-    ensures once { ReadsOnce (Between (index_place layout.now + PAGE * page) (index_place layout.now + PAGE * (page + 1))) (D.reads disk.old) (D.reads disk.new) }
+    ensures once { ReadsOnce (Between (index_place layout.now + PAGE * page)
+        (index_place layout.now + PAGE * (page + 1))) (D.reads disk.old) (D.reads disk.new) }
     ensures counts { Counts (IsErrOf result (LoadError.Stop Stop.DiskFault)) (D.failures disk.old)
         (D.failures disk.new) }
     ensures others { Loads result (λ done. length area.new.items ≡ length area.old.items + PAGE) }
@@ -80,7 +81,8 @@ fn push_area_page<D: Disk>(
 fn load_area<D: Disk>(alloc: Global, disk: &mut D, layout: &Layout) -> Result<Vec<u8>, LoadError>
     requires { PAGE * all_pages layout.now ≤ D.size disk.old }
     ensures reads { OnlyReads D.Disk disk.old disk.new }
-    ensures once { ReadsOnce (Between (index_place layout.now) (state_place layout.now)) (D.reads disk.old) (D.reads disk.new) }
+    ensures once { ReadsOnce (Between (index_place layout.now) (state_place layout.now))
+        (D.reads disk.old) (D.reads disk.new) }
     ensures counts { Counts (IsErrOf result (LoadError.Stop Stop.DiskFault)) (D.failures disk.old)
         (D.failures disk.new) }
     ensures long { Loads result (λ area. length area.items ≡ 90112) }
@@ -102,7 +104,8 @@ pub(crate) fn load_indexes<D: Disk>(
 ) -> Result<IndexSet, LoadError>
     requires { PAGE * all_pages layout.now ≤ D.size disk.old }
     ensures reads { OnlyReads D.Disk disk.old disk.new }
-    ensures once { ReadsOnce (Between (index_place layout.now) (state_place layout.now)) (D.reads disk.old) (D.reads disk.new) }
+    ensures once { ReadsOnce (Between (index_place layout.now) (state_place layout.now))
+        (D.reads disk.old) (D.reads disk.new) }
     ensures counts { Counts (IsErrOf result (LoadError.Stop Stop.DiskFault)) (D.failures disk.old)
         (D.failures disk.new) }
     ensures decoded { (bytes : ℕ → ℕ) → ReadsGave bytes (D.reads disk.old) (D.reads disk.new)

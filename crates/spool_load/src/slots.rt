@@ -51,7 +51,8 @@ fn load_slot<D: Disk>(
     requires room { PAGE * all_pages layout.now ≤ D.size disk.old }
     requires slot { slot < SLOTS }
     ensures reads { OnlyReads D.Disk disk.old disk.new }
-    ensures once { ReadsOnce (Between (slot_place layout.now slot) (slot_place layout.now (slot + 1))) (D.reads disk.old) (D.reads disk.new) }
+    ensures once { ReadsOnce (Between (slot_place layout.now slot) (slot_place layout.now (slot + 1)))
+        (D.reads disk.old) (D.reads disk.new) }
     ensures counts { Counts (IsErrOf result (LoadError.Stop Stop.DiskFault)) (D.failures disk.old)
         (D.failures disk.new) }
     ensures decoded { (bytes : ℕ → ℕ) → ReadsGave bytes (D.reads disk.old) (D.reads disk.new)
@@ -79,7 +80,8 @@ fn push_slot<D: Disk>(
     requires room { PAGE * all_pages layout.now ≤ D.size disk.old }
     requires slot { slot < SLOTS }
     ensures reads { OnlyReads D.Disk disk.old disk.new }
-    ensures once { ReadsOnce (Between (slot_place layout.now slot) (slot_place layout.now (slot + 1))) (D.reads disk.old) (D.reads disk.new) }
+    ensures once { ReadsOnce (Between (slot_place layout.now slot) (slot_place layout.now (slot + 1)))
+        (D.reads disk.old) (D.reads disk.new) }
     ensures counts { Counts (IsErrOf result (LoadError.Stop Stop.DiskFault)) (D.failures disk.old)
         (D.failures disk.new) }
     ensures long { OnOk result (length slots.new.items ≡ length slots.old.items + 1) }
@@ -110,7 +112,8 @@ pub(crate) fn load_slots<D: Disk>(
 ) -> Result<Vec<Option<CatalogRecord>>, LoadError>
     requires { PAGE * all_pages layout.now ≤ D.size disk.old }
     ensures reads { OnlyReads D.Disk disk.old disk.new }
-    ensures once { ReadsOnce (Between (slot_place layout.now 0) (slot_place layout.now SLOTS)) (D.reads disk.old) (D.reads disk.new) }
+    ensures once { ReadsOnce (Between (slot_place layout.now 0) (slot_place layout.now SLOTS))
+        (D.reads disk.old) (D.reads disk.new) }
     ensures counts { Counts (IsErrOf result (LoadError.Stop Stop.DiskFault)) (D.failures disk.old)
         (D.failures disk.new) }
     ensures long { IfOk result (λ slots. length slots.items ≡ SLOTS) }

@@ -41,5 +41,5 @@ returns-in_err-check_first-clause-once g c =
 pub returns-clause-once : goal.returns-clause-once
 returns-clause-once g c =
     let n = c.args.layout.now in
-    between_on 0 PAGE c.check_first.ensures.once (index_place n) (state_place n) c.load_indexes.ensures.once (omega arith)
-    (omega arith) (omega arith)
+    between_on 0 PAGE c.check_first.ensures.once (index_place n) (state_place n) c.load_indexes.ensures.once
+    (omega arith) (omega arith) (omega arith)
