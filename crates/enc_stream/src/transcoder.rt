@@ -5,7 +5,8 @@ ghost use Rattle.std.specs.Prelude.{MatchOption, IsErrOf, IsTrue, ◌↔◌};
 ghost use Rattle.enc_model.specs.Decode.{text};
 ghost use Rattle.enc_model.specs.Encode.{Tables};
 ghost use Rattle.enc_model.specs.Indexes.{tables};
-ghost use Rattle.enc_model.specs.Transcode.{Transcoder, IsStateAt, added, added_end, so_far};
+ghost use Rattle.enc_model.specs.Transcode as model;
+ghost use Rattle.enc_model.specs.Transcode.{IsStateAt, added, added_end, so_far};
 ghost use Rattle.enc_encode.specs.State.{EncoderState};
 ghost use Rattle.enc_stream.specs.Progress.{progress_of};
 ghost use Rattle.enc_stream.specs.Stage.{phase_at};
@@ -225,7 +226,7 @@ impl Transcoder {
     /// The transcoder with these state bytes. Bytes of no state may be taken for another's.
     fn read(bytes: &[u8; 32]) -> Option<Self>
         ensures ready { IfSome result (λ t. t.spent ≡ false) }
-        ensures same { (s : Transcoder) → IsValidState s → state_bytes s ≡ bytes.now
+        ensures same { (s : model.Transcoder) → IsValidState s → state_bytes s ≡ bytes.now
             → result ≡ Some (transcoder_state s) }
     {
         let [
@@ -255,9 +256,9 @@ impl Transcoder {
 
     /// The transcoder with these state bytes, or None if no transcoder has them. Each state has exactly one spelling.
     pub fn unpack(bytes: &[u8; 32]) -> Option<Self>
-        ensures unpacked { MatchOption result ((s : Transcoder) → IsValidState s → state_bytes s ≢ bytes.now)
+        ensures unpacked { MatchOption result ((s : model.Transcoder) → IsValidState s → state_bytes s ≢ bytes.now)
             (λ t. (t.spent ≡ false) × IsValidState t.transcoder × (state_bytes t.transcoder ≡ bytes.now)) }
-        ensures only { (s : Transcoder) → IsValidState s → state_bytes s ≡ bytes.now
+        ensures only { (s : model.Transcoder) → IsValidState s → state_bytes s ≡ bytes.now
             → result ≡ Some (transcoder_state s) }
     {
         let transcoder = Self::read(bytes)?;

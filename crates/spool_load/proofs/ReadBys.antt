@@ -1,5 +1,5 @@
 -- From what the reads of an opening gave to its answer.
-use Rattle.std.proofs.Common.{◌≡◌, ℕ, List, Option, Some, None, Result, Ok, Err, IfOk, MatchOption}
+use Rattle.std.proofs.Common.{◌≡◌, ℕ, List, Option, Some, None, Result, Ok, Err, IfOk, IfSome, MatchOption}
 use Rattle.std.proofs.Common.{MatchResult, refl, subst, sym}
 use Rattle.std.specs.Option.{ok_or}
 use Rattle.spool_disk.specs.Given.{Anywhere, ReadsGave, ReadsOnce}
@@ -13,7 +13,7 @@ use Rattle.spool_catalog.specs.declared.error.OpenFault.{OpenFault}
 use Rattle.spool_catalog.specs.declared.error.OpenFault.TheVariants.{Version}
 use Rattle.spool_load.specs.Faults.{IsStopError, load_fault}
 use Rattle.spool_load.specs.Loaded.{FindsBy, FoundBy, IsFoundOf, LoadedFrom, LoadsBy, RestoresBy, FoundIsAt}
-use Rattle.spool_load.specs.ReadBy.{PartsBy, ReadsBy}
+use Rattle.spool_load.specs.ReadBy.{IsOfFound, IsOfState, PartsBy, ReadsBy}
 use Rattle.spool_load.specs.Reads.{EncodesBlocks}
 use Rattle.spool_load.specs.Refusals.{HasJournal, NotFoundBy, RefusedHere, EncodesKnownVersion}
 use Rattle.spool_load.specs.declared.error.LoadError.{LoadError}
@@ -76,6 +76,12 @@ module _ {So So' : (before after : ℕ → ℕ) → Type 0} {P Q : ℕ → Type 
           (is.so before after early (first is.last.since reads.since late))
           (rest is.last.since reads.since late);
     }
+
+-- what is found, its own state page was read
+pub of_found : (n : ℕ) (decoded : Option Found) → IfSome decoded (λ found. found.layout ≡ n) → (p : ℕ)
+    → IsOfState n p → IsOfFound (ok_or decoded Version) p
+of_found n (Some found) same p of = subst (λ (k : ℕ). IsOfState k p) (sym same) of
+of_found n None same p of = tt
 
 -- THE ANSWERS
 

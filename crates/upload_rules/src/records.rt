@@ -5,7 +5,8 @@ ghost use Rattle.enc_model.specs.Indexes.{IndexSet};
 ghost use Rattle.enc_stream.specs.TranscoderState.{IsOutput};
 ghost use Rattle.upload_rules.specs.Calls.{begin_refusal_at};
 ghost use Rattle.upload_rules.specs.Lengths.{is_too_large, known_or, longest};
-ghost use Rattle.upload_rules.specs.Store.{New, Upload, new_upload};
+ghost use Rattle.upload_rules.specs.Store as store;
+ghost use Rattle.upload_rules.specs.Store.{Upload, new_upload};
 
 use crate::UploadRefusal;
 use crate::lengths::{is_length, is_too_large, length_then};
@@ -53,7 +54,7 @@ pub struct New {
 }
 
 impl Model for New {
-    ghost Value = { New };
+    ghost Value = { store.New };
 
     ghost view = { λ n. record
         { declared = n.declared; from = n.from; to = n.to; mode = n.mode; metadata = n.metadata.bytes.items } };

@@ -1,4 +1,4 @@
-use Rattle.std.proofs.Common.{◌≡◌, ◌∙◌, ℕ, Result, Err, IfErr, IfOk, refl, sym, subst, rules, arith}
+use Rattle.std.proofs.Common.{◌≡◌, ◌∙◌, ◌+◌, ◌*◌, ℕ, Result, Err, IfErr, IfOk, refl, sym, subst, rules, arith}
 use Rattle.std.proofs.lemmas.Result.{err_from_is_err_and}
 use Rattle.spool_journal.specs.declared.TheConstants.{PAGE}
 use Rattle.spool_journal.specs.Image.{journal_pages, overlaid, InForm, count, journal_number}
@@ -12,12 +12,14 @@ use Rattle.spool_load.proofs.Opens.{if_ok, read_lasts, read_same, read_settled, 
 use Rattle.spool_load.proofs.Opens.{settled_encodes}
 use Rattle.spool_load.proofs.Opens.{still_as}
 use Rattle.spool_load.specs.Refusals.{RefusedAt, RefusedHere}
-use Rattle.spool_disk.specs.Given.{ReadsGave}
+use Rattle.spool_disk.specs.Given.{Between, ReadsGave}
+use Rattle.spool_disk.proofs.Gave.{once_more}
+use Rattle.spool_load.specs.ReadBy.{IsOfFound, PartsBy}
 use Rattle.spool_load.specs.Loaded.{FoundOn, IsFoundOf, RestoresBy}
 use Rattle.spool_load.specs.declared.finding.Found.{Found}
 use Rattle.spool_pages.specs.View.{AreAt, state_page, state_place}
 use Rattle.spool_load.proofs.Refused.{restored, restored_layout, restored_view, unrestored}
-use Rattle.spool_load.proofs.ReadBys.{by_both, by_first, restored_by}
+use Rattle.spool_load.proofs.ReadBys.{by_both, by_first, of_found, restored_by}
 use Rattle.spool_load.proofs.finding.restore.Goals as goal
 
 recover_handed : {T : Type 0} (P : T → Type 0) (e : RecoverError) → (e ≡ recover.Damaged → ⊥)
@@ -164,15 +166,18 @@ pub returns-in_err-load_state-clause-given : goal.returns-in_err-load_state-clau
 returns-in_err-load_state-clause-given g c =
     let p =
     err_from_is_err_and c.from_residual-in_err-load_state.result c.from_residual-in_err-load_state.ensures.1 in
-    by_both c.recover.ensures.reads c.load_state.ensures.once
-    (λ before after early late. rw (p.1, p.2) (record { answer = tt; restores = λ v valid blocks journal encodes. tt }))
+    rw (p.1, p.2) (by_both c.recover.ensures.reads (once_more (λ p of. tt) c.load_state.ensures.once)
+    (λ before after early late. record { answer = tt; restores = λ v valid blocks journal encodes. tt }))
 
 pub returns-clause-given : goal.returns-clause-given
 returns-clause-given g c =
     let n = c.args.layout in
     let decoded = c.in_ok-load_state.field-0 in
-    by_both c.recover.ensures.reads c.load_state.ensures.once (λ before after early late.
-    subst (λ (r : Result Found OpenFault). RestoresBy n r before after) (sym c.ok_or.ensures.value) (record {
+    subst (λ (r : Result Found OpenFault). PartsBy (Between PAGE (PAGE * (3 + journal_pages n))) (IsOfFound r)
+    (g.D.Disk.reads c.args.disk.now) (g.D.Disk.reads c.load_state.new.disk) (RestoresBy n r)) (sym c.ok_or.ensures.value)
+    (by_both c.recover.ensures.reads
+    (once_more (of_found n decoded c.in_ok-load_state.ensures.layout) c.load_state.ensures.once)
+    (λ before after early late. record {
       answer =
           restored_by 0 before after n decoded (c.in_ok-recover.ensures.gave_form before early)
           (c.in_ok-load_state.ensures.found after late);
