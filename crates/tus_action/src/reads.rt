@@ -4,7 +4,8 @@ ghost use Rattle.upload_rules.specs.Store.{upload_of};
 ghost use Rattle.upload_rules.specs.World.{World};
 ghost use Rattle.upload_rules.specs.Answers.{Counts, Quiet};
 ghost use Rattle.tus_request.specs.Requests.{Request};
-ghost use Rattle.tus_action.specs.Acts.{head, get, Giving};
+ghost use Rattle.tus_action.specs.Acts as acts;
+ghost use Rattle.tus_action.specs.Acts.{head, get};
 ghost use Rattle.tus_action.specs.Serves.{Serves, GivesMore, IsGiving};
 ghost use Rattle.tus_request.specs.Replies.{longest_reply, GrowsBy};
 
@@ -73,7 +74,7 @@ pub fn give_more<U: Uploads>(
     buffer: &mut PieceBuffer,
     out: &mut Vec<u8>,
 ) -> Result<Given, Stop>
-    ensures answer { (sure : Bool) (w : World) (h : Giving) → U.represents store.old sure w → IsGiving w.store giving h
+    ensures answer { (sure : Bool) (w : World) (h : acts.Giving) → U.represents store.old sure w → IsGiving w.store giving h
         → GivesMore U.Uploads sure store.new result out.old.items out.new.items w h }
     ensures crash { Quiet (U.moment store.old) (U.moment store.new) (U.left_only store.old) (U.left_only store.new) }
     ensures counts { Counts (IsErrOf result Stop.DiskFault) (U.failures store.old) (U.failures store.new) }
