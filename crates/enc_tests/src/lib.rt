@@ -14,6 +14,8 @@ mod kernels;
 #[cfg(test)]
 mod labels;
 #[cfg(test)]
+mod refusals;
+#[cfg(test)]
 mod sets;
 #[cfg(test)]
 mod states;
@@ -23,3 +25,5 @@ mod strings;
 mod texts;
 #[cfg(test)]
 mod transcoders;
+#[cfg(test)]
+mod worked;

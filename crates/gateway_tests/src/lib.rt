@@ -26,6 +26,8 @@ mod replies;
 #[cfg(test)]
 mod rounds;
 #[cfg(test)]
+mod script_stories;
+#[cfg(test)]
 mod scripts;
 #[cfg(test)]
 mod serving;
