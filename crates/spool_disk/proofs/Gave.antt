@@ -178,7 +178,7 @@ module _ (g : GivenRead) (bytes : ℕ → ℕ) (p : ℕ) where
   given_elsewhere (inl here) out = absurd (out here)
   given_elsewhere (inr elsewhere) out = refl
 
-abbrev bytes_given : List GivenRead → ℕ → ℕ
+abbrev pub bytes_given : List GivenRead → ℕ → ℕ
 bytes_given [] p = 0
 bytes_given (g ∷ gs) p = given_at g (bytes_given gs) p (in_or_out g.at (length g.bytes.items) p)
 
@@ -189,7 +189,7 @@ all_same f f' (g ∷ gs) same all = (
   all_same f f' gs (λ p of. same p (inr of)) all.1,
 )
 
-all_given : (gs : List GivenRead) → AreApart gs → AllGave (bytes_given gs) gs
+pub all_given : (gs : List GivenRead) → AreApart gs → AllGave (bytes_given gs) gs
 all_given [] apart = tt
 all_given (g ∷ gs) apart = (
   span_is (bytes_given (g ∷ gs)) g.at g.bytes.items
@@ -202,8 +202,3 @@ all_given (g ∷ gs) apart = (
       (λ p of. sym (given_elsewhere g (bytes_given gs) p (in_or_out g.at (length g.bytes.items) p)
       (λ here. apart.0 p here of))) (all_given gs apart.1),
 )
-
--- a law: what reads gave that read no place twice isn't contradictory
-pub some_gave : {P : ℕ → Type 0} {old new : List GivenRead} → ReadsOnce P old new
-    → (bytes : ℕ → ℕ) × ReadsGave bytes old new
-some_gave f = (bytes_given f.since.added, record { since = f.since; all = all_given f.since.added f.once })

@@ -1,8 +1,8 @@
 //! Recovery after a crash. It may crash too and be done again.
-ghost use Rattle.std.specs.Prelude.{◌≡◌, ◌⊎◌, ◌≤◌, ◌<◌, ◌*◌, ◌+◌, ◌↔◌, ℕ, IsErr, IfOk, OnOk, ◌==◌, true, false};
-ghost use Rattle.std.specs.Prelude.{Err};
+ghost use Rattle.std.specs.Prelude.{◌≡◌, ◌⊎◌, ◌≤◌, ◌<◌, ◌*◌, ◌+◌, ◌↔◌, ℕ, IsErr, IfOk, OnOk, ◌==◌, true, false, Err};
+ghost use Rattle.std.specs.Prelude.{OnErr, ◌∷◌, []};
 ghost use Rattle.spool_disk.specs.Disk.{IsImage, Counts};
-ghost use Rattle.spool_disk.specs.Given.{Between, ReadsGave, ReadsOnce};
+ghost use Rattle.spool_disk.specs.Given.{Between, ReadsGave, ReadsOnce, given};
 ghost use Rattle.spool_disk.specs.Views.{Lasts};
 ghost use Rattle.spool_journal.specs.Image.{journal_pages, all_pages, replayed, overlaid, word, byte_of, area_end};
 ghost use Rattle.spool_journal.specs.Image.{count, journal_number, InForm};
@@ -29,20 +29,21 @@ fn settle<D: Disk>(disk: &mut D) -> Result<(), DiskFault>
 }
 
 // Whether the gate is open.
+#[tactic(auto, using(crate::proofs::Recovers::gate_is))]
 fn is_open<D: Disk>(disk: &mut D) -> Result<bool, DiskFault>
     requires { 8192 ≤ D.size disk.old }
     ensures size { D.size disk.new ≡ D.size disk.old }
     ensures honest { D.honest disk.old ↔ D.honest disk.new }
     ensures counts { Counts (IsErr result) (D.failures disk.old) (D.failures disk.new) }
-    ensures reads { ReadsOnce (Between PAGE (PAGE + 1)) (D.reads disk.old) (D.reads disk.new) }
+    ensures given { IfOk result (λ shown. (gate : ℕ)
+        × (D.reads disk.new ≡ given PAGE (gate ∷ []) ∷ D.reads disk.old) × (shown ≡ (gate == 165))) }
+    ensures none { OnErr result (D.reads disk.new ≡ D.reads disk.old) }
     ensures still { D.honest disk.old → (bytes : ℕ → ℕ) → Still bytes (D.current disk.old) (D.unsynced disk.old)
         → Still bytes (D.current disk.new) (D.unsynced disk.new) }
     ensures open { D.honest disk.old → (bytes : ℕ → ℕ) → Still bytes (D.current disk.old) (D.unsynced disk.old)
         → IfOk result (λ shown. shown ≡ (bytes PAGE == 165)) }
     ensures lasts { D.honest disk.old → (bytes : ℕ → ℕ) → Still bytes (D.current disk.old) (D.unsynced disk.old)
         → Lasts D.Disk disk.old disk.new (λ image. (p : ℕ) → image p ≡ bytes p) }
-    ensures gave { (bytes : ℕ → ℕ) → ReadsGave bytes (D.reads disk.old) (D.reads disk.new)
-        → IfOk result (λ shown. shown ≡ (bytes PAGE == 165)) }
 {
     let mut gate = [0];
     disk.read(GATE, &mut gate)?;

@@ -1,5 +1,5 @@
 -- The error of reading a spool as an error of opening it.
-use Rattle.std.proofs.Common.{◌≡◌, ℕ, Err, ap, refl}
+use Rattle.std.proofs.Common.{◌≡◌, ℕ, Err, ap}
 use Rattle.std.specs.Prelude.{IsErrOf}
 use Rattle.common.specs.declared.stop.Stop.TheVariants.{DiskFault}
 use Rattle.spool_catalog.specs.declared.error.CheckError.{CheckError}

@@ -7,20 +7,20 @@ use Rattle.std.proofs.Math.ListN.{get_or-append, get_or-eq_default}
 use Rattle.std.proofs.lemmas.Bool.{cases_lt}
 use Rattle.std.proofs.Math.Seq.{take-append_seam}
 use Rattle.spool_disk.specs.Disk.{span}
-use Rattle.spool_disk.specs.Given.{ReadsGave, given}
+use Rattle.spool_disk.specs.Given.{Between, ReadsGave, ReadsOnce, given}
 use Rattle.common.specs.declared.given.GivenRead.{GivenRead}
 use Rattle.spool_disk.specs.declared.disk.Disk.{Ghosts}
-use Rattle.spool_disk.proofs.Gave.{both, first, grew_none, grew_on, none, of_one, one, rest}
+use Rattle.spool_disk.proofs.Gave.{both, first, grew_none, grew_on, none, of_one, one, read_once, rest}
 use Rattle.spool_disk.proofs.Firm.{lasts_on}
 use Rattle.spool_journal.specs.Image.{all_pages, byte_of, journal_pages, text_page}
 use Rattle.spool_journal.specs.Phases.{Still}
 use Rattle.spool_journal.proofs.Recovers.{get_span}
 use Rattle.spool_pages.specs.Bytes.{IsPadded}
 use Rattle.spool_pages.specs.View.{SlotRecord, AreAt, first_page, state_page, slot_bytes, slot_place, row_bytes}
-use Rattle.spool_pages.specs.View.{row_place}
+use Rattle.spool_pages.specs.View.{row_place, state_place}
 use Rattle.spool_pages.specs.Fits.{FitsSlotOf}
 use Rattle.spool_pages.specs.declared.version.Version.{Version}
-use Rattle.spool_pages.proofs.Encodes.{all_is}
+use Rattle.spool_pages.proofs.Encodes.{all_is, some_journal}
 use Rattle.spool_load.specs.Reads.{OnlyReads, IsReadAt, IsPrefixOf, IsSameTo, SlotsAreAt, RowsAreAt}
 use Rattle.std.proofs.lemmas.List.{ext_get_or, get_or-append-add}
 use Rattle.common.specs.declared.limits.TheConstants.{ROWS}
@@ -48,15 +48,11 @@ module _ {E : Type 0} {old new : List GivenRead} (at : ℕ) (bs : List ℕ) wher
   read_gave bytes (Ok done) one_more none_more is = of_one one_more (is refl)
   read_gave bytes (Err e) one_more none_more is = none none_more
 
-  pub read_given : (bytes : ℕ → ℕ) (r : Result (Unit {0}) E) → OnOk r (new ≡ given at bs ∷ old)
-      → ReadsGave bytes old new
-      → OnOk r (span bytes at (length bs) ≡ bs)
-  read_given bytes (Ok done) one_more gave = one one_more gave
-  read_given bytes (Err e) one_more gave = tt
-
-pub on_ok_more : {E P Q : Type 0} (r : Result (Unit {0}) E) → (P → Q) → OnOk r P → OnOk r Q
-on_ok_more (Ok done) more p = more p
-on_ok_more (Err e) more p = tt
+  -- it is of such places, and of none twice
+  pub part_once : (r : Result (Unit {0}) E) → OnOk r (new ≡ given at bs ∷ old) → OnErr r (new ≡ old)
+      → (from to : ℕ) → from ≤ at → at + length bs ≤ to → ReadsOnce (Between from to) old new
+  part_once r one_more none_more from to low high =
+      read_once at bs r one_more none_more (λ p over below. (omega (arith, low, over), omega (arith, below, high)))
 
 pub reads_none : {D : Type 0} {disk : Ghosts D} (d : D) → OnlyReads disk d d
 reads_none d = record {
@@ -91,10 +87,16 @@ gave_each early mid late gave =
 pub before_texts : (n size end : ℕ) → PAGE * all_pages n ≤ size → end ≤ PAGE * text_page n → end ≤ size
 before_texts n size end room few = omega (arith, all_is n, room, few)
 
-pub read_bytes : (bytes : ℕ → ℕ) (place : ℕ) (buf : List ℕ) → span bytes place (length buf) ≡ buf
-    → IsReadAt bytes place buf
-read_bytes bytes place buf is = record {
-  each = λ i lt. ap (λ (xs : List ℕ). get_or xs i 0) (sym is) ∙ get_span bytes place (length buf) i lt;
+-- so is the state page
+pub state_within : (n size : ℕ) → PAGE * all_pages n ≤ size → state_place n + PAGE ≤ size
+state_within n size room = omega (arith, all_is n, some_journal n, room)
+
+-- what a read gave is in its buffer
+pub read_is : (bytes : ℕ → ℕ) (place : ℕ) (buf : List ℕ) {old new : List GivenRead} → new ≡ given place buf ∷ old
+    → ReadsGave bytes old new → IsReadAt bytes place buf
+read_is bytes place buf e gave = record {
+  each =
+      λ i lt. ap (λ (xs : List ℕ). get_or xs i 0) (sym (one e gave)) ∙ get_span bytes place (length buf) i lt;
 }
 
 -- one read after the other

@@ -1,6 +1,6 @@
 -- Why a disk is refused.
 use Rattle.std.proofs.Common.{◌≡◌, inl, inr, ℕ, ◌+◌, ◌*◌, ◌^◌, ◌<◌, ◌≤◌, ◌++◌, List, length, get_or, IsTrue, ◌↔◌}
-use Rattle.std.proofs.Common.{Result, Ok, Err, IfOk, IfErr, Option, Some, None, IfSome, IsNone, IsSomeAnd, MatchOption}
+use Rattle.std.proofs.Common.{IfOk, IfErr, Option, Some, None, IfSome, IsNone, IsSomeAnd, MatchOption}
 use Rattle.std.specs.Option.{ok_or}
 use Rattle.std.proofs.Common.{refl, sym, ◌∙◌, ap, subst, arith}
 use Rattle.std.specs.Int.{to_be_bytes, from_be_bytes, w32}
@@ -9,7 +9,7 @@ use Rattle.common.specs.declared.stop.Stop.TheVariants.{NoMemory, DiskFault}
 use Rattle.spool_journal.specs.declared.TheConstants.{PAGE}
 use Rattle.spool_journal.specs.Image.{journal_pages, all_pages, byte_of, overlaid}
 use Rattle.spool_journal.specs.Phases.{Settled}
-use Rattle.spool_pages.specs.View.{View, AreAt, IsViewOf, magic, first_page, state_page, state_place, version_number}
+use Rattle.spool_pages.specs.View.{View, AreAt, magic, first_page, state_page, state_place, version_number}
 use Rattle.spool_pages.specs.declared.version.Version as code_version
 use Rattle.spool_pages.specs.declared.version.Version.TheVariants.{One, Two}
 use Rattle.spool_pages.proofs.Numbers.{four_at}

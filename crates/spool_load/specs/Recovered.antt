@@ -1,5 +1,5 @@
 -- What finding, recovering and reading a spool leaves of a disk.
-use Rattle.std.specs.Prelude.{◌≡◌, ◌⊎◌, ℕ, ◌*◌, ◌≤◌}
+use Rattle.std.specs.Prelude.{◌⊎◌, ℕ, ◌*◌, ◌≤◌}
 use Rattle.spool_journal.specs.declared.TheConstants.{PAGE}
 use Rattle.spool_disk.specs.Disk.{IsImage, Preserves}
 use Rattle.spool_disk.specs.Views.{Lasts}

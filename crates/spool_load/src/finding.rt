@@ -1,9 +1,9 @@
 //! Finding a spool on a disk, and recovering it.
-ghost use Rattle.std.specs.Prelude.{◌≡◌, ◌⊎◌, ◌≤◌, ◌<◌, ◌+◌, ◌*◌, ◌^◌, ◌↔◌};
-ghost use Rattle.std.specs.Prelude.{ℕ, Err, IsErr, IfOk, IfErr, IfSome, IsNone, IsSomeAnd, IsTrue, MatchOption, get_or};
+ghost use Rattle.std.specs.Prelude.{◌≡◌, ◌⊎◌, ◌≤◌, ◌<◌, ◌+◌, ◌*◌, ◌^◌, ◌↔◌, ◌∷◌, OnErr, ℕ, Err, IsErr, IfOk, IfErr};
+ghost use Rattle.std.specs.Prelude.{IfSome, IsNone, IsSomeAnd, IsTrue, MatchOption, get_or};
 ghost use Rattle.common.specs.declared.stop.Stop.{Stop};
 ghost use Rattle.spool_disk.specs.Disk.{IsImage, Counts, Preserves};
-ghost use Rattle.spool_disk.specs.Given.{Anywhere, Between, ReadsGave, ReadsOnce};
+ghost use Rattle.spool_disk.specs.Given.{Anywhere, Between, ReadsGave, ReadsOnce, given};
 ghost use Rattle.spool_disk.specs.Views.{Lasts};
 ghost use Rattle.spool_journal.specs.Image.{journal_pages, all_pages, byte_of, overlaid};
 ghost use Rattle.spool_journal.specs.Phases.{Settled, ReadsAs};
@@ -107,7 +107,21 @@ fn found_in(layout: Layout, page: &[u8; PAGE]) -> Option<Found>
     })
 }
 
-// Reads the state page. None if its version is unknown.
+// Reads the state page. The search needs `reads_on` only to show of a wrong body that it reads more.
+#[tactic(auto, using(crate::proofs::Looks::reads_on, crate::proofs::Looks::state_within))]
+fn read_state<D: Disk>(disk: &mut D, layout: &Layout) -> Result<[u8; PAGE], DiskFault>
+    requires { PAGE * all_pages layout.now ≤ D.size disk.old }
+    ensures reads { OnlyReads D.Disk disk.old disk.new }
+    ensures given { IfOk result (λ page. D.reads disk.new ≡ given (state_place layout.now) page ∷ D.reads disk.old) }
+    ensures none { OnErr result (D.reads disk.new ≡ D.reads disk.old) }
+    ensures counts { Counts (IsErr result) (D.failures disk.old) (D.failures disk.new) }
+{
+    let mut page = [0; PAGE];
+    read_at(disk, state_place(layout), &mut page)?;
+    Ok(page)
+}
+
+// What the state page gives. None if its version is unknown.
 fn load_state<D: Disk>(disk: &mut D, layout: Layout) -> Result<Option<Found>, DiskFault>
     requires { PAGE * all_pages layout ≤ D.size disk.old }
     ensures reads { OnlyReads D.Disk disk.old disk.new }
@@ -122,8 +136,7 @@ fn load_state<D: Disk>(disk: &mut D, layout: Layout) -> Result<Option<Found>, Di
         → IfOk result (λ decoded. MatchOption decoded (EncodesKnownVersion bytes (state_place layout) → ⊥)
         (FoundIsAt bytes)) }
 {
-    let mut page = [0; PAGE];
-    read_at(disk, state_place(&layout), &mut page)?;
+    let page = read_state(disk, &layout)?;
     Ok(found_in(layout, &page))
 }
 

@@ -1,11 +1,10 @@
 //! Reading page 0 and the index area of a spool whose bytes are all synced.
-ghost use Rattle.std.specs.Prelude.{◌≡◌, ◌≤◌, ◌<◌, ◌*◌, ◌+◌};
-ghost use Rattle.std.specs.Prelude.{ℕ, length, get_or, IsErr, IsErrOf, OnOk, IfOk};
+ghost use Rattle.std.specs.Prelude.{◌≡◌, ◌≤◌, ◌<◌, ◌*◌, ◌+◌, ◌∷◌, ℕ, length, get_or, IsErr, IsErrOf, OnOk, OnErr, IfOk};
 ghost use Rattle.enc_model.specs.Indexes.{IndexSet};
 ghost use Rattle.enc_index.specs.Area.{area_byte};
 ghost use Rattle.enc_index.specs.Sets.{IsIndexSet};
 ghost use Rattle.spool_disk.specs.Disk.{Counts};
-ghost use Rattle.spool_disk.specs.Given.{Between, ReadsGave, ReadsOnce};
+ghost use Rattle.spool_disk.specs.Given.{Between, ReadsGave, ReadsOnce, given};
 ghost use Rattle.spool_journal.specs.Image.{all_pages};
 ghost use Rattle.spool_load.specs.Faults.{Loads};
 ghost use Rattle.spool_load.specs.Reads.{OnlyReads, IsReadAt, AreaIsAt};
@@ -23,10 +22,9 @@ use std::alloc::Global;
 pub(crate) fn read_at<D: Disk>(disk: &mut D, place: u64, buf: &mut [u8]) -> Result<(), DiskFault>
     requires { place + length buf.old ≤ D.size disk.old }
     ensures reads { OnlyReads D.Disk disk.old disk.new }
-    ensures once { ReadsOnce (Between place (place + length buf.new)) (D.reads disk.old) (D.reads disk.new) }
+    ensures given { OnOk result (D.reads disk.new ≡ given place buf.new ∷ D.reads disk.old) }
+    ensures none { OnErr result (D.reads disk.new ≡ D.reads disk.old) }
     ensures counts { Counts (IsErr result) (D.failures disk.old) (D.failures disk.new) }
-    ensures bytes { (bytes : ℕ → ℕ) → ReadsGave bytes (D.reads disk.old) (D.reads disk.new)
-        → OnOk result (IsReadAt bytes place buf.new) }
 {
     disk.read(place, buf)
 }

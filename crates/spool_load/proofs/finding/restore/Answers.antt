@@ -174,7 +174,8 @@ returns-clause-given g c =
     let n = c.args.layout in
     let decoded = c.in_ok-load_state.field-0 in
     subst (λ (r : Result Found OpenFault). PartsBy (Between PAGE (PAGE * (3 + journal_pages n))) (IsOfFound r)
-    (g.D.Disk.reads c.args.disk.now) (g.D.Disk.reads c.load_state.new.disk) (RestoresBy n r)) (sym c.ok_or.ensures.value)
+    (g.D.Disk.reads c.args.disk.now) (g.D.Disk.reads c.load_state.new.disk) (RestoresBy n r))
+    (sym c.ok_or.ensures.value)
     (by_both c.recover.ensures.reads
     (once_more (of_found n decoded c.in_ok-load_state.ensures.layout) c.load_state.ensures.once)
     (λ before after early late. record {

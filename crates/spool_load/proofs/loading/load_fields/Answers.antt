@@ -1,4 +1,4 @@
-use Rattle.std.proofs.Common.{ℕ, arith, rules, subst, sym}
+use Rattle.std.proofs.Common.{ℕ, arith, rules, subst}
 use Rattle.spool_disk.proofs.Gave.{between_more, between_on}
 use Rattle.spool_disk.proofs.Firm.{counts_on}
 use Rattle.spool_journal.specs.declared.TheConstants.{PAGE}

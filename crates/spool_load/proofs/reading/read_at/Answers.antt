@@ -1,9 +1,9 @@
-use Rattle.std.proofs.Common.{◌≡◌, ◌∙◌, ap, arith, length, sym, rules}
+use Rattle.std.proofs.Common.{◌≡◌, ◌∙◌, ap, length, sym, rules}
 use Rattle.spool_disk.specs.Disk.{span}
 use Rattle.spool_disk.proofs.Firm.{lasts_call}
-use Rattle.spool_disk.proofs.Gave.{read_grew, read_once}
+use Rattle.spool_disk.proofs.Gave.{read_grew}
 use Rattle.spool_journal.proofs.Recovers.{still_preserves, still_image}
-use Rattle.spool_load.proofs.Looks.{on_ok_more, read_bytes, read_gave, read_given, still_span}
+use Rattle.spool_load.proofs.Looks.{read_gave, still_span}
 use Rattle.spool_load.proofs.reading.read_at.Goals as goal
 
 pub returns-clause-reads : goal.returns-clause-reads
@@ -23,13 +23,3 @@ returns-clause-reads g c =
           λ honest bytes still. lasts_call (c.read.ensures.time honest)
           (λ image is. still_image (still_preserves still (c.read.ensures.preserves honest)) is);
     }
-
-pub returns-clause-bytes : goal.returns-clause-bytes
-returns-clause-bytes g c bytes gave =
-    on_ok_more c.read.result (read_bytes bytes c.args.place _)
-    (read_given _ _ bytes c.read.result c.read.ensures.given gave)
-
-pub returns-clause-once : goal.returns-clause-once
-returns-clause-once g c =
-    read_once _ _ c.read.result c.read.ensures.given c.read.ensures.none
-    (λ p from below. (omega (arith, from), omega (arith, below)))
