@@ -22,10 +22,10 @@ module _ {rows : List Row} {below : List (Option ℕ)} {slot block : ℕ} {list 
       → ((s i : ℕ) → get_or rows block None ≡ Some (s, i) → i < length list → get_or list' i 0 ≡ block)
       → ((i : ℕ) → ((s : ℕ) → get_or rows block None ≡ Some (s, i) → ⊥) → get_or list' i 0 ≡ get_or list i 0)
       → ListedFrom rows slot next list'
-  listed_on list' next link size placed others = record {
+  listed_on list' next link size put others = record {
     owned = λ t is. let low = links.down slot block held.0 t held.1 (sym link ∙ is) in (low.ordinal, low.owned);
     each = λ b i own. ⊎_elim
-        (λ (e : b ≡ block). inr (λ lt whole. grind (arith, placed slot i)))
+        (λ (e : b ≡ block). inr (λ lt whole. grind (arith, put slot i)))
         (λ (ne : b ≡ block → ⊥). ⊎_elim
         (λ (r : ReachesBlock rows slot (Some block) b i).
         let top : rank b i ≤ rank block held.0 = grind (arith, r.least, r.owned, r.is, held.1) in

@@ -25,15 +25,15 @@ pub(crate) fn fill(
 {
     let mut next = top;
     while let Some(block) = next {
-        place(list, rows[block as usize], block);
+        put(list, rows[block as usize], block);
         next = below[block as usize].block();
     }
 }
 
 // Stores a block at the ordinal of its row, if the list is long enough.
-fn place(list: &mut [BlockNo], row: Row, block: BlockNo)
+fn put(list: &mut [BlockNo], row: Row, block: BlockNo)
     ensures size { length list.new ≡ length list.old }
-    ensures placed { (slot i : ℕ) → row ≡ Some (slot, i) → i < length list.old → get_or list.new i 0 ≡ block }
+    ensures put { (slot i : ℕ) → row ≡ Some (slot, i) → i < length list.old → get_or list.new i 0 ≡ block }
     ensures others { (i : ℕ) → ((slot : ℕ) → row ≡ Some (slot, i) → ⊥) → get_or list.new i 0 ≡ get_or list.old i 0 }
 {
     if let Some((_, ordinal)) = row {

@@ -20,9 +20,9 @@ loop-next-smaller c =
 
 pub loop-next-preserved : goal.loop-next-preserved
 loop-next-preserved c = record {
-  size = c.place.ensures.size ∙ c.loop-next.invariant.size;
-  listed = listed_on c.requires.few c.requires.links (listed c) c.place.new.list c.block-next.result (link c)
-      c.place.ensures.size c.place.ensures.placed c.place.ensures.others;
+  size = c.put.ensures.size ∙ c.loop-next.invariant.size;
+  listed = listed_on c.requires.few c.requires.links (listed c) c.put.new.list c.block-next.result (link c)
+      c.put.ensures.size c.put.ensures.put c.put.ensures.others;
 }
 
 pub returns-clause-listed : goal.returns-clause-listed
