@@ -51,3 +51,9 @@ spaces_end bytes i h = rw (drop_all i bytes h) refl
 -- a slice to the end
 pub rest_of : (bytes : List ℕ) (i : ℕ) → take (length bytes - i) (drop i bytes) ≡ drop i bytes
 rest_of bytes i = take_all (length bytes - i) (drop i bytes) (omega (arith, length-drop i bytes))
+
+-- a cut at a mark, byte by byte
+pub ruleset by_bytes = (before_here, after_here, prefix_next, after_next, before_end, after_end)
+
+-- what follows spaces, byte by byte
+pub ruleset by_spaces = (spaces_here, spaces_next, spaces_end)

@@ -63,3 +63,9 @@ lines_bad bound n index e line lines h = rw h refl
 pub lines_done : (bound n : ℕ) (index : Index) → with_lines bound n index [] ≡ Ok index
 unfolding with_lines
 lines_done bound n index = refl
+
+-- lines, one after the other
+pub ruleset by_lines = (lines_next, lines_last, after_shorter)
+
+-- the entries of lines, one after the other
+pub ruleset by_entries = (lines_on, lines_bad, lines_done)

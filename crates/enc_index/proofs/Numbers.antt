@@ -44,3 +44,6 @@ pub onward_end : (radix value : ℕ) (digits : List ℕ) (i : ℕ) → length di
     → number_onward radix value (drop i digits) ≡ Some value
 unfolding number_onward
 onward_end radix value digits i h = rw (drop_all i digits h) refl
+
+-- a number, digit by digit
+pub ruleset by_digits = (room_for_digit, room_for_radix, grown, onward_next, onward_bad, onward_end)

@@ -61,3 +61,6 @@ pub pair_twice : (entries : List (Option ℕ)) (n : ℕ) (pair : ℕ × ℕ) →
 pair_twice entries n pair h s e =
     let inside : nat_lt pair.0 (length entries) ≡ true = grind (arith, nat_tests, h) in
     rw (inside, s, code_entry entries pair.0) (given n pair _ _ e)
+
+-- a pair of a line, put into an index
+pub ruleset by_pair = (pair_put, pair_twice, scalar_test)

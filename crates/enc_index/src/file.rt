@@ -11,7 +11,7 @@ ghost use Rattle.enc_index.specs.Files.{without_0x, pair_of, with_pair, with_lin
 use crate::kind::ReadError;
 
 /// The bytes before the first mark, and those after it.
-#[tactic(auto, using(crate::proofs::Cuts::before_here, crate::proofs::Cuts::after_here, crate::proofs::Cuts::prefix_next, crate::proofs::Cuts::after_next, crate::proofs::Cuts::before_end, crate::proofs::Cuts::after_end))]
+#[tactic(auto, using(crate::proofs::Cuts::by_bytes))]
 fn cut(bytes: &[u8], mark: u8) -> (&[u8], Option<&[u8]>)
     ensures before { result.0.now ≡ before mark bytes.now }
     ensures after { option_copied result.1 ≡ rest_if_any mark bytes.now }
@@ -40,7 +40,7 @@ fn without_cr(line: &[u8]) -> &[u8]
 }
 
 /// The field without spaces at its start.
-#[tactic(auto, using(crate::proofs::Cuts::spaces_here, crate::proofs::Cuts::spaces_next, crate::proofs::Cuts::spaces_end))]
+#[tactic(auto, using(crate::proofs::Cuts::by_spaces))]
 fn without_spaces(field: &[u8]) -> &[u8]
     ensures { result.now ≡ without_spaces field.now }
 {
@@ -64,7 +64,7 @@ fn without_0x(field: &[u8]) -> &[u8]
 }
 
 /// The number of one or more digits, at most `most`.
-#[tactic(auto, using(crate::proofs::Numbers::room_for_digit, crate::proofs::Numbers::room_for_radix, crate::proofs::Numbers::grown, crate::proofs::Numbers::onward_next, crate::proofs::Numbers::onward_bad, crate::proofs::Numbers::onward_end))]
+#[tactic(auto, using(crate::proofs::Numbers::by_digits))]
 fn number(digits: &[u8], radix: u32, most: usize) -> Option<u32>
     requires least { 2 ≤ radix }
     requires greatest { radix ≤ 36 }
@@ -94,7 +94,7 @@ fn pair_of(line: &[u8]) -> Option<(u32, u32)>
 }
 
 /// Stores the pair of a line in the table.
-#[tactic(auto, using(crate::proofs::Pairs::pair_put, crate::proofs::Pairs::pair_twice, crate::proofs::Pairs::scalar_test))]
+#[tactic(auto, using(crate::proofs::Pairs::by_pair))]
 fn put_pair(
     codes: &mut [Option<char>],
     line_number: usize,
@@ -145,7 +145,7 @@ fn read_line(codes: &mut [Option<char>], line_number: usize, line: &[u8]) -> Res
 }
 
 /// The first line of a text, and what follows its LF.
-#[tactic(auto, using(crate::proofs::Lines::lines_next, crate::proofs::Lines::lines_last, crate::proofs::Lines::after_shorter))]
+#[tactic(auto, using(crate::proofs::Lines::by_lines))]
 fn next_line(text: &[u8]) -> (&[u8], Option<&[u8]>)
     ensures lines { lines_of text.now ≡ result.0.now ∷ lines_after (option_copied result.1) }
     ensures shorter { IfSome (option_copied result.1) (λ rest. length rest < length text.now) }
@@ -158,7 +158,7 @@ fn next_line(text: &[u8]) -> (&[u8], Option<&[u8]>)
 }
 
 /// Stores the pairs of a text's lines in the table, up to the first bad line.
-#[tactic(auto, using(crate::proofs::Lines::lines_on, crate::proofs::Lines::lines_bad, crate::proofs::Lines::lines_done))]
+#[tactic(auto, using(crate::proofs::Lines::by_entries))]
 fn read_lines(codes: &mut [Option<char>], bytes: &[u8]) -> Result<(), ReadError>
     ensures pairs { MatchResult result
         (λ _. with_lines (length codes.old) 1 (pairs_from 0 codes.old) (lines_of bytes.now) ≡ Ok

@@ -52,3 +52,6 @@ single_byte b bytes p = elim (kind_of b) [
   | inr (inl lead) ↦ (let some = lead.2.leads.prefix [] in absurd cc)
   | inr (inr none) ↦ nowhere_segment b bytes none
 ]
+
+-- what the first segment is
+pub ruleset by_segments = (sequence_first, prefix_longest, prefix_here, single_byte)

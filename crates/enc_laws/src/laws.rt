@@ -16,7 +16,7 @@ ghost use Rattle.enc_laws.specs.WellFormed.{AreBytes, AreScalars, IsWellFormed};
 
 /// Maximal subparts: a well-formed sequence is a segment. Otherwise the segment is the longest prefix of one that
 /// begins there, or a single byte if there is none.
-#[tactic(auto, using(crate::proofs::Longest::sequence_first, crate::proofs::Longest::prefix_longest, crate::proofs::Longest::prefix_here, crate::proofs::Longest::single_byte))]
+#[tactic(auto, using(crate::proofs::Longest::by_segments))]
 pub fn longest_subparts()
     ensures sequence { (prefix rest : List ℕ) → is_sequence prefix ≡ true → segment (prefix ++ rest) ≡ prefix }
     ensures longest { (prefix rest : List ℕ) → is_prefix prefix ≡ true

@@ -28,3 +28,6 @@ pub ready_four : (c : ℕ) → IsScalar c → 65536 ≤ c →
     let b = (240 + c / 262144) ∷ (128 + c / 4096 % 64) ∷ (128 + c / 64 % 64) ∷ (128 + c % 64) ∷ [] in (c ≡ char_in b
     4) × IsUtf8Char b 4
 ready_four c s l = ready c _ 4 s (omega arith) (sym (four_bytes c l))
+
+-- a character of each length
+pub ruleset ready_each = (ready_one, ready_two, ready_three, ready_four)

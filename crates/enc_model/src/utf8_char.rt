@@ -26,7 +26,7 @@ impl Model for Utf8Char {
 impl Utf8Char {
     /// The bytes of a character.
     #[inline(always)]
-    #[tactic(auto, using(crate::proofs::Ready::ready_one, crate::proofs::Ready::ready_two, crate::proofs::Ready::ready_three, crate::proofs::Ready::ready_four))]
+    #[tactic(auto, using(crate::proofs::Ready::ready_each))]
     pub fn of(c: char) -> Self
         ensures { result ≡ c }
     {
