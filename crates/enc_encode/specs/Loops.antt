@@ -2,7 +2,7 @@
 use Rattle.std.specs.Prelude.{ℕ, ◌≡◌}
 use Rattle.enc_model.specs.declared.Encoding.{Encoding}
 use Rattle.enc_model.specs.declared.Encoding.TheVariants.{ShiftJis, EucJp, Iso2022Jp}
-use Rattle.enc_encode.specs.declared.encoder.TheConstants.{SHIFT_JIS, EUC_JP, ISO_2022_JP}
+use Rattle.enc_encode.specs.declared.loops.TheConstants.{SHIFT_JIS, EUC_JP, ISO_2022_JP}
 
 -- this loop may be run for this encoding
 pub record IsLoopOf (loop : ℕ) (to : Encoding) : Type 0 where

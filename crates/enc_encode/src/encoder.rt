@@ -2,13 +2,11 @@
 
 ghost use Rattle.std.specs.Prelude.{◌≡◌, ◌⊎◌, ◌<◌, ◌≤◌, ◌++◌, ◌∷◌, [], ℕ, List, Ok, Err, vec_capacity, length, OnOk};
 ghost use Rattle.std.specs.Prelude.{OnErr, IfOk, IfErr, IfSome, IsOk, All};
-ghost use Rattle.std.specs.Bool.{OnTrue};
-ghost use Rattle.std.specs.List.{prefix_len};
 ghost use Rattle.std.specs.Str.{chars};
 ghost use Rattle.enc_encode.specs.State.{EncoderState, shift_of, code_of_shift, code_of_shift_of, shifted, coder};
 ghost use Rattle.enc_encode.specs.State.{code_from};
 ghost use Rattle.enc_encode.specs.Growth.{NoRoom};
-ghost use Rattle.enc_encode.specs.Held.{HoldsCode, HeldPrefix, IsOwnPrefix, own_byte};
+ghost use Rattle.enc_encode.specs.Held.{HoldsCode, HeldPrefix};
 ghost use Rattle.enc_encode.specs.Letters.{AreLetters};
 ghost use Rattle.enc_encode.specs.Loops.{IsLoopOf};
 ghost use Rattle.enc_encode.specs.Reasons.{Gave, Explains, reason_of};
@@ -19,17 +17,18 @@ ghost use Rattle.enc_feed.specs.Sink.{Given};
 ghost use Rattle.enc_model.specs.Indexes.{tables};
 
 use crate::append::{append, fill};
-use crate::buffer::{Buffer, LANES};
+use crate::ascii_start::{are_ascii, own_prefix, starts_in_ascii};
+use crate::buffer::Buffer;
 use crate::encoders::written;
 use crate::error::EncodeError;
 use crate::iso2022::{TO_ASCII, iso2022_ascii};
 use crate::letters::{Letters, letters_of};
+use crate::loops::{EUC_JP, ISO_2022_JP, OTHERS, SHIFT_JIS, encoding_of};
 use crate::shift::ShiftState;
 use crate::written::Written;
 use crate::written_out::write_out;
 use enc_index::{IndexSet, Kind, Pointers};
 use enc_model::{Encoding, Mode};
-use lane_kernels::{ascii_chunk, ascii_prefix, plain_chunk_2022};
 use std::alloc::AllocError;
 use std::marker::Model;
 
@@ -49,78 +48,6 @@ impl Model for Encoder {
     ghost inverse = { λ v. record { to = v.to; mode = v.mode; shift = code_of_shift v.shift } };
 
     ghost inverse_ok = { λ e h. code_of_shift_of e.shift (λ s. record { to = e.to; mode = e.mode; shift = s }) };
-}
-
-/// The loop over characters for all encodings that have none of their own: the single-byte ones.
-const OTHERS: usize = 0;
-
-/// The loop for Shift_JIS.
-const SHIFT_JIS: usize = 1;
-
-/// The loop for EUC-JP.
-const EUC_JP: usize = 2;
-
-/// The loop for ISO-2022-JP.
-const ISO_2022_JP: usize = 3;
-
-/// How many of the lanes, from the first, are ASCII that an encoder writes as it is.
-#[inline(always)]
-#[tactic(auto, using(crate::proofs::Prefixes::own_switched, crate::proofs::Prefixes::own_other))]
-fn own_lanes(to: Encoding, shift: ShiftState, lanes: &[u8; LANES]) -> usize
-    ensures { result ≡ prefix_len (own_byte to (shift_of shift)) lanes.now }
-{
-    match to {
-        Encoding::Iso2022Jp => match shift {
-            ShiftState::Ascii => plain_chunk_2022(lanes),
-            ShiftState::Roman | ShiftState::Jis => 0,
-        },
-        _ => ascii_chunk(lanes),
-    }
-}
-
-/// Whether all bytes are ASCII, looked at many at a time.
-#[inline(always)]
-fn are_ascii(bytes: &[u8]) -> bool
-    ensures { OnTrue result (All (λ b. b < 128) bytes.now) }
-{
-    ascii_prefix(bytes) == bytes.len()
-}
-
-/// Whether a text's first character is ASCII.
-#[inline(always)]
-fn starts_in_ascii(text: &str) -> bool {
-    match text.as_bytes().first() {
-        Some(byte) => *byte < 0x80,
-        None => false,
-    }
-}
-
-/// Whole lanes at the start of a text that begins with ASCII, and how much ASCII there is, if it is written as it is.
-#[inline(always)]
-fn own_prefix(to: Encoding, shift: ShiftState, text: &str) -> Option<(&[u8; LANES], usize)>
-    ensures { IfSome result (λ r. IsOwnPrefix to (shift_of shift) text.now r.0.now r.1) }
-{
-    let lanes = text.as_bytes().first_chunk::<LANES>()?;
-    let count = own_lanes(to, shift, lanes);
-    if count == 0 {
-        return None;
-    }
-    Some((lanes, count))
-}
-
-/// The encoding given. In a loop that is made for one encoding the compiler knows which, so that no step of the loop
-/// chooses by it.
-#[inline(always)]
-fn encoding_of<const LOOP: usize>(given: Encoding) -> Encoding
-    requires { IsLoopOf LOOP given }
-    ensures { result ≡ given }
-{
-    match LOOP {
-        SHIFT_JIS => Encoding::ShiftJis,
-        EUC_JP => Encoding::EucJp,
-        ISO_2022_JP => Encoding::Iso2022Jp,
-        _ => given,
-    }
 }
 
 impl Encoder {

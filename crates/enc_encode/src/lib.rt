@@ -5,12 +5,14 @@
 #![tactic(auto)]
 
 mod append;
+mod ascii_start;
 mod buffer;
 mod encoder;
 mod encoders;
 mod error;
 mod iso2022;
 mod letters;
+mod loops;
 mod pair_runs;
 mod reference;
 mod reference_runs;

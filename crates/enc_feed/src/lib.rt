@@ -2,9 +2,15 @@
 #![tactic(auto)]
 
 mod batch;
+mod by_blocks;
+mod by_bytes;
 mod decoder;
+mod room;
 mod sink;
 
-pub use batch::{AsciiFinder, BLOCK, Batch, LANES, PairReader, ROOM};
-pub use decoder::{BlockDecoder, Decoder, decode_each, feed, feed_each, finish};
+pub use batch::{BLOCK, Batch};
+pub use by_blocks::feed;
+pub use by_bytes::{decode_each, feed_each, finish};
+pub use decoder::{BlockDecoder, Decoder};
+pub use room::{AsciiFinder, LANES, PairReader, ROOM};
 pub use sink::Sink;

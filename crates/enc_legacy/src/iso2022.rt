@@ -7,13 +7,13 @@ ghost use Rattle.enc_model.specs.declared.Charset.TheVariants.{Ascii, Lead};
 ghost use Rattle.enc_model.specs.declared.Place.TheVariants.{In};
 ghost use Rattle.enc_model.specs.Stream.{restored_bytes, steps};
 ghost use Rattle.enc_feed.specs.Sink.{Given};
-ghost use Rattle.enc_model.specs.Japanese.{Iso2022, iso2022, iso2022_start, iso2022_answer, iso2022_byte, iso2022_end};
-ghost use Rattle.enc_model.specs.Japanese.{iso2022_plain, escape_of, introducer_byte};
+ghost use Rattle.enc_model.specs.Japanese.{Iso2022, iso2022, iso2022_start, iso2022_byte, iso2022_end, iso2022_plain};
 ghost use Rattle.enc_model.proofs.Calm.{iso2022_calm};
 ghost use Rattle.enc_model.specs.Indexes.{tables};
 
+use crate::escapes::{byte_of, escape, plain_answer};
 use crate::euc_bytes::row_pointer;
-use crate::kana::{answer_for, half_width};
+use crate::kana::answer_for;
 use crate::pairs::{ready_rows, row_char};
 use crate::stride::{Strider, decode_strides};
 use enc_feed::{Batch, BlockDecoder, Decoder, PairReader, ROOM, Sink, decode_each, feed, finish};
@@ -38,60 +38,6 @@ impl Model for Iso2022State {
     ghost view = { λ s. record { place = s.place; output = s.output; flag = s.flag } };
 
     ghost invariant = { λ s. IsIso2022State s.place s.output s.flag };
-}
-
-/// The answer to a byte other than 1B in a character set.
-fn plain_answer(set: Charset, b: u8) -> Answer
-    ensures { result ≡ iso2022_answer set b }
-{
-    match set {
-        Charset::Roman if b == 0x5C => Answer::Point('\u{A5}'),
-        Charset::Roman if b == 0x7E => Answer::Point('\u{203E}'),
-        Charset::Ascii | Charset::Roman => {
-            if b < 0x80 && b != 0x0E && b != 0x0F {
-                Answer::Point(b as char)
-            } else {
-                Answer::Error
-            }
-        }
-        Charset::Katakana => {
-            if 0x21 <= b && b <= 0x5F {
-                half_width(b - 0x21)
-            } else {
-                Answer::Error
-            }
-        }
-        Charset::Lead => {
-            if 0x21 <= b && b <= 0x7E {
-                Answer::Nothing
-            } else {
-                Answer::Error
-            }
-        }
-    }
-}
-
-/// The character set of an escape sequence.
-fn escape(lead: Introducer, b: u8) -> Option<Charset>
-    ensures { result ≡ escape_of lead b }
-{
-    match (lead, b) {
-        (Introducer::Paren, 0x42) => Some(Charset::Ascii),
-        (Introducer::Paren, 0x4A) => Some(Charset::Roman),
-        (Introducer::Paren, 0x49) => Some(Charset::Katakana),
-        (Introducer::Dollar, 0x40 | 0x42) => Some(Charset::Lead),
-        _ => None,
-    }
-}
-
-/// The byte after 1B.
-fn byte_of(lead: Introducer) -> u8
-    ensures { result ≡ introducer_byte lead }
-{
-    match lead {
-        Introducer::Dollar => 0x24,
-        Introducer::Paren => 0x28,
-    }
 }
 
 impl Iso2022State {
@@ -134,6 +80,30 @@ impl Iso2022State {
             Place::Escape(lead) => {
                 self.back();
                 (Answer::Error, Restored::One(byte_of(lead)))
+            }
+        }
+    }
+
+    /// Reads the byte after 1B.
+    #[inline(always)]
+    fn introduced(&mut self, b: u8) -> (Answer, Restored)
+        ensures answer { result.0 ≡ (iso2022_byte [] Place.EscapeStart self.old.output self.old.flag b).answer }
+        ensures restored { restored_bytes
+            result.1 ≡ (iso2022_byte [] Place.EscapeStart self.old.output self.old.flag b).restored }
+        ensures state { self.new ≡ (iso2022_byte [] Place.EscapeStart self.old.output self.old.flag b).state }
+    {
+        match b {
+            0x24 => {
+                self.place = Place::Escape(Introducer::Dollar);
+                (Answer::Nothing, Restored::Zero)
+            }
+            0x28 => {
+                self.place = Place::Escape(Introducer::Paren);
+                (Answer::Nothing, Restored::Zero)
+            }
+            _ => {
+                self.back();
+                (Answer::Error, Restored::One(b))
             }
         }
     }
@@ -213,20 +183,7 @@ impl Decoder for Iso2022State {
                 let code = indexes.code(Kind::Jis0208, pointer);
                 (answer_for(code), Restored::Zero)
             }
-            Place::EscapeStart => match b {
-                0x24 => {
-                    self.place = Place::Escape(Introducer::Dollar);
-                    (Answer::Nothing, Restored::Zero)
-                }
-                0x28 => {
-                    self.place = Place::Escape(Introducer::Paren);
-                    (Answer::Nothing, Restored::Zero)
-                }
-                _ => {
-                    self.back();
-                    (Answer::Error, Restored::One(b))
-                }
-            },
+            Place::EscapeStart => self.introduced(b),
             Place::Escape(lead) => self.escaped(lead, b),
         }
     }

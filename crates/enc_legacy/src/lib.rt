@@ -1,6 +1,7 @@
 //! The decoders of the single-byte and the Japanese encodings.
 #![tactic(auto)]
 
+mod escapes;
 mod euc_bytes;
 mod euc_jp;
 mod iso2022;

@@ -5,7 +5,7 @@ ghost use Rattle.enc_feed.specs.Batches.{BatchTook};
 ghost use Rattle.enc_model.specs.Index.{within};
 ghost use Rattle.enc_unicode.specs.Cuts.{AreCut, IsLead};
 
-use crate::well_formed::follows;
+use crate::by_characters::follows;
 use enc_feed::{Batch, ROOM};
 
 /// How many continuation bytes these begin with, at most `most`.

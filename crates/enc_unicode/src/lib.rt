@@ -2,14 +2,17 @@
 #![tactic(auto)]
 
 mod blocks;
+mod by_characters;
 mod cuts;
 mod faults;
 mod guesses;
 mod narrow;
 mod narrow_packs;
+mod nowhere;
 mod packing;
 mod packs;
 mod runs;
+mod units;
 mod utf16;
 mod utf8;
 mod well_formed;

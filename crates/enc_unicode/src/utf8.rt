@@ -8,15 +8,15 @@ ghost use Rattle.enc_feed.specs.Sink.{Given};
 ghost use Rattle.enc_feed.specs.Batches.{BatchTook};
 ghost use Rattle.enc_model.specs.Index.{within};
 ghost use Rattle.enc_model.specs.Utf8.{Utf8, utf8, utf8_start, utf8_first, utf8_next};
-ghost use Rattle.enc_unicode.specs.Nowhere.{nowhere_sink};
 ghost use Rattle.enc_model.proofs.Calm.{utf8_calm};
 
+use crate::by_characters::text_before_fault;
 use crate::cuts::{push_cuts, trail_len};
 use crate::faults::push_few;
-use crate::well_formed::{Look, text_before_fault, text_found};
+use crate::nowhere::Nowhere;
+use crate::well_formed::{Look, text_found};
 use enc_feed::{BLOCK, Batch, Decoder, ROOM, Sink, decode_each, finish};
 use enc_model::{Answer, Restored};
-use std::convert::Infallible;
 use std::marker::Model;
 
 /// The most bytes of an unfinished character at a piece's end.
@@ -176,32 +176,6 @@ impl Utf8State {
         self.point = point;
         Answer::Nothing
     }
-}
-
-/// A sink that ignores all text.
-#[derive(Drop)]
-struct Nowhere;
-
-impl Sink for Nowhere {
-    type Refusal = Infallible;
-
-    ghost takes = { λ old text new. Unit {0} };
-
-    ghost refuses = { λ old text why new. ⊥ };
-
-    fn put(&mut self, _c: char) -> Result<(), Infallible> {
-        Ok(())
-    }
-
-    fn ascii(&mut self, _run: &[u8]) -> Result<(), Infallible> {
-        Ok(())
-    }
-
-    fn text(&mut self, _run: &str) -> Result<(), Infallible> {
-        Ok(())
-    }
-
-    ghost is_sink = { nowhere_sink };
 }
 
 impl Decoder for Utf8State {

@@ -1,4 +1,0 @@
-use Rattle.enc_feed.proofs.decoder.+finish_within.Given as goal
-
-abbrev pub decreases-finish_within : goal.decreases-finish_within
-decreases-finish_within g l = l.calls
