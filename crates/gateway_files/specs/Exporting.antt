@@ -6,8 +6,8 @@ use Rattle.upload_rules.specs.Store.{Store, upload_of}
 use Rattle.gateway_files.specs.Copies.{AreOf}
 use Rattle.gateway_files.specs.Folders.{Files, PreservesFiles, new_file}
 use Rattle.gateway_files.specs.Planning.{Job}
-use Rattle.gateway_files.specs.declared.exporting.Outcome.{Outcome}
-use Rattle.gateway_files.specs.declared.exporting.Outcome.TheVariants.{Exported, There, Differs, Failed, Incomplete}
+use Rattle.gateway_files.specs.declared.outcomes.Outcome.{Outcome}
+use Rattle.gateway_files.specs.declared.outcomes.Outcome.TheVariants.{Exported, There, Differs, Failed, Incomplete}
 
 -- one text in the file that it is to have, where it is to have one
 abbrev pub exported_as : Files → Option (List ℕ) → List ℕ → Files

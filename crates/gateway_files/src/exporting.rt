@@ -1,31 +1,30 @@
 //! The texts of a spool's uploads, written into files.
-ghost use Rattle.std.specs.Prelude.{◌≡◌, [], ◌∷◌, ℕ, Bool, Err, IfErr, IfOk, IsErrOf, IsOk, None, OnErr, OnOk, Some};
-ghost use Rattle.std.specs.Prelude.{◌||◌, ◌==◌, false, length, map, not};
+
+ghost use Rattle.std.specs.Prelude.{◌≡◌, [], ◌∷◌, ℕ, Bool, Err, IfErr, IfOk, IsErrOf, IsOk, OnOk, ◌||◌, false, map};
 ghost use Rattle.std.specs.Io.KnownBytes.{Appends};
 ghost use Rattle.common.specs.Given.{MoreReads};
 ghost use Rattle.common.specs.declared.stop.Stop.{Stop};
 ghost use Rattle.spool_load.specs.Refusals.{HasOtherVersion, IsDamaged, IsNoSpool};
 ghost use Rattle.upload_rules.specs.Answers.{Counts, Quiet};
-ghost use Rattle.upload_rules.specs.Reading.{text_at};
-ghost use Rattle.upload_rules.specs.Store.{Store, upload_of};
+ghost use Rattle.upload_rules.specs.Store.{Store};
 ghost use Rattle.upload_rules.specs.World.{World};
 ghost use Rattle.spool_image.specs.LeftOnly.{AllShow, IsSpool};
 ghost use Rattle.spool_image.specs.Opening.{OpeningReadsBy};
 ghost use Rattle.gateway_files.specs.declared.faults.Fault.{Fault};
 ghost use Rattle.gateway_files.specs.Changing.{IsChangeResult, IsChangeFault};
-ghost use Rattle.gateway_files.specs.Exporting.{Exports, ExportsAs, ExportsOneAs, ExportsSome, ExportsSomeAs};
-ghost use Rattle.gateway_files.specs.Exporting.{differs_one, exported, is_other, outcome_line, some_differ};
-ghost use Rattle.gateway_files.specs.Exporting.{summary_line};
+ghost use Rattle.gateway_files.specs.Exporting.{Exports, ExportsAs, ExportsSome, ExportsSomeAs, exported, is_other};
+ghost use Rattle.gateway_files.specs.Exporting.{some_differ, summary_line};
 ghost use Rattle.gateway_files.specs.Folders.{Files, HoldsAll};
 ghost use Rattle.gateway_files.specs.Leaving.{LeavesOne};
 ghost use Rattle.gateway_files.specs.Lines.{IsInOrder};
 ghost use Rattle.gateway_files.specs.Listing.{AnswersAs, ListRefusedFor, RefusesListAs};
 ghost use Rattle.gateway_files.specs.Planning.{job_shown, jobs_of};
 
-use crate::copies::copy_text;
-use crate::failures::{Advice, Failure, Task};
+use crate::advice::{Advice, Task};
+use crate::failures::Failure;
 use crate::faults::Fault;
 use crate::folders::{FileFolder, Folder};
+use crate::outcomes::{Outcome, do_job};
 use crate::planning::{Job, plan};
 use crate::spool_files::{open_spool, refused_spool};
 use crate::streams::Noted;
@@ -225,165 +224,6 @@ impl ExportTally {
             there: self.there || matches!(outcome, Outcome::There(_) | Outcome::Differs(..)),
             differs: self.differs || matches!(outcome, Outcome::Differs(..)),
         }
-    }
-}
-
-// What became of an upload.
-#[derive(Clone, Copy, Drop)]
-enum Outcome<'j> {
-    // its text was written into this file
-    Exported(&'j str),
-    // there is such a file, as long as the text
-    There(&'j str),
-    // there is such a file, of so many bytes where the text has so many others
-    Differs(&'j str, u64, u64),
-    // its text couldn't be written into this file
-    Failed(&'j str),
-    // only a complete one was to be written
-    Incomplete,
-}
-
-// Writes a text into a file, where that is to be done, and a line.
-fn do_job<'j, W: Write, F: Folder, U: Uploads>(
-    writer: &mut W,
-    folder: &mut F,
-    uploads: &mut U,
-    job: &'j Job,
-) -> Result<Outcome<'j>, Fault>
-    ensures files { (sure : Bool) (w : World) → U.represents uploads.old sure w → (files : Files)
-        → F.holds folder.old files
-        → OnOk result (ExportsAs sure (F.holds folder.new) w.store (job_shown job.now ∷ []) files) }
-    ensures failed { (sure : Bool) (w : World) → U.represents uploads.old sure w → (files : Files)
-        → F.holds folder.old files
-        → OnErr result (ExportsOneAs sure (F.holds folder.new) w.store (job_shown job.now) files) }
-    ensures differs { (sure : Bool) (w : World) → U.represents uploads.old sure w → (files : Files)
-        → F.holds folder.old files
-        → IfOk result (λ outcome. is_other outcome ≡ differs_one w.store files (job_shown job.now)) }
-    ensures preserves { (files : Files) → F.holds folder.old files → HoldsAll (F.holds folder.new) files }
-    ensures represents { (sure : Bool) (w : World) → U.represents uploads.old sure w
-        → OnOk result (U.represents uploads.new sure w) }
-    ensures crash { Quiet (U.moment uploads.old) (U.moment uploads.new) (U.left_only uploads.old)
-        (U.left_only uploads.new) }
-    ensures refused { IfErr result IsChangeFault }
-    ensures counts { Counts (IsErrOf result (Fault.Stop Stop.DiskFault)) (U.failures uploads.old)
-        (U.failures uploads.new) }
-    ensures reads { MoreReads (U.reads uploads.old) (U.reads uploads.new) }
-{
-    match (export_job(folder, uploads, job), &job.name) {
-        (Ok(outcome), _) => {
-            report_outcome(writer, job.number, outcome)?;
-            Ok(outcome)
-        }
-        (Err(fault), Some(name)) => {
-            // if this can't be written either, only the program's end reports the fault
-            let reported = report_outcome(writer, job.number, Outcome::Failed(name.as_str()));
-            drop(reported);
-            Err(fault)
-        }
-        (Err(fault), None) => Err(fault),
-    }
-}
-
-// Writes a text into a file, where that is to be done.
-fn export_job<'j, F: Folder, U: Uploads>(
-    folder: &mut F,
-    uploads: &mut U,
-    job: &'j Job,
-) -> Result<Outcome<'j>, Fault>
-    ensures files { (sure : Bool) (w : World) → U.represents uploads.old sure w → (files : Files)
-        → F.holds folder.old files
-        → OnOk result (ExportsAs sure (F.holds folder.new) w.store (job_shown job.now ∷ []) files) }
-    ensures failed { (sure : Bool) (w : World) → U.represents uploads.old sure w → (files : Files)
-        → F.holds folder.old files
-        → OnErr result (ExportsOneAs sure (F.holds folder.new) w.store (job_shown job.now) files) }
-    ensures differs { (sure : Bool) (w : World) → U.represents uploads.old sure w → (files : Files)
-        → F.holds folder.old files
-        → IfOk result (λ outcome. is_other outcome ≡ differs_one w.store files (job_shown job.now)) }
-    ensures preserves { (files : Files) → F.holds folder.old files → HoldsAll (F.holds folder.new) files }
-    ensures represents { (sure : Bool) (w : World) → U.represents uploads.old sure w
-        → OnOk result (U.represents uploads.new sure w) }
-    ensures crash { Quiet (U.moment uploads.old) (U.moment uploads.new) (U.left_only uploads.old)
-        (U.left_only uploads.new) }
-    ensures refused { IfErr result IsChangeFault }
-    ensures counts { Counts (IsErrOf result (Fault.Stop Stop.DiskFault)) (U.failures uploads.old)
-        (U.failures uploads.new) }
-    ensures reads { MoreReads (U.reads uploads.old) (U.reads uploads.new) }
-{
-    let Some(name) = &job.name else {
-        return Ok(Outcome::Incomplete);
-    };
-    if let Some(len) = folder.len_of(name.as_str())? {
-        return Ok(found(uploads, job.number, name.as_str(), len));
-    }
-    write_text(folder, uploads, job.number, name.as_str())?;
-    Ok(Outcome::Exported(name.as_str()))
-}
-
-// What there is of an upload's text: a file of this name and of so many bytes.
-fn found<'j, U: Uploads>(uploads: &U, number: u64, name: &'j str, len: u64) -> Outcome<'j>
-    ensures { (sure : Bool) (w : World) → U.represents uploads.now sure w
-        → is_other result ≡ not (len == length (text_at w.store (upload_of w.store number))) }
-{
-    let text = match uploads.record(number) {
-        Some(record) => record.text_len,
-        None => 0,
-    };
-    if len == text {
-        Outcome::There(name)
-    } else {
-        Outcome::Differs(name, len, text)
-    }
-}
-
-// Writes a text into a new file, which then has the name.
-fn write_text<F: Folder, U: Uploads>(
-    folder: &mut F,
-    uploads: &mut U,
-    number: u64,
-    name: &str,
-) -> Result<(), Fault>
-    ensures files { (sure : Bool) (w : World) → U.represents uploads.old sure w → (files : Files)
-        → F.holds folder.old files → OnOk result ((files name.now ≡ None)
-        × ExportsAs sure (F.holds folder.new) w.store ((number, Some name.now) ∷ []) files) }
-    ensures failed { (sure : Bool) (w : World) → U.represents uploads.old sure w → (files : Files)
-        → F.holds folder.old files
-        → OnErr result (ExportsOneAs sure (F.holds folder.new) w.store (number, Some name.now) files) }
-    ensures preserves { (files : Files) → F.holds folder.old files → HoldsAll (F.holds folder.new) files }
-    ensures represents { (sure : Bool) (w : World) → U.represents uploads.old sure w
-        → OnOk result (U.represents uploads.new sure w) }
-    ensures crash { Quiet (U.moment uploads.old) (U.moment uploads.new) (U.left_only uploads.old)
-        (U.left_only uploads.new) }
-    ensures refused { IfErr result IsChangeFault }
-    ensures counts { Counts (IsErrOf result (Fault.Stop Stop.DiskFault)) (U.failures uploads.old)
-        (U.failures uploads.new) }
-    ensures reads { MoreReads (U.reads uploads.old) (U.reads uploads.new) }
-{
-    let mut file = folder.begin()?;
-    match copy_text(&mut file, uploads, number) {
-        Ok(()) => {
-            folder.end(file, name)?;
-            Ok(())
-        }
-        Err(fault) => {
-            folder.give_up(file);
-            Err(fault)
-        }
-    }
-}
-
-// Prints what became of an upload.
-fn report_outcome<W: Write>(writer: &mut W, number: u64, outcome: Outcome) -> io::Result<()>
-    ensures { OnOk result (Appends (W.contents writer.old) (W.contents writer.new)
-        (outcome_line number outcome.entry)) }
-{
-    match outcome {
-        Outcome::Exported(name) => writeln!(writer, "exported {number} {name}"),
-        Outcome::There(name) => writeln!(writer, "there {number} {name}"),
-        Outcome::Differs(name, len, text) => {
-            writeln!(writer, "there {number} {name}, {len} of {text} bytes")
-        }
-        Outcome::Failed(name) => writeln!(writer, "failed {number} {name}"),
-        Outcome::Incomplete => writeln!(writer, "incomplete {number}"),
     }
 }
 

@@ -3,7 +3,8 @@
 ghost use Rattle.std.specs.Prelude.{◌≡◌, ℕ, List, [], None, Some, IfOk, OnErr, OnOk, length, option_map};
 ghost use Rattle.gateway_files.specs.Folders.{Files, HoldsAll, HoldsEither, new_file, with_file};
 
-use crate::failures::{Failure, Task};
+use crate::advice::Task;
+use crate::failures::Failure;
 use crate::faults::Fault;
 use crate::streams::Noted;
 use std::alloc::Global;

@@ -10,7 +10,8 @@ ghost use Rattle.spool_image.specs.Format.{FitsSpool, HasMagic, IsRefusal, LeftB
 ghost use Rattle.spool_image.specs.LeftOnly.{AllShow};
 ghost use Rattle.gateway_files.specs.SpoolFiles.{Disks, Leaves, LeavesOthers, OnlyRead};
 
-use crate::failures::{Advice, Failure, Task};
+use crate::advice::{Advice, Task};
+use crate::failures::Failure;
 use crate::faults::Fault;
 use crate::index_files::{IndexFile, IndexFiles, read_indexes};
 use crate::spool_files::{SpoolFiles, SystemFiles};

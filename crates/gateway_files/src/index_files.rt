@@ -7,7 +7,8 @@ ghost use Rattle.gateway_files.specs.Folders.{Files};
 ghost use Rattle.gateway_files.specs.IndexFiles.{IsReadFault, entries, indexes_of, named, one_of, read_as};
 ghost use Rattle.gateway_files.specs.IndexFiles.{standard_entries, with_file};
 
-use crate::failures::{Failure, Task};
+use crate::advice::Task;
+use crate::failures::Failure;
 use crate::faults::Fault;
 use crate::folders::find_folder;
 use common::Stop;

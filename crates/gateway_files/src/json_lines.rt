@@ -2,11 +2,11 @@
 
 use crate::failures::Failure;
 use crate::faults::Fault;
-use crate::listing::mode_name;
 use crate::losses::losses_of;
 use crate::naming::given_name;
 use crate::spool_files::{open_spool, refused_spool};
 use crate::streams::Noted;
+use crate::upload_lines::mode_name;
 use common::{SLOTS, Stop};
 use enc_labels::name_of;
 use serde::Serialize;

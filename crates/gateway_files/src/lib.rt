@@ -1,6 +1,7 @@
 //! Spools in files: made, listed, exported and upgraded; and what is printed of what was done, and of failures.
 #![tactic(auto)]
 
+mod advice;
 mod copies;
 mod deleting;
 mod exporting;
@@ -15,6 +16,7 @@ mod laws;
 mod listing;
 mod losses;
 mod naming;
+mod outcomes;
 mod planning;
 mod reports;
 mod spool_files;
@@ -22,11 +24,13 @@ mod streams;
 mod surveying;
 mod transcoding;
 mod upgrading;
+mod upload_lines;
 
+pub use advice::{Advice, Task, TextAdvice};
 pub use copies::copy_text;
 pub use deleting::{delete_file, delete_on, delete_uploads};
 pub use exporting::{ExportTally, export_file, export_on, export_uploads};
-pub use failures::{Advice, Failure, Task, TextAdvice, ended};
+pub use failures::{Failure, ended};
 pub use faults::Fault;
 pub use folders::{FileFolder, Folder};
 pub use formatting::{Formatted, format_file, format_in, format_on};

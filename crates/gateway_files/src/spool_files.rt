@@ -7,7 +7,8 @@ ghost use Rattle.gateway_files.specs.Failures.{fault_in};
 ghost use Rattle.gateway_files.specs.SpoolFiles.{Disks, IsNotOpened, Leaves, LeavesOthers, OnlyRead};
 ghost use Rattle.gateway_files.specs.SpoolFiles.{with_disk};
 
-use crate::failures::{Advice, Failure, Task};
+use crate::advice::{Advice, Task};
+use crate::failures::Failure;
 use crate::faults::Fault;
 use spool_disk::{Disk, FileDisk};
 use spool_image::is_spool;

@@ -9,7 +9,8 @@ ghost use Rattle.tus_request.specs.Metadata.{choice_with, mode_of};
 ghost use Rattle.gateway_files.specs.Failures.{fault_in};
 ghost use Rattle.gateway_files.specs.Transcoding.{CopiesOn, EndsOn, IsConverted, IsTextFault, choice_in};
 
-use crate::failures::{Advice, Failure, TextAdvice};
+use crate::advice::{Advice, TextAdvice};
+use crate::failures::Failure;
 use crate::faults::Fault;
 use crate::index_files::{IndexFiles, read_indexes};
 use crate::losses::Tally;

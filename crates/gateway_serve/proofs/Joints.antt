@@ -16,8 +16,8 @@ use Rattle.gateway_serve.specs.declared.buffers.TheConstants.{PIECE}
 use Rattle.gateway_serve.specs.declared.sockets.Seen.{Seen}
 use Rattle.gateway_serve.specs.Joined.{Joint, Joins, is_last, stage_by, stage_after}
 use Rattle.gateway_serve.specs.Joined.{taken_after}
-use Rattle.gateway_serve.specs.declared.links.Stage.{Stage}
-use Rattle.gateway_serve.specs.declared.links.Stage.TheVariants as stages
+use Rattle.gateway_serve.specs.declared.stages.Stage.{Stage}
+use Rattle.gateway_serve.specs.declared.stages.Stage.TheVariants as stages
 use Rattle.gateway_serve.proofs.Steps.{Shuts, came_shuts, came_lost, came_failed, more_shuts, more_lost, more_failed}
 use Rattle.gateway_serve.proofs.Talks.{talks_here, gave_refused, given_of}
 

@@ -14,8 +14,8 @@ use Rattle.gateway_serve.specs.declared.reasons.Gone.{Gone}
 use Rattle.gateway_serve.specs.declared.reasons.Gone.TheVariants.{Failed}
 use Rattle.gateway_serve.specs.declared.reasons.Reason.{Reason}
 use Rattle.gateway_serve.specs.declared.reasons.Reason.TheVariants.{Over}
-use Rattle.gateway_serve.specs.declared.links.Left.{Left}
-use Rattle.gateway_serve.specs.declared.links.Left.TheVariants as Is
+use Rattle.gateway_serve.specs.declared.stages.Left.{Left}
+use Rattle.gateway_serve.specs.declared.stages.Left.TheVariants as Is
 use Rattle.gateway_serve.specs.declared.places.Place.{Place}
 use Rattle.gateway_serve.specs.declared.places.Place.TheVariants.{Free, Open}
 use Rattle.gateway_serve.specs.declared.places.Turned.{Turned}

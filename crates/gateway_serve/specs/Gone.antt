@@ -9,8 +9,8 @@ use Rattle.gateway_serve.specs.declared.sockets.Latest.TheVariants as Was
 use Rattle.gateway_serve.specs.Stays.{IsOver}
 use Rattle.gateway_serve.specs.declared.reasons.Gone.{Gone}
 use Rattle.gateway_serve.specs.declared.reasons.Gone.TheVariants.{Ended, Failed, Stuck, Late}
-use Rattle.gateway_serve.specs.declared.links.Left.{Left}
-use Rattle.gateway_serve.specs.declared.links.Left.TheVariants as Is
+use Rattle.gateway_serve.specs.declared.stages.Left.{Left}
+use Rattle.gateway_serve.specs.declared.stages.Left.TheVariants as Is
 
 -- a read or write failed so, and not because it would have waited or was interrupted
 abbrev pub IsFailure : ErrorKind → Type 0

@@ -13,8 +13,8 @@ use Rattle.gateway_serve.specs.declared.sockets.Seen.{Seen}
 use Rattle.gateway_serve.specs.Bytes.{bytes_come, went_of, current}
 use Rattle.gateway_serve.specs.Waiting.{FewWait}
 use Rattle.gateway_serve.specs.Served.{IsBack, WentOn, ServesPart, AllServed, AllLeft}
-use Rattle.gateway_serve.specs.declared.links.Stage.{Stage}
-use Rattle.gateway_serve.specs.declared.links.Stage.TheVariants.{Taking, Giving, Closed}
+use Rattle.gateway_serve.specs.declared.stages.Stage.{Stage}
+use Rattle.gateway_serve.specs.declared.stages.Stage.TheVariants.{Taking, Giving, Closed}
 use Rattle.gateway_serve.specs.declared.links.Link.{Link}
 use Rattle.gateway_serve.specs.Requests.{at_in}
 use Rattle.gateway_serve.specs.declared.requests.Request.{Request}

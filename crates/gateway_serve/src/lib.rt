@@ -14,6 +14,7 @@ mod rounds;
 mod server;
 mod serving;
 mod sockets;
+mod stages;
 mod stays;
 
 pub use acceptors::{Acceptor, Listening};

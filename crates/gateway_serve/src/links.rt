@@ -1,57 +1,34 @@
 //! A socket and its connection of the gateway.
-ghost use Rattle.std.specs.Prelude.{◌≡◌, ◌≢◌, ◌⊎◌, ◌↔◌, IsErr, IsErrOf, IfOk, IfSome, IsTrue, length};
+
+ghost use Rattle.std.specs.Prelude.{◌≡◌, ◌≢◌, ◌⊎◌, IsErr, IfOk, IfSome, IsTrue, length};
 ghost use Rattle.upload_rules.specs.Answers.{Counts};
 ghost use Rattle.gateway_serve.specs.Joined.{Goes, IsOver, WritesPiece, ReadsPiece, joint_of, nothing_yet, with_link};
-ghost use Rattle.gateway_serve.specs.Joined.{stage_by, stage_after, taken_after, at_of};
+ghost use Rattle.gateway_serve.specs.Joined.{at_of};
 ghost use Rattle.gateway_serve.specs.Waiting.{FewWait, HasRoom};
 ghost use Rattle.gateway_serve.specs.Bytes.{stream_of, latest_of};
 ghost use Rattle.gateway_serve.specs.Streams.{StaysOf, socket_of};
-ghost use Rattle.gateway_serve.specs.Gone.{EndsBy, IfLost, IsFailure};
+ghost use Rattle.gateway_serve.specs.Gone.{EndsBy, IfLost};
 ghost use Rattle.gateway_serve.specs.declared.sockets.Latest.{Latest};
 ghost use Rattle.gateway_serve.specs.Longest.{link_between_since};
 ghost use Rattle.gateway_serve.specs.Reasons.{IsOutOfTime, IsLostBy, moved_of, opened_of, stay_of};
 ghost use Rattle.gateway_serve.specs.Requests.{measured_by, request_by};
 ghost use Rattle.gateway_serve.specs.Stays as stays;
-ghost use Rattle.std.specs.IoError.{error_kind};
 
 use crate::buffers::{Input, Output, PIECE};
 use crate::idle::{Pace, Tick};
 use crate::reasons::{Gone, Reason};
 use crate::requests::Request;
 use crate::sockets::{Seen, Socket, Untouched};
+use crate::stages::{Left, Stage, left_after, next_after};
 use crate::stays::{At, Stay};
-use common::{DiskFault, Stop, Trace};
+use common::{DiskFault, Trace};
 use std::alloc::Global;
-use std::io::{self, ErrorKind, Read, Write};
+use std::io::{Read, Write};
 use std::time::Duration;
-use tus_session::{Answer, Connections, SessionError};
+use tus_session::Connections;
 
 /// What a client gets that waits with the body of its request. Each reply is longer.
 const CONTINUE: &[u8] = b"HTTP/1.1 100 Continue\r\n\r\n";
-
-/// What is done at a connection once all is written.
-#[derive(Clone, Copy, Debug, PartialEq, Eq, Drop)]
-enum Stage {
-    /// Bytes are taken.
-    Taking,
-    /// A text is still to be given.
-    Giving,
-    /// The session closed the connection.
-    Closed,
-}
-
-/// What a turn left of a connection.
-#[derive(Clone, Copy, Drop)]
-pub(crate) enum Left {
-    /// It is open.
-    Open,
-    /// It is open, and the socket had nothing to do, or was passed over.
-    Idle,
-    /// The session closed it, and all is written.
-    Closed,
-    /// It is lost, which is still to be reported to the session.
-    Lost(Gone),
-}
 
 /// A socket and its connection of the gateway.
 #[derive(Drop)]
@@ -373,62 +350,5 @@ impl<S: Read + Write> Link<S> {
         let mut request = self.request.unwrap_or(Request::new(now));
         request.add(&bytes[..taken.min(bytes.len())], now);
         Some(request)
-    }
-}
-
-// What follows an answer of the session, and how many bytes it took.
-#[derive(Clone, Copy, Drop)]
-struct Next {
-    stage: Stage,
-    taken: usize,
-}
-
-// A call that is refused closes the connection.
-fn next_after(answer: Result<Answer, SessionError>) -> Result<Next, DiskFault>
-    ensures fault { IsErr result ↔ IsErrOf answer (SessionError.Stop Stop.DiskFault) }
-    ensures stage { IfOk result (λ next. next.stage ≡ stage_after answer) }
-    ensures taken { IfOk result (λ next. next.taken ≡ taken_after answer) }
-{
-    match answer {
-        Ok(answer) => Ok(Next {
-            stage: stage_by(answer),
-            taken: answer.taken,
-        }),
-        Err(SessionError::Stop(Stop::DiskFault)) => Err(DiskFault),
-        Err(
-            SessionError::Stop(Stop::NoMemory)
-            | SessionError::TooMany
-            | SessionError::Closed
-            | SessionError::Down,
-        ) => Ok(Next {
-            stage: Stage::Closed,
-            taken: 0,
-        }),
-    }
-}
-
-// What is done after an answer, once all is written.
-fn stage_by(answer: Answer) -> Stage
-    ensures { result ≡ stage_by answer }
-{
-    if answer.closes {
-        Stage::Closed
-    } else if answer.more {
-        Stage::Giving
-    } else {
-        Stage::Taking
-    }
-}
-
-// What a failed read or write leaves of a connection: one that would have waited is tried again in the next turn.
-fn left_after(error: &io::Error) -> Left
-    ensures unclosed { result ≢ Left.Closed }
-    ensures lost { IfLost result (λ gone. (gone ≡ Gone.Failed (error_kind error.now)) × IsFailure
-        (error_kind error.now)) }
-{
-    match error.kind() {
-        ErrorKind::WouldBlock => Left::Idle,
-        ErrorKind::Interrupted => Left::Open,
-        kind => Left::Lost(Gone::Failed(kind)),
     }
 }

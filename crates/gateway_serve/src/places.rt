@@ -7,9 +7,10 @@ ghost use Rattle.gateway_serve.specs.Reasons.{StayReasoned};
 ghost use Rattle.gateway_serve.specs.Longest.{between_since};
 
 use crate::idle::Tick;
-use crate::links::{Left, Link};
+use crate::links::Link;
 use crate::reasons::Reason;
 use crate::sockets::{Seen, Untouched};
+use crate::stages::Left;
 use common::{DiskFault, Stop, Trace};
 use std::alloc::Global;
 use std::io::{Read, Write};

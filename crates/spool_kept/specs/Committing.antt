@@ -18,7 +18,7 @@ use Rattle.upload_rules.specs.declared.errors.UploadRefusal.{UploadRefusal}
 use Rattle.upload_rules.specs.declared.errors.UploadRefusal.TheVariants.{LengthSet, NoSuch, Offset, TooLong}
 use Rattle.spool_kept.specs.Drafting.{DraftsHold, IsStillOpen, StandsFor}
 use Rattle.spool_catalog.specs.Holding.{Holding, IsUsedBy}
-use Rattle.spool_kept.specs.declared.committing.Found.{Found}
+use Rattle.spool_kept.specs.declared.finding.Found.{Found}
 
 -- the slot is in use by the draft's upload, which has as many bytes as when the draft began
 pub record HasSameCount (slots : List (Option SlotRecord)) (o : SpoolDraft) (slot : ℕ) : Type 0 where

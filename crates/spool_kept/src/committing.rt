@@ -1,7 +1,7 @@
 //! The text of a draft is put after its upload's.
-ghost use Rattle.std.specs.Prelude.{◌≡◌, ◌≤◌, ◌<◌, ◌*◌, ◌↔◌, ◌⊎◌, ℕ, false, List, [], Option, Some, None};
-ghost use Rattle.std.specs.Prelude.{get_or, slice_set, IsErrOf, IfOk, OnOk};
-ghost use Rattle.std.specs.Prelude.{Bool, true};
+
+ghost use Rattle.std.specs.Prelude.{◌≡◌, ◌≤◌, ◌*◌, ◌↔◌, ◌⊎◌, ℕ, false, List, [], Option, Some, None, get_or, slice_set};
+ghost use Rattle.std.specs.Prelude.{IsErrOf, IfOk, OnOk, Bool, true};
 ghost use Rattle.spool_disk.specs.Views.{Lasts};
 ghost use Rattle.spool_journal.specs.Image.{journal_pages, all_pages};
 ghost use Rattle.spool_drafts.specs.Drafts.{IsTailPlaced, list_of, upload_number_of};
@@ -12,12 +12,12 @@ ghost use Rattle.spool_texts.specs.Drafts.{IsReserved};
 ghost use Rattle.upload_rules.specs.Answers.{Counts, Answers};
 ghost use Rattle.upload_rules.specs.Calls.{commit_outcome, commit_refusal, committed, dropped};
 ghost use Rattle.upload_rules.specs.Drafts.{draft_at};
-ghost use Rattle.upload_rules.specs.Lengths.{is_length, is_too_large};
+ghost use Rattle.upload_rules.specs.Lengths.{is_too_large};
 ghost use Rattle.upload_rules.specs.Store.{Store, find, patched_store};
 ghost use Rattle.upload_rules.specs.World.{Patch, World, reached};
 ghost use Rattle.upload_rules.specs.declared.errors.UploadRefusal.{UploadRefusal};
-ghost use Rattle.spool_kept.specs.Committing.{Finds, HasOtherCount, IsAfterSlot, IsCommit, IsFound, MayDeclare};
-ghost use Rattle.spool_kept.specs.Committing.{PreservesDisk, with_length_at};
+ghost use Rattle.spool_kept.specs.Committing.{HasOtherCount, IsAfterSlot, IsCommit, IsFound, MayDeclare, PreservesDisk};
+ghost use Rattle.spool_kept.specs.Committing.{with_length_at};
 ghost use Rattle.spool_kept.specs.Drafting.{DraftsFit, OnlyReserves, StandsFor};
 ghost use Rattle.spool_kept.specs.Extending.{Advances, IsPending};
 ghost use Rattle.spool_catalog.specs.Longer.{MayExtend};
@@ -26,64 +26,14 @@ ghost use Rattle.spool_catalog.specs.Shows.{ImageShows};
 ghost use Rattle.spool_kept.specs.Stored.{ShowsEither, Stored};
 
 use crate::extending::extend;
+use crate::finding::{Found, found_for};
 use common::Stop;
 use spool_catalog::{Catalog, Longer};
 use spool_disk::Disk;
 use spool_drafts::{DraftEnd, SpoolDraft};
 use spool_journal::PAGE;
 use std::alloc::Global;
-use upload_rules::{Record, UploadError, UploadRefusal, is_length, is_new, length_then, taken};
-
-/// What a commit finds of its draft's upload.
-#[derive(Clone, Copy)]
-struct Found {
-    slot: u32,
-    // Whether the draft gives it its length.
-    declares: bool,
-    // Its length with the draft's, where one is known.
-    declared: Option<u64>,
-    // Whether its text stays: no bytes came, and no length makes the accepted ones all.
-    stays: bool,
-}
-
-// Whether a text stays: no bytes came, and no new length makes the accepted ones all.
-fn stays(declares: bool, declared: Option<u64>, accepted: u64, came: u64) -> bool
-    ensures stays { result ≡ true → (came ≡ 0) × (declares ≡ true → is_length declared accepted ≡ false) }
-    ensures goes { result ≡ false → (0 < came) ⊎ ((declares ≡ true) × (is_length declared accepted ≡ true)) }
-{
-    came == 0 && !(declares && is_length(declared, accepted))
-}
-
-// What a commit finds of a draft's upload, which has as many bytes as when the draft began: refused with `NoSuch`,
-// `Offset`, `LengthSet`, `TooLong`.
-fn found_for(catalog: &Catalog, draft: &SpoolDraft) -> Result<Found, UploadRefusal>
-    ensures { Finds catalog.now.slots draft.now result }
-{
-    let Some(slot) = catalog.slot_of(draft.number()) else {
-        return Err(UploadRefusal::NoSuch);
-    };
-    let Some(used) = catalog.in_slot(slot) else {
-        return Err(UploadRefusal::NoSuch);
-    };
-    let Record {
-        declared: known,
-        accepted,
-        ..
-    } = *used.record();
-    if accepted != draft.offset() {
-        return Err(UploadRefusal::Offset);
-    }
-    let came = draft.came();
-    let declare = draft.declare();
-    let declared = length_then(known, declare, accepted, came)?;
-    let declares = is_new(known, declare);
-    Ok(Found {
-        slot,
-        declares,
-        declared,
-        stays: stays(declares, declared, accepted, came),
-    })
-}
+use upload_rules::{UploadError, UploadRefusal, is_length, taken};
 
 // Ends a draft's text after its upload's, and answers what the upload becomes, and the bytes that are still to be
 // written: refused with `Unencodable`, `Full`, `NoMemory`, `DiskFault`. The blocks stay the draft's. Nothing is

@@ -6,6 +6,7 @@ mod committing;
 mod creating;
 mod drafting;
 mod extending;
+mod finding;
 mod terminating;
 
 pub use committing::commit;

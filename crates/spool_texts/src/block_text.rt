@@ -1,7 +1,7 @@
 //! The new text of a draft.
-ghost use Rattle.std.specs.Prelude.{◌≡◌, ◌≤◌, ◌<◌, ◌≢◌, ◌*◌, ◌+◌, ◌-◌, ◌/◌, ◌%◌, ◌++◌, ◌^◌, ◌↔◌, ◌⊎◌, ℕ, List, []};
-ghost use Rattle.std.specs.Prelude.{length, take, drop, replicate, min, get_or, None, Some, IsOk, IsErr, IsErrOf, IfOk};
-ghost use Rattle.std.specs.Prelude.{OnOk, OnErr, vec_len, vec_capacity};
+
+ghost use Rattle.std.specs.Prelude.{◌≡◌, ◌≤◌, ◌<◌, ◌*◌, ◌+◌, ◌-◌, ◌/◌, ◌%◌, ◌++◌, ◌^◌, ◌↔◌, ◌⊎◌, ℕ, [], length, take};
+ghost use Rattle.std.specs.Prelude.{min, None, Some, IsOk, IsErr, IsErrOf, IfOk, OnOk, OnErr, vec_capacity};
 ghost use Rattle.common.specs.declared.limits.TheConstants.{MOST_BLOCKS};
 ghost use Rattle.spool_journal.specs.declared.TheConstants.{PAGE};
 ghost use Rattle.spool_blocks.specs.Blocks.{IsFree};
@@ -10,13 +10,15 @@ ghost use Rattle.spool_disk.specs.Views.{Lasts};
 ghost use Rattle.spool_journal.specs.Image.{journal_pages, all_pages, text_page};
 ghost use Rattle.spool_journal.specs.Phases.{Idle};
 ghost use Rattle.spool_texts.specs.Drafts.{Draft, full_count, held_count, content_on, bytes_with, IsReserved, Takes};
-ghost use Rattle.spool_texts.specs.Drafts.{GivesBack, prefix_on, tail_list, tail_on, len_of, draft_bytes, count_with};
-ghost use Rattle.spool_texts.specs.Drafts.{without_block, IsNothingAfter};
-ghost use Rattle.spool_texts.specs.TextOn.{text_on, AllBelow};
+ghost use Rattle.spool_texts.specs.Drafts.{GivesBack, tail_on, len_of, draft_bytes, count_with, without_block};
+ghost use Rattle.spool_texts.specs.Drafts.{IsNothingAfter};
+ghost use Rattle.spool_texts.specs.TextOn.{AllBelow};
 ghost use Rattle.spool_texts.specs.Written.{WritesIn, IsImageBut, aside_blocks};
 ghost use Rattle.spool_texts.specs.declared.block_text.Unread.{Unread};
 
-use crate::{DraftError, read_text};
+use crate::DraftError;
+use crate::last_blocks::{read_tail, write_prefix};
+use crate::reserving::{take_block, take_blocks};
 use common::{MOST_BLOCKS, Stop};
 use spool_blocks::{BlockNo, Blocks};
 use spool_disk::{Disk, DiskFault};
@@ -402,143 +404,6 @@ impl BlockText {
         }
         Ok(())
     }
-}
-
-// Reads the first bytes of the block, if there is one.
-fn read_tail<D: Disk>(
-    disk: &mut D,
-    layout: &Layout,
-    tail: Option<BlockNo>,
-    len: usize,
-    page: &mut [u8],
-) -> Result<(), DiskFault>
-    requires room { PAGE * all_pages layout.now ≤ D.size disk.old }
-    requires below { AllBelow layout.now (tail_list tail) }
-    requires few { len < PAGE }
-    requires page { length page.old ≡ PAGE }
-    requires zeros { take len page.old ≡ replicate len 0 }
-    ensures size { D.size disk.new ≡ D.size disk.old }
-    ensures honest { D.honest disk.old ↔ D.honest disk.new }
-    ensures counts { Counts (IsErr result) (D.failures disk.old) (D.failures disk.new) }
-    ensures unread { tail_list tail ≡ [] → disk.new ≡ disk.old }
-    ensures tail { D.honest disk.old → OnOk result
-        (take len page.new ≡ prefix_on (D.current disk.old) (text_page layout.now) tail len) }
-    ensures preserves { D.honest disk.old
-        → Preserves (D.current disk.old) (D.current disk.new) (D.unsynced disk.old) (D.unsynced disk.new) }
-    ensures lasts { D.honest disk.old → Lasts D.Disk disk.old disk.new
-        (IsImage (D.current disk.old) (D.unsynced disk.old)) }
-{
-    let Some(block) = tail else {
-        return Ok(());
-    };
-    read_text(disk, layout, &[block], len as u64, 0, &mut page[..len])?;
-    Ok(())
-}
-
-// Writes bytes to the start of the last listed block.
-fn write_prefix<D: Disk>(
-    disk: &mut D,
-    layout: &Layout,
-    list: &[BlockNo],
-    bytes: &[u8],
-) -> Result<(), DiskFault>
-    requires room { PAGE * all_pages layout.now ≤ D.size disk.old }
-    requires blocks { AllBelow layout.now list.now }
-    requires distinct { (i k : ℕ) → i < k → k < length list.now → get_or list.now i 0 ≢ get_or list.now k 0 }
-    requires some { 1 ≤ length list.now }
-    requires fits { length bytes.now ≤ PAGE }
-    ensures size { D.size disk.new ≡ D.size disk.old }
-    ensures honest { D.honest disk.old ↔ D.honest disk.new }
-    ensures counts { Counts (IsErr result) (D.failures disk.old) (D.failures disk.new) }
-    ensures text { D.honest disk.old → OnOk result
-        (text_on (D.current disk.new) (text_page layout.now) list.now
-        (PAGE * (length list.now - 1) + length bytes.now) ≡ text_on (D.current disk.old)
-        (text_page layout.now) list.now (PAGE * (length list.now - 1)) ++ bytes.now) }
-    ensures writes { D.honest disk.old → WritesIn (text_page layout.now) list.now (D.current disk.old)
-        (D.current disk.new) (D.unsynced disk.old) (D.unsynced disk.new) }
-    ensures idle { D.honest disk.old → Idle (journal_pages layout.now) (D.current disk.old) (D.unsynced disk.old)
-        → Idle (journal_pages layout.now) (D.current disk.new) (D.unsynced disk.new) }
-    ensures lasts { D.honest disk.old → Lasts D.Disk disk.old disk.new
-        (IsImageBut (text_page layout.now) list.now (D.current disk.old) (D.unsynced disk.old)) }
-{
-    let page = layout.block_page(list[list.len() - 1]);
-    disk.write_at(PAGE as u64 * page as u64, bytes)
-}
-
-/// Writes the last bytes of a text to the last of the listed blocks, without a sync.
-///
-/// # Errors
-///
-/// `DiskFault`.
-pub fn write_last<D: Disk>(
-    disk: &mut D,
-    layout: &Layout,
-    list: &[BlockNo],
-    last: &[u8],
-) -> Result<(), DiskFault>
-    requires room { PAGE * all_pages layout.now ≤ D.size disk.old }
-    requires blocks { AllBelow layout.now list.now }
-    requires distinct { (i k : ℕ) → i < k → k < length list.now → get_or list.now i 0 ≢ get_or list.now k 0 }
-    ensures size { D.size disk.new ≡ D.size disk.old }
-    ensures honest { D.honest disk.old ↔ D.honest disk.new }
-    ensures counts { Counts (IsErr result) (D.failures disk.old) (D.failures disk.new) }
-    ensures written { D.honest disk.old → OnOk result ((length last.now + 4095) / PAGE ≤ length list.now
-        → text_on (D.current disk.new) (text_page layout.now) list.now
-        (length (bytes_with (D.current disk.old) (text_page layout.now) list.now last.now)) ≡ bytes_with
-        (D.current disk.old) (text_page layout.now) list.now last.now) }
-    ensures writes { D.honest disk.old → WritesIn (text_page layout.now) list.now (D.current disk.old)
-        (D.current disk.new) (D.unsynced disk.old) (D.unsynced disk.new) }
-    ensures lasts { D.honest disk.old → Lasts D.Disk disk.old disk.new
-        (IsImageBut (text_page layout.now) list.now (D.current disk.old) (D.unsynced disk.old)) }
-{
-    let full = list.len().saturating_sub(last.len().div_ceil(PAGE));
-    for at in full..list.len() {
-        let from = PAGE * (at - full);
-        let to = last.len().min(from + PAGE);
-        write_prefix(disk, layout, &list[..at + 1], &last[from..to])?;
-    }
-    Ok(())
-}
-
-// Reserves a block and appends it to the list.
-fn take_block(list: &mut Vec<BlockNo>, blocks: &mut Blocks) -> Result<(), DraftError>
-    requires space { vec_len list.old < vec_capacity list.old }
-    requires few { length list.old.items ≤ MOST_BLOCKS }
-    requires reserved { IsReserved blocks.old list.old.items }
-    ensures few { length list.new.items ≤ MOST_BLOCKS }
-    ensures takes { Takes blocks.old blocks.new list.old.items list.new.items }
-    ensures reserved { IsReserved blocks.new list.new.items }
-    ensures one { OnOk result (length list.new.items ≡ length list.old.items + 1) }
-    ensures space { vec_capacity list.old ≤ vec_capacity list.new }
-    ensures only_full { IsErr result → IsErrOf result DraftError.Full }
-    ensures full { IsErr result → (b : ℕ) → IsFree blocks.new b → ⊥ }
-    ensures same { OnErr result (list.new.items ≡ list.old.items) }
-{
-    let Some(block) = blocks.take() else {
-        return Err(DraftError::Full);
-    };
-    list.push(block).unwrap();
-    Ok(())
-}
-
-// Reserves blocks and appends them to the list until it has `count`.
-fn take_blocks(list: &mut Vec<BlockNo>, blocks: &mut Blocks, count: usize) -> Result<(), DraftError>
-    requires space { count ≤ vec_capacity list.old }
-    requires fewer { length list.old.items ≤ count }
-    requires few { length list.old.items ≤ MOST_BLOCKS }
-    requires reserved { IsReserved blocks.old list.old.items }
-    ensures few { length list.new.items ≤ MOST_BLOCKS }
-    ensures takes { Takes blocks.old blocks.new list.old.items list.new.items }
-    ensures reserved { IsReserved blocks.new list.new.items }
-    ensures count { OnOk result (length list.new.items ≡ count) }
-    ensures only_full { IsErr result → IsErrOf result DraftError.Full }
-    ensures full { IsErr result → (b : ℕ) → IsFree blocks.new b → ⊥ }
-    ensures short { OnErr result (length list.new.items < count) }
-{
-    while list.len() < count {
-        take_block(list, blocks)?;
-    }
-    Ok(())
 }
 
 // Copies bytes into the page from `filled` on, as many as fit, and returns their count.

@@ -8,10 +8,13 @@
 
 mod block_text;
 mod error;
+mod last_blocks;
 mod laws;
 mod reads;
+mod reserving;
 
-pub use block_text::{BlockText, write_last};
+pub use block_text::BlockText;
 pub use error::DraftError;
+pub use last_blocks::write_last;
 pub use laws::{same_but_blocks, shown_texts, texts_unchanged};
 pub use reads::read_text;

@@ -74,8 +74,8 @@ pub fn give_more<U: Uploads>(
     buffer: &mut PieceBuffer,
     out: &mut Vec<u8>,
 ) -> Result<Given, Stop>
-    ensures answer { (sure : Bool) (w : World) (h : acts.Giving) → U.represents store.old sure w → IsGiving w.store giving h
-        → GivesMore U.Uploads sure store.new result out.old.items out.new.items w h }
+    ensures answer { (sure : Bool) (w : World) (h : acts.Giving) → U.represents store.old sure w
+        → IsGiving w.store giving h → GivesMore U.Uploads sure store.new result out.old.items out.new.items w h }
     ensures crash { Quiet (U.moment store.old) (U.moment store.new) (U.left_only store.old) (U.left_only store.new) }
     ensures counts { Counts (IsErrOf result Stop.DiskFault) (U.failures store.old) (U.failures store.new) }
     ensures few { GrowsBy PIECE out.old.items out.new.items }

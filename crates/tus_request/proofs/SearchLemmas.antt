@@ -132,28 +132,28 @@ text_byte : (b : ℕ) → (b == 10) ≡ false → after_byte Text b ≡ Text
 text_byte b e = grind arith
 
 -- without a LF it goes on
-pub text_stays : (bytes : List ℕ) → ((k : ℕ) → k < length bytes → (get_or bytes k 0 == 10) ≡ false)
+pub line_goes_on : (bytes : List ℕ) → ((k : ℕ) → k < length bytes → (get_or bytes k 0 == 10) ≡ false)
     → after_bytes Text bytes ≡ Text
-text_stays [] none = refl
-text_stays (b ∷ bytes) none =
+line_goes_on [] none = refl
+line_goes_on (b ∷ bytes) none =
     ap (λ s. after_bytes s bytes) (text_byte b (none 0 (omega arith)))
-    ∙ text_stays bytes (λ k h. none (suc k) (omega arith))
+    ∙ line_goes_on bytes (λ k h. none (suc k) (omega arith))
 
 -- its LF ends it
-pub text_ends : (bytes : List ℕ) (i : ℕ) → i < length bytes → (get_or bytes i 0 == 10) ≡ true
+pub line_ends : (bytes : List ℕ) (i : ℕ) → i < length bytes → (get_or bytes i 0 == 10) ≡ true
     → ((k : ℕ) → k < i → (get_or bytes k 0 == 10) ≡ false)
     → after_bytes Start (drop (suc i) bytes) ≡ after_bytes Text bytes
-text_ends [] i inside feed none = absurd (omega arith)
-text_ends (b ∷ bytes) zero inside feed none = rw feed refl
-text_ends (b ∷ bytes) (suc i) inside feed none =
-    text_ends bytes i (omega arith) feed (λ k h. none (suc k) (omega arith))
+line_ends [] i inside feed none = absurd (omega arith)
+line_ends (b ∷ bytes) zero inside feed none = rw feed refl
+line_ends (b ∷ bytes) (suc i) inside feed none =
+    line_ends bytes i (omega arith) feed (λ k h. none (suc k) (omega arith))
     ∙ ap (λ s. after_bytes s bytes) (sym (text_byte b (none 0 (omega arith))))
 
 pub after_none : (bytes : List ℕ) → position (λ b. b == 10) bytes ≡ None → after_bytes Text bytes ≡ Text
-after_none bytes e = text_stays bytes (none_passes (λ b. b == 10) bytes e)
+after_none bytes e = line_goes_on bytes (none_passes (λ b. b == 10) bytes e)
 
 pub after_some : (bytes : List ℕ) (i : ℕ) → position (λ b. b == 10) bytes ≡ Some i
     → (i < length bytes) × (after_bytes Start (drop (i + 1) bytes) ≡ after_bytes Text bytes)
 after_some bytes i e =
     let p = position-Some (λ b. b == 10) bytes i 0 e in
-    (p.0, rw add-one (text_ends bytes i p.0 p.1 p.2))
+    (p.0, rw add-one (line_ends bytes i p.0 p.1 p.2))

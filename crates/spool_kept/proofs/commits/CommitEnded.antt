@@ -37,7 +37,7 @@ use Rattle.spool_catalog.specs.Longer.{MayExtend}
 use Rattle.spool_catalog.specs.Holding.{Holding}
 use Rattle.spool_catalog.specs.Shows.{ImageShows, IsRecordOf}
 use Rattle.spool_kept.specs.Stored.{Stored}
-use Rattle.spool_kept.specs.declared.committing.Found.{Found}
+use Rattle.spool_kept.specs.declared.finding.Found.{Found}
 use Rattle.spool_catalog.specs.declared.longer.Longer.{Longer}
 use Rattle.spool_kept.proofs.slots.SlotChange.{recorded_upload}
 use Rattle.spool_kept.proofs.commits.CommitRefusals as rules

@@ -26,7 +26,7 @@ use Rattle.spool_kept.specs.Committing.{Finds, HasOtherCount, HasSameCount, IsCo
 use Rattle.spool_kept.specs.Drafting.{DraftRepresents, DraftsHold, IsStillOpen, StandsFor}
 use Rattle.spool_catalog.specs.Holding.{Holding, IsUsedBy}
 use Rattle.spool_catalog.specs.Shows.{IsRecorded}
-use Rattle.spool_kept.specs.declared.committing.Found.{Found}
+use Rattle.spool_kept.specs.declared.finding.Found.{Found}
 use Rattle.spool_catalog.proofs.Answered.{no_upload}
 use Rattle.spool_kept.proofs.commits.CommitRefusals.{by_length, nothing_committed, nothing_refused, refused_by_length}
 use Rattle.spool_kept.proofs.commits.CommitRefusals.{store_declared}
@@ -55,8 +55,8 @@ if_same false = refl
 text_changes : (m : Store) (p : Patch) → 0 < length p.body → text_stays m p ≡ false
 text_changes m p some = rw (full_of p.body some) (if_same (declares m p && completes m p))
 
-text_ends : (m : Store) (p : Patch) → declares m p ≡ true → completes m p ≡ true → text_stays m p ≡ false
-text_ends m p new ends = rw (new, ends) refl
+text_completes : (m : Store) (p : Patch) → declares m p ≡ true → completes m p ≡ true → text_stays m p ≡ false
+text_completes m p new ends = rw (new, ends) refl
 
 text_left : (m : Store) (p : Patch) → length p.body ≡ 0 → (declares m p ≡ true → completes m p ≡ false)
     → text_stays m p ≡ true
@@ -174,7 +174,8 @@ module _ {D : Type 0} {sure : Bool} {disk : Ghosts D} {d : D} {h : Holding} {dra
     module _ (goes : found.stays ≡ false) where
       changes : text_stays w.store p ≡ false
       changes =
-          grind (arith, common_steps, text_changes, held, all_there, reached_is, text_ends, declares_is, completes_is)
+          grind
+          (arith, common_steps, text_changes, held, all_there, reached_is, text_completes, declares_is, completes_is)
 
       still : IsStillOpen w.store p
       still =

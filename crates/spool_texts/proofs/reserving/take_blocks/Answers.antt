@@ -1,6 +1,6 @@
 use Rattle.std.proofs.Common.{arith}
 use Rattle.spool_texts.proofs.Reserves.{takes_on}
-use Rattle.spool_texts.proofs.block_text.take_blocks.Goals as goal
+use Rattle.spool_texts.proofs.reserving.take_blocks.Goals as goal
 
 pub loop-list-preserved : goal.loop-list-preserved
 loop-list-preserved c =

@@ -2,7 +2,7 @@ use Rattle.std.proofs.Common.{ap, option_map}
 use Rattle.std.specs.Prelude.{string_bytes}
 use Rattle.gateway_files.specs.Planning.{job_shown}
 use Rattle.gateway_files.proofs.Exported.{as_left, no_name}
-use Rattle.gateway_files.proofs.exporting.export_job.Goals as goal
+use Rattle.gateway_files.proofs.outcomes.export_job.Goals as goal
 
 pub returns-in_default-clause-files : goal.returns-in_default-clause-files
 returns-in_default-clause-files g c sure w represents files held =

@@ -5,7 +5,7 @@ use Rattle.spool_disk.specs.Views.{Lasts}
 use Rattle.spool_journal.specs.Image.{text_page}
 use Rattle.spool_texts.specs.TextOn.{text_on, blocks_on}
 use Rattle.spool_texts.specs.Written.{WritesIn, IsImageBut}
-use Rattle.spool_texts.proofs.block_text.write_last.Given as goal
+use Rattle.spool_texts.proofs.last_blocks.write_last.Given as goal
 
 abbrev pub invariant-loop-at : goal.invariant-loop-at
 invariant-loop-at g l = record {

@@ -3,7 +3,7 @@ use Rattle.std.specs.Prelude.{string_bytes}
 use Rattle.upload_rules.specs.World.{World}
 use Rattle.gateway_files.specs.Lines.{IsInOrder, list_lines, upload_line}
 use Rattle.gateway_files.proofs.Above.{after}
-use Rattle.gateway_files.proofs.listing.lines_of.Given as goal
+use Rattle.gateway_files.proofs.upload_lines.lines_of.Given as goal
 
 abbrev pub invariant-loop : goal.invariant-loop
 invariant-loop g l =

@@ -5,7 +5,7 @@ use Rattle.spool_journal.specs.Image.{text_page}
 use Rattle.spool_journal.proofs.Steps.{no_failure}
 use Rattle.spool_texts.proofs.Prefixes.{writes_none}
 use Rattle.spool_texts.proofs.Lasts.{none_yet, one_more, writes_prefix, but_prefix}
-use Rattle.spool_texts.proofs.block_text.write_last.Goals as goal
+use Rattle.spool_texts.proofs.last_blocks.write_last.Goals as goal
 
 pub loop-at-init : goal.loop-at-init
 loop-at-init g c = record {

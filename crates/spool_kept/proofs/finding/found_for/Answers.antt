@@ -3,7 +3,7 @@ use Rattle.std.proofs.lemmas.Result.{err_from_is_err_and}
 use Rattle.spool_pages.specs.View.{SlotRecord}
 use Rattle.upload_rules.specs.declared.errors.UploadRefusal.{UploadRefusal}
 use Rattle.spool_kept.proofs.commits.FoundFor as lemmas
-use Rattle.spool_kept.proofs.committing.found_for.Goals as goal
+use Rattle.spool_kept.proofs.finding.found_for.Goals as goal
 
 pub returns-in_default : goal.returns-in_default
 returns-in_default c slot used = c.in_default.ensures.used slot (rw (← c.number.ensures) at used)

@@ -1,7 +1,7 @@
 use Rattle.std.specs.Prelude.{string_bytes}
 use Rattle.gateway_files.specs.Lines.{list_lines, record_line, upload_line}
 use Rattle.gateway_files.proofs.Above.{record_is, reported_first, reported_next, reported_none}
-use Rattle.gateway_files.proofs.listing.lines_of.Goals as goal
+use Rattle.gateway_files.proofs.upload_lines.lines_of.Goals as goal
 
 pub loop-init : goal.loop-init
 loop-init g c sure w represents order =

@@ -4,7 +4,7 @@ use Rattle.spool_texts.specs.Drafts.{prefix_on}
 use Rattle.spool_texts.specs.TextOn.{blocks_on}
 use Rattle.spool_texts.proofs.Shown.{length-blocks_on}
 use Rattle.spool_texts.proofs.Steps.{prefix_read}
-use Rattle.spool_texts.proofs.block_text.read_tail.Goals as goal
+use Rattle.spool_texts.proofs.last_blocks.read_tail.Goals as goal
 
 pub returns-clause-tail : goal.returns-clause-tail
 returns-clause-tail g c honest =

@@ -1,7 +1,7 @@
 use Rattle.std.proofs.Common.{arith, rules, ◌≡◌, ◌+◌, length, ap}
 use Rattle.spool_blocks.specs.Blocks.{Held}
 use Rattle.spool_texts.proofs.Reserves.{few_more}
-use Rattle.spool_texts.proofs.block_text.take_block.Goals as goal
+use Rattle.spool_texts.proofs.reserving.take_block.Goals as goal
 
 pub returns-clause-few : goal.returns-clause-few
 returns-clause-few c =

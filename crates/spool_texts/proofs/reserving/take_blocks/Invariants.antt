@@ -1,7 +1,7 @@
 use Rattle.std.proofs.Common.{◌≤◌, ◌-◌, length, vec_capacity}
 use Rattle.common.specs.declared.limits.TheConstants.{MOST_BLOCKS}
 use Rattle.spool_texts.specs.Drafts.{IsReserved, Takes}
-use Rattle.spool_texts.proofs.block_text.take_blocks.Given as goal
+use Rattle.spool_texts.proofs.reserving.take_blocks.Given as goal
 
 abbrev pub invariant-loop-list : goal.invariant-loop-list
 invariant-loop-list l = record {

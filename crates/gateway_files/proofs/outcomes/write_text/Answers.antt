@@ -2,7 +2,7 @@ use Rattle.std.proofs.Common.{Some}
 use Rattle.std.proofs.lemmas.Result.{err_from_is_err_and}
 use Rattle.gateway_files.proofs.Exported.{as_ended, as_new}
 use Rattle.gateway_files.proofs.Writing.{whole_text}
-use Rattle.gateway_files.proofs.exporting.write_text.Goals as goal
+use Rattle.gateway_files.proofs.outcomes.write_text.Goals as goal
 
 pub returns-in_ok-end-in-Ok-clause-files : goal.returns-in_ok-end-in-Ok-clause-files
 returns-in_ok-end-in-Ok-clause-files g c sure w represents files held =

@@ -3,7 +3,7 @@ use Rattle.spool_disk.proofs.Firm.{on_ok, lasts_call}
 use Rattle.spool_journal.proofs.Recovers.{all_is}
 use Rattle.spool_journal.specs.Image.{text_page}
 use Rattle.spool_texts.proofs.Prefixes.{prefix_text, prefix_writes, idle_in, image_in}
-use Rattle.spool_texts.proofs.block_text.write_prefix.Goals as goal
+use Rattle.spool_texts.proofs.last_blocks.write_prefix.Goals as goal
 
 pub write_at-requires : goal.write_at-requires
 write_at-requires g c =

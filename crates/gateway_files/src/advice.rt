@@ -1,0 +1,138 @@
+//! What the system failed at, and what to do next.
+
+use std::fmt;
+use std::net::SocketAddr;
+
+/// What the system failed at.
+#[derive(Clone, Copy, Debug, PartialEq, Eq, Drop)]
+pub enum Task<'a> {
+    /// Making, lengthening or locking the spool at this path.
+    MakeSpool(&'a str),
+    /// Opening or locking the spool at this path.
+    OpenSpool(&'a str),
+    /// Reading, writing or syncing the spool at this path.
+    UseSpool(&'a str),
+    /// Looking into this folder for index files.
+    FindFolder(&'a str),
+    /// Making or writing a file in this folder.
+    WriteInto(&'a str),
+    /// Reading the index file of this name in this folder.
+    ReadIndex(&'a str, &'static str),
+    /// Listening at this address.
+    Listen(SocketAddr),
+    /// Reading the command line.
+    ReadWords,
+    /// Reading standard input.
+    ReadInput,
+    /// Writing to standard output or standard error.
+    Print,
+}
+
+impl fmt::Display for Task<'_> {
+    fn fmt<W: fmt::Write>(&self, f: &mut fmt::Formatter<W>) -> fmt::Result {
+        match self {
+            Task::MakeSpool(path) => write!(f, "cannot make the spool {path}"),
+            Task::OpenSpool(path) => write!(f, "cannot open the spool {path}"),
+            Task::UseSpool(path) => write!(f, "cannot read or write the spool {path}"),
+            Task::FindFolder(path) => write!(f, "cannot look into the folder {path}"),
+            Task::WriteInto(path) => write!(f, "cannot write into the folder {path}"),
+            Task::ReadIndex(folder, file) => write!(f, "cannot read {folder}/{file}"),
+            Task::Listen(address) => write!(f, "cannot listen at {address}"),
+            Task::ReadWords => f.write_str("cannot read the command line"),
+            Task::ReadInput => f.write_str("cannot read standard input"),
+            Task::Print => f.write_str("cannot write to standard output or standard error"),
+        }
+    }
+}
+
+/// What is wrong with what a command was given, and what to do next.
+#[derive(Clone, Copy, Debug, PartialEq, Eq, Drop)]
+pub enum Advice<'a> {
+    /// The file at this path is no spool.
+    NoSpool(&'a str),
+    /// The file at this path begins as a spool, but hasn't the length that it names, or names no valid one.
+    CutShort(&'a str),
+    /// The file at this path holds what no gateway writes.
+    Damaged(&'a str),
+    /// The spool at this path is of a version that isn't known.
+    Version(&'a str),
+    /// The spool at this path is of version 2 already.
+    AlreadyNew(&'a str),
+    /// The file at this path is a spool already.
+    AlreadySpool(&'a str),
+    /// Another process has the spool at this path open.
+    InUse(&'a str),
+    /// The number of blocks is out of range.
+    Blocks,
+    /// A file in this folder isn't as long as its upload's text.
+    Differs(&'a str),
+    /// A text can't be shown as asked.
+    Text(TextAdvice<'a>),
+}
+
+impl fmt::Display for Advice<'_> {
+    fn fmt<W: fmt::Write>(&self, f: &mut fmt::Formatter<W>) -> fmt::Result {
+        match self {
+            Advice::NoSpool(path) => write!(f, "{path} is no spool: see whether the path is right"),
+            Advice::CutShort(path) => write!(
+                f,
+                "{path} begins as a spool, but is cut short or damaged: go back to a copy of it"
+            ),
+            Advice::Damaged(path) => write!(f, "{path} is damaged: go back to a copy of it"),
+            Advice::Version(path) => write!(
+                f,
+                "{path} is of another version: take a newer program"
+            ),
+            Advice::AlreadyNew(path) => write!(f, "{path} is of version 2: there is nothing to do"),
+            Advice::AlreadySpool(path) => write!(
+                f,
+                "{path} is a spool, and stays as it is: take another path, or remove it yourself"
+            ),
+            Advice::InUse(path) => write!(f, "{path} is in use: stop the gateway that serves it"),
+            Advice::Blocks => f.write_str("the number of blocks is 16 to 65536"),
+            Advice::Differs(folder) => write!(
+                f,
+                "{folder} has a file that isn't as long as its upload's text: look at it before you delete the upload"
+            ),
+            Advice::Text(advice) => write!(f, "{advice}"),
+        }
+    }
+}
+
+/// Why a text can't be shown as asked, and what to do next.
+#[derive(Clone, Copy, Debug, PartialEq, Eq, Drop)]
+pub enum TextAdvice<'a> {
+    /// This option has this label, which is of no encoding that the gateway has.
+    Label(&'static str, &'a str),
+    /// This is neither of the two modes.
+    Mode(&'a str),
+    /// The folder lacks an index file of the encoding that this label names.
+    NoIndex(&'a str, &'a str),
+    /// The encoding that this label names lacks this character. So many bytes were written before it.
+    Lacks(&'a str, Option<char>, u64),
+}
+
+impl fmt::Display for TextAdvice<'_> {
+    fn fmt<W: fmt::Write>(&self, f: &mut fmt::Formatter<W>) -> fmt::Result {
+        match self {
+            TextAdvice::Label(option, label) => write!(
+                f,
+                "{option} {label}: no label of an encoding that the gateway has, see docs/PROTOCOL.md"
+            ),
+            TextAdvice::Mode(mode) => write!(f, "--mode {mode}: the modes are html and fatal"),
+            TextAdvice::NoIndex(folder, label) => write!(
+                f,
+                "{folder} lacks an index file that {label} needs: fetch it from encoding.spec.whatwg.org"
+            ),
+            TextAdvice::Lacks(label, Some(character), bytes) => write!(
+                f,
+                "{label} lacks U+{:04X}, after the {bytes} bytes that were written: --mode html writes its number",
+                u32::from(*character)
+            ),
+            TextAdvice::Lacks(label, None, bytes) => write!(
+                f,
+                "{label} lacks a character, after the {bytes} bytes that were written: --mode html writes its number"
+            ),
+        }
+    }
+}
