@@ -256,36 +256,17 @@ fn tails(rt: HostRuntime) {
         fault: true,
         scalar: None,
     };
+    let runs: [(ByteOrder, &[u8], Step); 5] = [
+        (ByteOrder::Little, &[0x3D, 0xD8, 0x00, 0xDE], grin),
+        (ByteOrder::Big, &[0xD8, 0x3D, 0xDE, 0x00], grin),
+        (ByteOrder::Little, &[0x3D, 0xD8, 0x41, 0x00], torn),
+        (ByteOrder::Big, &[0xDE, 0x00], stray),
+        (ByteOrder::Big, &[0xD8, 0x00, 0xD8, 0x3D], stray),
+    ];
     let mut pairing = Pairing::new();
-    steps_to(
-        &rt,
-        &mut pairing,
-        ByteOrder::Little,
-        &[0x3D, 0xD8, 0x00, 0xDE],
-        grin,
-    );
-    steps_to(
-        &rt,
-        &mut pairing,
-        ByteOrder::Big,
-        &[0xD8, 0x3D, 0xDE, 0x00],
-        grin,
-    );
-    steps_to(
-        &rt,
-        &mut pairing,
-        ByteOrder::Little,
-        &[0x3D, 0xD8, 0x41, 0x00],
-        torn,
-    );
-    steps_to(&rt, &mut pairing, ByteOrder::Big, &[0xDE, 0x00], stray);
-    steps_to(
-        &rt,
-        &mut pairing,
-        ByteOrder::Big,
-        &[0xD8, 0x00, 0xD8, 0x3D],
-        stray,
-    );
+    for (order, bytes, last) in runs {
+        steps_to(&rt, &mut pairing, order, bytes, last);
+    }
     assert_eq!(rt; pairing.lead(), Some(0xD83D));
 }
 

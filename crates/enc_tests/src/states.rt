@@ -62,45 +62,47 @@ fn state_bytes_after_a_piece(rt: HostRuntime) {
     all_go_on(&rt, rt.alloc(), &set);
 }
 
+/// Prefixes of state bytes that belong to no state.
+static NO_STATES: [&[u8]; 23] = [
+    // numbers that don't exist, and UTF-16 as the output
+    &[21],
+    &[0, 1],
+    &[0, 0, 2],
+    &[0, 0, 0, 3],
+    // held bytes that aren't a proper prefix of a byte order mark
+    &[0, 0, 0, 0, 1, 0x41],
+    &[0, 0, 0, 0, 3, 0xEF, 0xBB, 0xBF],
+    // an encoding in effect after the end
+    &[0, 0, 0, 2, 1],
+    // an encoding in effect that is neither the source's nor a byte order mark's
+    &[0, 0, 0, 1, 3],
+    // bytes that aren't a proper prefix of a character
+    &[0, 0, 0, 1, 0, 2, 0xE0, 0x80],
+    &[0, 0, 0, 1, 0, 4, 0xF0, 0x9F, 0x98, 0x80],
+    &[0, 0, 0, 1, 0, 0, 0x80],
+    // UTF-16: a lead that is no lead surrogate, and a lead whose flag is missing
+    &[2, 0, 0, 1, 2, 2, 0, 0xDC, 0],
+    &[2, 0, 0, 1, 2, 0, 0, 0xD8, 0],
+    // Shift_JIS and EUC-JP: a byte that is no lead byte, and a jis0212 flag without a lead or with one that
+    // excludes it
+    &[3, 0, 0, 1, 3, 0xA0],
+    &[4, 0, 0, 1, 4, 0, 1],
+    &[4, 0, 0, 1, 4, 0x8E, 1],
+    &[4, 0, 0, 1, 4, 0x8F, 1],
+    // ISO-2022-JP: a state that doesn't match its output state, and an output flag after a lead byte
+    &[5, 0, 0, 1, 5, 3, 0, 0, 0],
+    &[5, 0, 0, 1, 5, 4, 3, 0x24, 1],
+    // an encoder state for UTF-8, which has none; one before decoding and one after the end; and one that doesn't
+    // exist
+    &[0, 0, 0, 1, 0, 0, 0, 0, 0, 0, 0, 0, 0, 0, 0, 0, 1],
+    &[0, 5, 0, 0, 0, 0, 0, 0, 0, 0, 0, 0, 0, 0, 0, 0, 2],
+    &[0, 5, 0, 2, 0, 0, 0, 0, 0, 0, 0, 0, 0, 0, 0, 0, 1],
+    &[0, 5, 0, 1, 0, 0, 0, 0, 0, 0, 0, 0, 0, 0, 0, 0, 3],
+];
+
 #[test]
 fn state_bytes_of_no_state(rt: HostRuntime) {
-    let none: [&[u8]; 23] = [
-        // numbers that don't exist, and UTF-16 as the output
-        &[21],
-        &[0, 1],
-        &[0, 0, 2],
-        &[0, 0, 0, 3],
-        // held bytes that aren't a proper prefix of a byte order mark
-        &[0, 0, 0, 0, 1, 0x41],
-        &[0, 0, 0, 0, 3, 0xEF, 0xBB, 0xBF],
-        // an encoding in effect after the end
-        &[0, 0, 0, 2, 1],
-        // an encoding in effect that is neither the source's nor a byte order mark's
-        &[0, 0, 0, 1, 3],
-        // bytes that aren't a proper prefix of a character
-        &[0, 0, 0, 1, 0, 2, 0xE0, 0x80],
-        &[0, 0, 0, 1, 0, 4, 0xF0, 0x9F, 0x98, 0x80],
-        &[0, 0, 0, 1, 0, 0, 0x80],
-        // UTF-16: a lead that is no lead surrogate, and a lead whose flag is missing
-        &[2, 0, 0, 1, 2, 2, 0, 0xDC, 0],
-        &[2, 0, 0, 1, 2, 0, 0, 0xD8, 0],
-        // Shift_JIS and EUC-JP: a byte that is no lead byte, and a jis0212 flag without a lead or with one that
-        // excludes it
-        &[3, 0, 0, 1, 3, 0xA0],
-        &[4, 0, 0, 1, 4, 0, 1],
-        &[4, 0, 0, 1, 4, 0x8E, 1],
-        &[4, 0, 0, 1, 4, 0x8F, 1],
-        // ISO-2022-JP: a state that doesn't match its output state, and an output flag after a lead byte
-        &[5, 0, 0, 1, 5, 3, 0, 0, 0],
-        &[5, 0, 0, 1, 5, 4, 3, 0x24, 1],
-        // an encoder state for UTF-8, which has none; one before decoding and one after the end; and one that doesn't
-        // exist
-        &[0, 0, 0, 1, 0, 0, 0, 0, 0, 0, 0, 0, 0, 0, 0, 0, 1],
-        &[0, 5, 0, 0, 0, 0, 0, 0, 0, 0, 0, 0, 0, 0, 0, 0, 2],
-        &[0, 5, 0, 2, 0, 0, 0, 0, 0, 0, 0, 0, 0, 0, 0, 0, 1],
-        &[0, 5, 0, 1, 0, 0, 0, 0, 0, 0, 0, 0, 0, 0, 0, 0, 3],
-    ];
-    for prefix in none {
+    for prefix in NO_STATES.iter() {
         assert!(rt; Transcoder::unpack(&with_zeros(prefix)).is_none());
     }
     let ended = Transcoder::ended(Encoding::Koi8R, Encoding::Utf8, Mode::Fatal);

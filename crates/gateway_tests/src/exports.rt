@@ -1,8 +1,8 @@
 //! Exports of the texts of uploads to files.
 
 use crate::spools::ends;
-use crate::talks::Step::{Added, Deferred, Made, Open};
-use crate::talks::{Step, Talk, fresh};
+use crate::steps::Step::{self, Added, Deferred, Made, Open};
+use crate::talks::{Talk, fresh};
 use gateway_files::{FileFolder, export_on};
 use spool_disk::MemoryDisk;
 use std::alloc::Global;

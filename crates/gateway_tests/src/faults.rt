@@ -1,11 +1,12 @@
 //! Scripts over disks that fail at one call, or at all calls from one on.
 
 use crate::spools::{calls_of_opening, ran};
+use crate::steps::Step;
 use crate::stories::{
     CUT_CHARACTER, DECLARED_AND_CUT, DECLARED_LAST, DELETED, FULL_SPOOL, HELLO, LONG_TEXT,
     ONE_WINNER, PATCH_OF_A_DELETED,
 };
-use crate::talks::{Files, Step, Talk, put_upload, with_files};
+use crate::talks::{Files, Talk, put_upload, with_files};
 use common::Stop;
 use enc_index::Kind;
 use gateway_engine::ScriptFault;

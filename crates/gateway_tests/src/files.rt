@@ -1,8 +1,8 @@
 //! Spools in files: they are formatted, used, listed, upgraded and refused.
 
 use crate::spools::ran;
-use crate::talks::Step::{Added, Deferred, Made, Open};
-use crate::talks::{Step, Talk};
+use crate::steps::Step::{self, Added, Deferred, Made, Open};
+use crate::talks::Talk;
 use gateway_files::{
     Failure, delete_incomplete_file, export_file, format_file, json_file, list_file, list_on,
     open_spool, report_formatted, report_read, upgrade_file,

@@ -36,6 +36,8 @@ mod slow_readers;
 #[cfg(test)]
 mod spools;
 #[cfg(test)]
+mod steps;
+#[cfg(test)]
 mod stories;
 #[cfg(test)]
 mod streams;

@@ -1,8 +1,8 @@
 //! Operators' commands: deletion, and the conversion of a text without an upload.
 
 use crate::spools::{opened, ran};
-use crate::talks::Step::{Added, Deferred, Made, Open};
-use crate::talks::{Step, Talk, fresh};
+use crate::steps::Step::{self, Added, Deferred, Made, Open};
+use crate::talks::{Talk, fresh};
 use enc_index::{Index, IndexSet, Kind};
 use enc_model::{Encoding, Mode};
 use gateway_files::{

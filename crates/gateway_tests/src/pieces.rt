@@ -1,8 +1,8 @@
 //! Uploads that change while a GET of them is between two pieces of the text.
 
 use crate::spools::{ends, opened};
+use crate::steps::Step::{self, Came, Made, Open, Patch, Patched};
 use crate::stories::{LONG_TEXT, TEN_THOUSAND};
-use crate::talks::Step::{self, Came, Made, Open, Patch, Patched};
 use crate::talks::{Talk, fresh};
 use gateway_engine::{Connections, Gateway};
 use spool_disk::MemoryDisk;

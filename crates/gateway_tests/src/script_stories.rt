@@ -1,12 +1,12 @@
 //! The steps of scripts, and what each must write.
 
 use crate::replies::Wanted;
-use crate::stories::{BLOCK, FIFTEEN_BLOCKS};
-use crate::talks::Files;
-use crate::talks::Step::{
+use crate::steps::Step::{
     self, Added, Bytes, Came, Declare, Deferred, Deleted, Gone, Line, Made, Open, Patch, Patched,
     Post, Refused, Replied, Reply, Say, Shown, Text, Written,
 };
+use crate::stories::{BLOCK, FIFTEEN_BLOCKS};
+use crate::talks::Files;
 use common::MOST_LENGTH;
 use enc_index::Kind;
 use enc_model::Encoding;

@@ -7,8 +7,8 @@ use crate::script_stories::{
     WINDOWS_1252, WINNER_SHOWN,
 };
 use crate::spools::ends;
+use crate::steps::Step::{self, Came, Deleted, Line, Made, Open, Post, Refused, Shown, Written};
 use crate::stories::{FREED, FULL_SPOOL, HELLO, LONG_TEXT, ONE_WINNER};
-use crate::talks::Step::{self, Came, Deleted, Line, Made, Open, Post, Refused, Shown, Written};
 use crate::talks::{Files, Talk, fresh, with_files};
 use common::SLOTS;
 use gateway_engine::ScriptFault;

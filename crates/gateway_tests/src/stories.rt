@@ -1,6 +1,6 @@
 //! Steps that more than one test takes.
 
-use crate::talks::Step::{
+use crate::steps::Step::{
     self, Added, Bytes, Came, Changed, Declare, Deferred, Deleted, Given, Gone, Line, Made, Open,
     Patch, Patched, Refused, Reply, Say, Shown, Text,
 };

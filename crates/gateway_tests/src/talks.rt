@@ -1,62 +1,12 @@
 //! Talks: scripts together with the output that their runs must write.
 
 use crate::replies::{Wanted, replies};
+use crate::steps::Step;
 use enc_index::{Index, IndexSet, Kind};
 use spool_disk::MemoryDisk;
 use spool_image::format;
 use std::alloc::Global;
 use std::process::Abort;
-
-/// A step of a talk: lines of its script, wanted output, or both.
-#[derive(Clone, Copy)]
-pub(crate) enum Step<'a> {
-    /// Opens the connections from 1 up to this one.
-    Open(u32),
-    /// A line of the script.
-    Line(&'a str),
-    /// The lines of a head on a connection.
-    Say(u32, &'a str),
-    /// Bytes that are received on a connection.
-    Came(u32, &'a [u8]),
-    /// A wanted line of the output.
-    Written(&'a str),
-    /// Bytes that must be sent on a connection.
-    Given(u32, &'a [u8]),
-    /// A reply on a connection.
-    Replied(u32, Wanted<'a>),
-    /// A reply on a connection that no `Wanted` is: its status, its own lines and its body.
-    Reply(u32, &'a str, &'a str, &'a [u8]),
-    /// A refusal on a connection: its status and its number.
-    Refused(u32, &'a str, u8),
-    /// The latest reply has this many bytes.
-    Bytes(usize),
-    /// A POST on connection 1 with this length and metadata.
-    Post(u64, &'a str),
-    /// A POST on connection 1 that makes this upload, with this length and metadata.
-    Made(u64, u64, &'a str),
-    /// A POST on connection 1 that makes this upload with a deferred length and this metadata.
-    Deferred(u64, &'a str),
-    /// The head of a PATCH on a connection: the upload, the offset and the length of the body.
-    Patch(u32, u64, u64, usize),
-    /// The head of a PATCH on a connection that declares a length: the upload, the offset, the declared length and the
-    /// length of the body.
-    Declare(u32, u64, u64, u64, usize),
-    /// The reply to a PATCH that reached this offset.
-    Patched(u32, u64),
-    /// A PATCH on connection 1 and its reply: the upload, the offset, the bytes and the offset that is reached.
-    Added(u64, u64, &'a [u8], u64),
-    /// A DELETE of an upload on a connection, which succeeds.
-    Deleted(u32, u64),
-    /// A HEAD of an upload that is gone, on a connection.
-    Gone(u32, u64),
-    /// A HEAD of an upload on a connection, and the offset, the declared length and the metadata that it shows.
-    Shown(u32, u64, u64, Option<u64>, &'a str),
-    /// A GET of an upload on connection 1, with the character set and the text of its reply.
-    Text(u64, &'a str, &'a [u8]),
-    /// The latest reply acknowledged a change. The uploads after it: the number, the accepted bytes, the declared
-    /// length and the text.
-    Changed(&'a [(u64, u64, Option<u64>, &'a [u8])]),
-}
 
 /// The uploads after a change, and how many bytes of the output were written when it was acknowledged.
 #[derive(Drop)]
@@ -139,34 +89,26 @@ impl Talk {
             Step::Post(length, metadata) => self.post(rt, Some(length), metadata),
             Step::Made(number, length, metadata) => self.made(rt, number, Some(length), metadata),
             Step::Deferred(number, metadata) => self.made(rt, number, None, metadata),
-            Step::Patch(conn, number, offset, count) => self.patch(
-                rt, conn, number, offset, None, count,
-            ),
-            Step::Declare(conn, number, offset, length, count) => self.patch(
-                rt,
-                conn,
-                number,
-                offset,
-                Some(length),
-                count,
-            ),
+            Step::Patch(conn, number, offset, len) => {
+                self.patch(rt, conn, number, offset, None, len);
+            }
+            Step::Declare(conn, number, offset, declared, len) => {
+                self.patch(rt, conn, number, offset, Some(declared), len);
+            }
             Step::Patched(conn, offset) => self.replied(rt, conn, Wanted::Patched(offset)),
-            Step::Added(number, offset, bytes, reached) => {
-                self.patch(rt, 1, number, offset, None, bytes.len());
-                self.came(rt, 1, bytes);
-                self.replied(rt, 1, Wanted::Patched(reached));
-            }
-            Step::Deleted(conn, number) => {
-                self.ask(rt, conn, "DELETE", number);
-                self.replied(rt, conn, Wanted::Deleted);
-            }
-            Step::Gone(conn, number) => {
-                self.ask(rt, conn, "HEAD", number);
-                self.replied(rt, conn, Wanted::Gone);
-            }
+            Step::Added(number, offset, bytes, reached) => self.added(
+                rt, number, offset, bytes, reached,
+            ),
+            Step::Deleted(conn, number) => self.ask(rt, conn, "DELETE", number, Wanted::Deleted),
+            Step::Gone(conn, number) => self.ask(rt, conn, "HEAD", number, Wanted::Gone),
             Step::Shown(conn, number, offset, declared, metadata) => {
-                self.ask(rt, conn, "HEAD", number);
-                self.replied(rt, conn, Wanted::Shown(offset, declared, metadata));
+                self.ask(
+                    rt,
+                    conn,
+                    "HEAD",
+                    number,
+                    Wanted::Shown(offset, declared, metadata),
+                );
             }
             Step::Text(number, charset, text) => self.text(rt, number, charset, text),
             Step::Changed(uploads) => self.changed(rt, uploads),
@@ -294,12 +236,19 @@ impl Talk {
         self.say(rt, conn, &head);
     }
 
-    /// The head of a request for an upload.
-    fn ask(&mut self, rt: &impl Abort, conn: u32, method: &str, number: u64) {
+    /// A request for an upload, and its reply.
+    fn ask(&mut self, rt: &impl Abort, conn: u32, method: &str, number: u64, reply: Wanted) {
         let head = format!(in self.alloc;
             "{method} /files/{number} HTTP/1.1\nTus-Resumable: 1.0.0"
         ).expect(rt, MEMORY);
         self.say(rt, conn, &head);
+        self.replied(rt, conn, reply);
+    }
+
+    fn added(&mut self, rt: &impl Abort, number: u64, offset: u64, bytes: &[u8], reached: u64) {
+        self.patch(rt, 1, number, offset, None, bytes.len());
+        self.came(rt, 1, bytes);
+        self.replied(rt, 1, Wanted::Patched(reached));
     }
 
     fn text(&mut self, rt: &impl Abort, number: u64, charset: &str, text: &[u8]) {

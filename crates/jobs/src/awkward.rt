@@ -39,26 +39,7 @@ const MOST_REFUSED: usize = 13;
 
 /// Runs so many scripts over one spool.
 pub(crate) fn run(mut job: Job<'_>) -> Result<Digest, Fault> {
-    let mut writer = Writer {
-        script: Script::new(job.alloc),
-        heads: Heads::new(job.alloc, Client::Curl),
-        bytes: Vec::new(job.alloc),
-        number: 0,
-        legacy: Sample::new(
-            job.alloc,
-            japanese_sjis(),
-            SAMPLE,
-            job.material,
-            &mut job.random,
-        )?,
-        russian: Sample::new(
-            job.alloc,
-            in_utf8(Language::Russian),
-            SAMPLE,
-            job.material,
-            &mut job.random,
-        )?,
-    };
+    let mut writer = Writer::new(&mut job)?;
     let mut disk = RamDisk::spool(job.alloc, BLOCKS, &job.material.indexes)?;
     let mut digest = Digest::new();
     let mut output = Vec::new(job.alloc);
@@ -126,6 +107,32 @@ struct Writer {
 }
 
 impl Writer {
+    // With a Japanese and a Russian sample.
+    fn new(job: &mut Job<'_>) -> Result<Self, Fault> {
+        let legacy = Sample::new(
+            job.alloc,
+            japanese_sjis(),
+            SAMPLE,
+            job.material,
+            &mut job.random,
+        )?;
+        let russian = Sample::new(
+            job.alloc,
+            in_utf8(Language::Russian),
+            SAMPLE,
+            job.material,
+            &mut job.random,
+        )?;
+        Ok(Writer {
+            script: Script::new(job.alloc),
+            heads: Heads::new(job.alloc, Client::Curl),
+            bytes: Vec::new(job.alloc),
+            number: 0,
+            legacy,
+            russian,
+        })
+    }
+
     // A script of one of each.
     fn write(&mut self, random: &mut Random) -> Result<(), AllocError> {
         self.script.clear();

@@ -5,7 +5,7 @@ use std::alloc::{AllocError, Global};
 static DIGITS: [u8; 16] = *b"0123456789ABCDEF";
 
 // How many bytes are written at once.
-const RUN: usize = 16;
+const CHUNK: usize = 16;
 
 /// A script that is being written, all of it on one connection.
 #[derive(Drop)]
@@ -67,7 +67,7 @@ impl Script {
     }
 
     fn put_hex(&mut self, bytes: &[u8]) -> Result<(), AllocError> {
-        for chunk in bytes.chunks(RUN) {
+        for chunk in bytes.chunks(CHUNK) {
             let digits = digits_of(chunk);
             self.put(digits.get(..2 * chunk.len()).unwrap_or(&digits))?;
         }
@@ -76,10 +76,10 @@ impl Script {
 }
 
 // The digits of up to sixteen bytes.
-fn digits_of(bytes: &[u8]) -> [u8; 2 * RUN] {
-    let mut digits = [0; 2 * RUN];
+fn digits_of(bytes: &[u8]) -> [u8; 2 * CHUNK] {
+    let mut digits = [0; 2 * CHUNK];
     for (k, byte) in bytes.iter().enumerate() {
-        if k < RUN {
+        if k < CHUNK {
             digits[2 * k] = DIGITS[(*byte >> 4) as usize];
             digits[2 * k + 1] = DIGITS[(*byte & 15) as usize];
         }
