@@ -3,7 +3,7 @@ use Rattle.std.proofs.Common.{ℕ, ◌≡◌, ◌≤◌, List, Vec, Result, Ok, 
 use Rattle.std.specs.declared.alloc.Global.{Global}
 use Rattle.enc_model.specs.Encode.{encoder}
 use Rattle.enc_model.specs.Indexes.{IndexSet, tables}
-use Rattle.enc_feed.specs.Sink.{Given}
+use Rattle.enc_model.specs.Sink.{Given}
 use Rattle.enc_model.specs.Transcode.{Took, Refused}
 use Rattle.enc_encode.specs.declared.error.EncodeError.{EncodeError}
 use Rattle.enc_encode.specs.declared.error.EncodeError.TheVariants.{NoMemory, Unencodable}

@@ -1,7 +1,7 @@
 -- An encoder of the standard is a sink: text after text, and a refusal for longer texts too.
 use Rattle.std.proofs.Common.{ℕ, ◌≡◌, List, [], ◌++◌, Option, Some, None, refl, sym, ◌∙◌, ap, append_assoc, append-nil}
 use Rattle.std.proofs.Common.{subst}
-use Rattle.enc_feed.specs.Sink.{IsSink}
+use Rattle.enc_model.specs.Sink.{IsSink}
 use Rattle.enc_model.specs.declared.Mode.{Mode}
 use Rattle.enc_model.specs.Encode.{Encoder, Coded, led_by, coded, IsSteadyEncoder}
 use Rattle.enc_model.specs.Transcode.{Coder, Took, Refused, IsReason}

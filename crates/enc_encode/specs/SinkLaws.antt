@@ -2,7 +2,7 @@
 use Rattle.std.proofs.Common.{ℕ, ◌≡◌, ◌≤◌, List, ◌++◌, Option, Some, None, refl, ◌∙◌, ap, subst, arith, length}
 use Rattle.std.proofs.Common.{length-append, Vec, vec_capacity}
 use Rattle.std.specs.declared.alloc.Global.{Global}
-use Rattle.enc_feed.specs.Sink.{IsSink}
+use Rattle.enc_model.specs.Sink.{IsSink}
 use Rattle.enc_model.specs.Encode.{Shift, Coded, encoder, joined_code}
 use Rattle.enc_model.specs.Transcode.{Took, Refused}
 use Rattle.enc_model.specs.Indexes.{tables}

@@ -9,7 +9,7 @@ ghost use Rattle.enc_encode.specs.Held.{IsOwnPrefix, own_byte};
 use crate::buffer::LANES;
 use crate::shift::ShiftState;
 use enc_model::Encoding;
-use lane_kernels::{ascii_chunk, ascii_prefix, plain_chunk_2022};
+use lane_kernels::{ascii_chunk, ascii_front, plain_chunk_2022};
 
 /// How many of the lanes, from the first, are ASCII that an encoder writes as it is.
 #[inline(always)]
@@ -31,7 +31,7 @@ fn own_lanes(to: Encoding, shift: ShiftState, lanes: &[u8; LANES]) -> usize
 pub fn are_ascii(bytes: &[u8]) -> bool
     ensures { OnTrue result (All (λ b. b < 128) bytes.now) }
 {
-    ascii_prefix(bytes) == bytes.len()
+    ascii_front(bytes) == bytes.len()
 }
 
 /// Whether a text's first character is ASCII.

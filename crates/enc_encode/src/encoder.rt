@@ -13,7 +13,7 @@ ghost use Rattle.enc_encode.specs.Reasons.{Gave, Explains, reason_of};
 ghost use Rattle.enc_encode.specs.Singles.{AreSingles, FewPointers};
 ghost use Rattle.enc_model.specs.Encode.{Tables, coded, encoder, encoder_end, InAscii};
 ghost use Rattle.enc_model.specs.Transcode.{Took, Refused};
-ghost use Rattle.enc_feed.specs.Sink.{Given};
+ghost use Rattle.enc_model.specs.Sink.{Given};
 ghost use Rattle.enc_model.specs.Indexes.{tables};
 
 use crate::append::{append, fill};

@@ -7,14 +7,8 @@ use Rattle.enc_model.specs.declared.Answer.{Answer}
 use Rattle.enc_model.specs.declared.Answer.TheVariants.{Finished}
 use Rattle.enc_model.specs.Stream.{HandlerStep, Handler, DecoderRun, points_of, text_then, steps, all_bytes, quick}
 use Rattle.enc_model.specs.Stream.{end_to, run_to_end, IsCalm}
-use Rattle.enc_feed.specs.Sink.{Given, IsSink}
+use Rattle.enc_model.specs.Sink.{Given, IsSink}
 use Rattle.enc_model.proofs.Steps.{steps_none, steps_one, steps_append, steps_end}
-
-pub given_err : {A X E : Type 0} (takes : A → List ℕ → A → Type 0) (refuses : A → List ℕ → E → A → Type 0) (a c : A)
-    (x : List ℕ) (r : Result X E) (e : E) → IsErrAnd r (λ y. y ≡ e) →
-    refuses a x e c → Given takes refuses a x c r
-given_err takes refuses a c x (Ok v) e i g = absurd i
-given_err takes refuses a c x (Err v) e i g = rw i g
 
 module _ {A E : Type 0} (takes : A → List ℕ → A → Type 0) (refuses : A → List ℕ → E → A → Type 0)
     (sink : IsSink takes refuses) where

@@ -5,7 +5,7 @@ use Rattle.std.proofs.Common.{take-append-drop, IfErr, OnOk, IsErrAnd, length-dr
 use Rattle.std.proofs.lemmas.List.{take_rest}
 use Rattle.std.proofs.Math.Seq.{take-add}
 use Rattle.enc_model.specs.Stream.{Handler, IsCalm, steps}
-use Rattle.enc_feed.specs.Sink.{Given, IsSink}
+use Rattle.enc_model.specs.Sink.{Given, IsSink}
 use Rattle.enc_feed.proofs.Feeding.{feed_begins, feed_more, state_more}
 use Rattle.enc_model.proofs.Steps.{steps_none}
 

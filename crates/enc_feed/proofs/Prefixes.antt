@@ -10,7 +10,7 @@ use Rattle.std.specs.List.{prefix_len}
 use Rattle.std.specs.Char.{is_ascii}
 use Rattle.enc_model.specs.declared.Answer.TheVariants.{Point}
 use Rattle.enc_model.specs.Stream.{Handler, IsCalm, steps}
-use Rattle.enc_feed.specs.Sink.{Given}
+use Rattle.enc_model.specs.Sink.{Given}
 use Rattle.enc_feed.specs.AsciiPrefix.{IsAsciiPrefix}
 use Rattle.enc_model.proofs.Steps.{steps_none, steps_run, steps_append}
 

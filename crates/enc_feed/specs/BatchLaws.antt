@@ -1,7 +1,7 @@
 -- A batch is a sink.
 use Rattle.std.proofs.Common.{ℕ, List, ◌++◌, sym, ◌∙◌, ap, append_assoc, append-nil, arith, length-append}
 use Rattle.std.specs.Str.{chars}
-use Rattle.enc_feed.specs.Sink.{IsSink}
+use Rattle.enc_model.specs.Sink.{IsSink}
 use Rattle.enc_feed.specs.Batches.{BatchTook, BatchRefused}
 
 -- The laws of a sink hold of a batch.

@@ -1,4 +1,3 @@
-pub mod Sink
 pub mod AsciiPrefix
 pub mod Batches
 pub mod BatchLaws

@@ -3,7 +3,7 @@
 ghost use Rattle.std.specs.Prelude.{◌≡◌, ◌≤◌, length, ◌<◌, false, OnOk, IfOk, IfErr, take};
 ghost use Rattle.enc_feed.specs.AsciiPrefix.{IsAsciiPrefix};
 ghost use Rattle.enc_model.specs.Stream.{steps};
-ghost use Rattle.enc_feed.specs.Sink.{Given};
+ghost use Rattle.enc_model.specs.Sink.{Given};
 
 use crate::Sink;
 use crate::batch::{BLOCK, Batch};

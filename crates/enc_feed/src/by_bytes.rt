@@ -3,7 +3,7 @@
 ghost use Rattle.std.specs.Prelude.{◌≡◌, ◌≤◌, length, [], ◌∷◌, true, false, OnOk, ◌+◌, ◌*◌};
 ghost use Rattle.enc_feed.specs.Batches.{BatchTook};
 ghost use Rattle.enc_model.specs.Stream.{restored_bytes, points_of, steps, quick, all_bytes, end_to};
-ghost use Rattle.enc_feed.specs.Sink.{Given};
+ghost use Rattle.enc_model.specs.Sink.{Given};
 
 use crate::Sink;
 use crate::batch::Batch;

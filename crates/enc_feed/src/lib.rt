@@ -6,11 +6,10 @@ mod by_blocks;
 mod by_bytes;
 mod decoder;
 mod room;
-mod sink;
 
 pub use batch::{BLOCK, Batch};
 pub use by_blocks::feed;
 pub use by_bytes::{decode_each, feed_each, finish};
 pub use decoder::{BlockDecoder, Decoder};
+pub use enc_model::Sink;
 pub use room::{AsciiFinder, LANES, PairReader, ROOM};
-pub use sink::Sink;

@@ -5,7 +5,6 @@ use Rattle.enc_index.specs.declared.kind.Kind.TheVariants.{Jis0208, Katakana}
 use Rattle.enc_index.specs.declared.kind.ReadError.TheVariants.{Line, Range, Twice}
 use Rattle.enc_model.specs.Indexes.{IndexSet, no_indexes}
 use Rattle.enc_index.specs.Area.{area_byte, entry_at}
-use Rattle.common.specs.Splits.{before}
 use Rattle.enc_index.specs.Files.{rest_if_any, pieces, without_crs, number_onward, without_spaces, pair_of, inserted}
 use Rattle.enc_index.specs.Files.{with_line, with_lines, pairs_of_file}
 

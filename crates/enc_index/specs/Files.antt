@@ -10,13 +10,15 @@ use Rattle.enc_index.specs.declared.kind.Kind.{Kind}
 use Rattle.enc_index.specs.declared.kind.Kind.TheVariants.{Jis0208, Jis0212, Katakana, Single}
 use Rattle.enc_index.specs.declared.kind.ReadError.{ReadError}
 use Rattle.enc_index.specs.declared.kind.ReadError.TheVariants.{Line, Range, Twice}
+use Rattle.enc_index.specs.declared.sizes.TheConstants.{JIS0208_POINTERS, JIS0212_POINTERS, KATAKANA_POINTERS}
+use Rattle.enc_index.specs.declared.sizes.TheConstants.{SINGLE_POINTERS}
 
 -- How many pointers an index of this kind has.
 abbrev pub pointers_of : Kind → ℕ
-pointers_of Jis0208 = 11280
-pointers_of Jis0212 = 8836
-pointers_of Katakana = 63
-pointers_of (Single e) = 128
+pointers_of Jis0208 = JIS0208_POINTERS
+pointers_of Jis0212 = JIS0212_POINTERS
+pointers_of Katakana = KATAKANA_POINTERS
+pointers_of (Single e) = SINGLE_POINTERS
 
 -- The bytes after the first mark; none where there is no mark.
 unfoldable pub rest_if_any : ℕ → List ℕ → Option (List ℕ)

@@ -12,6 +12,10 @@ ghost use Rattle.enc_index.specs.Compared.{HasEntries, HasFlags, HasZeros, HasFi
 
 use crate::kind::AreaError;
 use crate::set::IndexSet;
+use crate::sizes::{
+    ENTRIES, ENTRIES_END, ENTRIES_START, FILES, JIS0208_POINTERS, JIS0212_ENTRY, JIS0212_POINTERS,
+    KATAKANA_ENTRY, KATAKANA_POINTERS, SINGLE_BYTE_ENCODINGS, SINGLE_ENTRY, SINGLE_POINTERS,
+};
 use crate::table::IndexTables;
 use std::alloc::{AllocError, Global};
 
@@ -22,14 +26,17 @@ pub const AREA_SIZE: usize = 90112;
 fn spot_of(entry: usize) -> (usize, usize)
     ensures { result ≡ spot_of entry }
 {
-    if entry < 11280 {
+    if entry < JIS0212_ENTRY {
         (0, entry)
-    } else if entry < 20116 {
-        (1, entry - 11280)
-    } else if entry < 20179 {
-        (2, entry - 20116)
+    } else if entry < KATAKANA_ENTRY {
+        (1, entry - JIS0212_ENTRY)
+    } else if entry < SINGLE_ENTRY {
+        (2, entry - KATAKANA_ENTRY)
     } else {
-        (3 + (entry - 20179) / 128, (entry - 20179) % 128)
+        (
+            3 + (entry - SINGLE_ENTRY) / SINGLE_POINTERS,
+            (entry - SINGLE_ENTRY) % SINGLE_POINTERS,
+        )
     }
 }
 
@@ -37,7 +44,7 @@ fn spot_of(entry: usize) -> (usize, usize)
 #[tactic(auto, using(crate::proofs::Lookups::code_of_none))]
 #[inline(always)]
 fn entry_of(table: Option<&IndexTables>, pointer: usize) -> u32
-    requires { pointer < 22099 }
+    requires { pointer < ENTRIES }
     ensures { result ≡ entry_of (option_copied table.entry) pointer }
 {
     match table {
@@ -52,7 +59,7 @@ fn entry_of(table: Option<&IndexTables>, pointer: usize) -> u32
 /// An entry of the tables.
 #[tactic(auto, unfolding(crate::specs::Area::entry_at))]
 fn entry_at(set: &IndexSet, entry: usize) -> u32
-    requires { entry < 22099 }
+    requires { entry < ENTRIES }
     ensures { result ≡ entry_at set.now entry }
 {
     let (file, pointer) = spot_of(entry);
@@ -63,13 +70,13 @@ fn entry_at(set: &IndexSet, entry: usize) -> u32
 fn area_byte(set: &IndexSet, place: usize) -> u8
     ensures { result ≡ area_byte set.now place }
 {
-    if place < 18 {
+    if place < FILES {
         set.nth_table(place).is_some() as u8
-    } else if place < 32 {
+    } else if place < ENTRIES_START {
         0
-    } else if place < 88428 {
-        let bytes = entry_at(set, (place - 32) / 4).to_be_bytes();
-        bytes[(place - 32) % 4]
+    } else if place < ENTRIES_END {
+        let bytes = entry_at(set, (place - ENTRIES_START) / 4).to_be_bytes();
+        bytes[(place - ENTRIES_START) % 4]
     } else {
         0
     }
@@ -78,11 +85,11 @@ fn area_byte(set: &IndexSet, place: usize) -> u8
 /// An entry of an area.
 #[inline(always)]
 fn word_of(area: &[u8], entry: usize) -> u32
-    requires long { length area.now ≡ 90112 }
-    requires inside { entry < 22099 }
+    requires long { length area.now ≡ AREA_SIZE }
+    requires inside { entry < ENTRIES }
     ensures { result ≡ word_of area.now entry }
 {
-    let place = 32 + 4 * entry;
+    let place = ENTRIES_START + 4 * entry;
     u32::from_be_bytes([
         area[place],
         area[place + 1],
@@ -99,8 +106,8 @@ fn codes_of(
     start: usize,
     pointers: usize,
 ) -> Result<Vec<Option<char>>, AllocError>
-    requires long { length area.now ≡ 90112 }
-    requires inside { start + pointers ≤ 22099 }
+    requires long { length area.now ≡ AREA_SIZE }
+    requires inside { start + pointers ≤ ENTRIES }
     ensures long { IfOk result (λ codes. length codes.items ≡ pointers) }
     ensures codes { IfOk result
         (λ codes. (k : ℕ) → k < pointers → slice_index_or codes.items k None
@@ -121,9 +128,9 @@ fn table_of(
     start: usize,
     pointers: usize,
 ) -> Result<Option<IndexTables>, AllocError>
-    requires long { length area.now ≡ 90112 }
-    requires file { file < 18 }
-    requires inside { start + pointers ≤ 22099 }
+    requires long { length area.now ≡ AREA_SIZE }
+    requires file { file < FILES }
+    requires inside { start + pointers ≤ ENTRIES }
     ensures valid { IfOk result (λ table. IfSome table (IsIndex pointers)) }
     ensures given_back { (index : Option Index) → IsFileIn area.now file start pointers index
         → IfOk result (λ table. table ≡ index) }
@@ -138,36 +145,39 @@ fn table_of(
 
 /// The tables of the single-byte encodings in an area.
 fn single_of(alloc: Global, area: &[u8]) -> Result<Vec<Option<IndexTables>>, AllocError>
-    requires { length area.now ≡ 90112 }
-    ensures places { IfOk result (λ single. length single.items ≡ 15) }
-    ensures valid { IfOk result (λ single. (k : ℕ) → IfSome (slice_index_or single.items k None) (IsIndex 128)) }
-    ensures given_back { (single : List (Option Index)) → length single ≡ 15
-        → ((k : ℕ) → k < 15 → IsFileIn area.now (3 + k) (20179 + 128 * k) 128 (slice_index_or single k None))
+    requires { length area.now ≡ AREA_SIZE }
+    ensures places { IfOk result (λ single. length single.items ≡ SINGLE_BYTE_ENCODINGS) }
+    ensures valid { IfOk result
+        (λ single. (k : ℕ) → IfSome (slice_index_or single.items k None) (IsIndex SINGLE_POINTERS)) }
+    ensures given_back { (single : List (Option Index)) → length single ≡ SINGLE_BYTE_ENCODINGS
+        → ((k : ℕ) → k < SINGLE_BYTE_ENCODINGS → IsFileIn area.now (3 + k) (SINGLE_ENTRY + SINGLE_POINTERS * k)
+        SINGLE_POINTERS (slice_index_or single k None))
         → IfOk result (λ tables. tables.items ≡ single) }
 {
     let mut single = Vec::new(alloc);
-    for place in 0..15usize {
-        single.push(table_of(alloc, area, 3 + place, 20179 + 128 * place, 128)?)?;
+    for place in 0..SINGLE_BYTE_ENCODINGS {
+        let start = SINGLE_ENTRY + SINGLE_POINTERS * place;
+        single.push(table_of(alloc, area, 3 + place, start, SINGLE_POINTERS)?)?;
     }
     Ok(single)
 }
 
 /// The set of an area, if the area is valid.
 fn set_of(alloc: Global, area: &[u8]) -> Result<IndexSet, AllocError>
-    requires { length area.now ≡ 90112 }
+    requires { length area.now ≡ AREA_SIZE }
     ensures { (x : IndexSet) → IsIndexSet x → IsAreaOf x area.now → IfOk result (λ set. set ≡ x) }
 {
-    let jis0208 = table_of(alloc, area, 0, 0, 11280)?;
-    let jis0212 = table_of(alloc, area, 1, 11280, 8836)?;
-    let katakana = table_of(alloc, area, 2, 20116, 63)?;
+    let jis0208 = table_of(alloc, area, 0, 0, JIS0208_POINTERS)?;
+    let jis0212 = table_of(alloc, area, 1, JIS0212_ENTRY, JIS0212_POINTERS)?;
+    let katakana = table_of(alloc, area, 2, KATAKANA_ENTRY, KATAKANA_POINTERS)?;
     let single = single_of(alloc, area)?;
     IndexSet::of_tables(alloc, jis0208, jis0212, katakana, single)
 }
 
 /// Whether an area has this file's entries from `start` on.
 fn has_entries(table: Option<&IndexTables>, area: &[u8], start: usize, pointers: usize) -> bool
-    requires long { length area.now ≡ 90112 }
-    requires inside { start + pointers ≤ 22099 }
+    requires long { length area.now ≡ AREA_SIZE }
+    requires inside { start + pointers ≤ ENTRIES }
     ensures { IsTrue result ↔ HasEntries area.now start pointers (option_copied table.entry) }
 {
     for pointer in 0..pointers {
@@ -180,12 +190,14 @@ fn has_entries(table: Option<&IndexTables>, area: &[u8], start: usize, pointers:
 
 /// Whether an area has the entries of the set's single-byte encodings.
 fn has_single(set: &IndexSet, area: &[u8]) -> bool
-    requires { length area.now ≡ 90112 }
+    requires { length area.now ≡ AREA_SIZE }
     ensures { IsTrue result
-        ↔ ((n : ℕ) → n < 15 → HasEntries area.now (20179 + 128 * n) 128 (nth_file set.now (3 + n))) }
+        ↔ ((n : ℕ) → n < SINGLE_BYTE_ENCODINGS → HasEntries area.now (SINGLE_ENTRY + SINGLE_POINTERS * n)
+        SINGLE_POINTERS (nth_file set.now (3 + n))) }
 {
-    for n in 0..15usize {
-        if !has_entries(set.nth_table(3 + n), area, 20179 + 128 * n, 128) {
+    for n in 0..SINGLE_BYTE_ENCODINGS {
+        let start = SINGLE_ENTRY + SINGLE_POINTERS * n;
+        if !has_entries(set.nth_table(3 + n), area, start, SINGLE_POINTERS) {
             return false;
         }
     }
@@ -194,21 +206,21 @@ fn has_single(set: &IndexSet, area: &[u8]) -> bool
 
 /// Whether an area has the set's entries.
 fn has_files(set: &IndexSet, area: &[u8]) -> bool
-    requires { length area.now ≡ 90112 }
+    requires { length area.now ≡ AREA_SIZE }
     ensures { IsTrue result ↔ HasFiles set.now area.now }
 {
-    has_entries(set.nth_table(0), area, 0, 11280)
-        && has_entries(set.nth_table(1), area, 11280, 8836)
-        && has_entries(set.nth_table(2), area, 20116, 63)
+    has_entries(set.nth_table(0), area, 0, JIS0208_POINTERS)
+        && has_entries(set.nth_table(1), area, JIS0212_ENTRY, JIS0212_POINTERS)
+        && has_entries(set.nth_table(2), area, KATAKANA_ENTRY, KATAKANA_POINTERS)
         && has_single(set, area)
 }
 
 /// Whether an area has the set's flags.
 fn has_flags(set: &IndexSet, area: &[u8]) -> bool
-    requires { length area.now ≡ 90112 }
+    requires { length area.now ≡ AREA_SIZE }
     ensures { IsTrue result ↔ HasFlags set.now area.now }
 {
-    for file in 0..18usize {
+    for file in 0..FILES {
         if area[file] != set.nth_table(file).is_some() as u8 {
             return false;
         }
@@ -231,15 +243,17 @@ fn has_zeros(area: &[u8], start: usize, end: usize) -> bool
 
 /// Whether an area has what belongs around the set's entries.
 fn has_margins(set: &IndexSet, area: &[u8]) -> bool
-    requires { length area.now ≡ 90112 }
+    requires { length area.now ≡ AREA_SIZE }
     ensures { IsTrue result ↔ HasMargins set.now area.now }
 {
-    has_flags(set, area) && has_zeros(area, 18, 32) && has_zeros(area, 88428, AREA_SIZE)
+    has_flags(set, area)
+        && has_zeros(area, FILES, ENTRIES_START)
+        && has_zeros(area, ENTRIES_END, AREA_SIZE)
 }
 
 /// Whether the area is that of the set. The entries are compared file by file, four bytes at a time.
 fn is_area_of(set: &IndexSet, area: &[u8]) -> bool
-    requires long { length area.now ≡ 90112 }
+    requires long { length area.now ≡ AREA_SIZE }
     requires valid { IsIndexSet set.now }
     ensures { IsTrue result ↔ IsAreaOf set.now area.now }
 {

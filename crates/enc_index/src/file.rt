@@ -9,58 +9,46 @@ ghost use Rattle.enc_index.specs.Files.{without_spaces};
 ghost use Rattle.enc_index.specs.Files.{without_0x, pair_of, with_pair, with_line, with_lines, lines_of};
 
 use crate::kind::ReadError;
+use common::prefix;
 
 /// The bytes before the first mark, and those after it.
-#[tactic(auto, using(crate::proofs::Cuts::by_bytes))]
+#[tactic(auto, using(crate::proofs::Cuts::rest_here, crate::proofs::Cuts::rest_nowhere))]
 fn cut(bytes: &[u8], mark: u8) -> (&[u8], Option<&[u8]>)
     ensures before { result.0.now ≡ before mark bytes.now }
     ensures after { option_copied result.1 ≡ rest_if_any mark bytes.now }
 {
-    for (place, byte) in bytes.iter().enumerate() {
-        if *byte == mark {
-            return (&bytes[..place], Some(&bytes[place + 1..]));
-        }
+    let first = prefix(bytes, mark);
+    if first.len() < bytes.len() {
+        (first, Some(&bytes[first.len() + 1..]))
+    } else {
+        (first, None)
     }
-    (bytes, None)
 }
 
 /// The line without a CR at its end.
 fn without_cr(line: &[u8]) -> &[u8]
     ensures { result.now ≡ without_cr line.now }
 {
-    if line.is_empty() {
-        return line;
-    }
-    let last = line.len() - 1;
-    if line[last] == b'\r' {
-        &line[..last]
-    } else {
-        line
-    }
+    line.strip_suffix(b"\r").unwrap_or(line)
 }
 
 /// The field without spaces at its start.
-#[tactic(auto, using(crate::proofs::Cuts::by_spaces))]
+#[tactic(auto, unfolding(crate::specs::Files::without_spaces))]
 fn without_spaces(field: &[u8]) -> &[u8]
     ensures { result.now ≡ without_spaces field.now }
 {
-    for (place, byte) in field.iter().enumerate() {
-        if *byte != b' ' {
-            return &field[place..];
-        }
+    let mut rest = field;
+    while let [b' ', after @ ..] = rest {
+        rest = after;
     }
-    &field[field.len()..]
+    rest
 }
 
 /// The field without a leading `0x`.
 fn without_0x(field: &[u8]) -> &[u8]
     ensures { result.now ≡ without_0x field.now }
 {
-    if field.len() >= 2 && field[0] == b'0' && field[1] == b'x' {
-        &field[2..]
-    } else {
-        field
-    }
+    field.strip_prefix(b"0x").unwrap_or(field)
 }
 
 /// The number of one or more digits, at most `most`.

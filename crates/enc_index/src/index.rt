@@ -1,6 +1,6 @@
 //! An index file that was read.
 
-ghost use Rattle.std.specs.Prelude.{◌≡◌, ◌≤◌, replicate, None, IfOk};
+ghost use Rattle.std.specs.Prelude.{◌≡◌, ◌≤◌};
 ghost use Rattle.enc_index.specs.Files.{pointers_of};
 ghost use Rattle.enc_index.specs.Sets.{IsIndex};
 ghost use Rattle.enc_index.specs.Kinds.{KindedIndex, IsReadingOfIndex};
@@ -8,8 +8,9 @@ ghost use Rattle.enc_model.specs.Index.{code, pointer, pointer_sjis};
 
 use crate::file::read_file;
 use crate::kind::{Kind, ReadError};
+use crate::sizes::{JIS0208_POINTERS, JIS0212_POINTERS, KATAKANA_POINTERS, SINGLE_POINTERS};
 use crate::table::IndexTables;
-use std::alloc::{AllocError, Global};
+use std::alloc::Global;
 use std::marker::Model;
 
 /// An index and its kind.
@@ -34,25 +35,14 @@ impl Model for Index {
 /// How many pointers an index of this kind has.
 fn pointers_of(kind: Kind) -> usize
     ensures count { result ≡ pointers_of kind }
-    ensures bound { result ≤ 11280 }
+    ensures bound { result ≤ JIS0208_POINTERS }
 {
     match kind {
-        Kind::Jis0208 => 11280,
-        Kind::Jis0212 => 8836,
-        Kind::Katakana => 63,
-        Kind::Single(_) => 128,
+        Kind::Jis0208 => JIS0208_POINTERS,
+        Kind::Jis0212 => JIS0212_POINTERS,
+        Kind::Katakana => KATAKANA_POINTERS,
+        Kind::Single(_) => SINGLE_POINTERS,
     }
-}
-
-/// A table without code points.
-fn no_codes(alloc: Global, pointers: usize) -> Result<Vec<Option<char>>, AllocError>
-    ensures { IfOk result (λ codes. codes.items ≡ replicate pointers None) }
-{
-    let mut codes = Vec::new(alloc);
-    for _pointer in 0..pointers {
-        codes.push(None)?;
-    }
-    Ok(codes)
 }
 
 impl Index {
@@ -67,7 +57,7 @@ impl Index {
     pub fn read(alloc: Global, bytes: &[u8], kind: Kind) -> Result<Index, ReadError>
         ensures { IsReadingOfIndex kind bytes.now result }
     {
-        let mut codes = no_codes(alloc, pointers_of(kind))?;
+        let mut codes = vec![in alloc; None; pointers_of(kind)]?;
         read_file(&mut codes, bytes)?;
         let table = IndexTables::new(alloc, codes)?;
         Ok(Index { kind, table })

@@ -8,6 +8,7 @@ mod kind;
 mod pointers;
 mod ready;
 mod set;
+mod sizes;
 mod table;
 mod usable;
 

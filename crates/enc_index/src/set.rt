@@ -14,13 +14,11 @@ ghost use Rattle.enc_index.specs.Bytes.{byte_char};
 use crate::index::Index;
 use crate::kind::Kind;
 use crate::pointers::Pointers;
+use crate::sizes::{JIS0208_POINTERS, SINGLE_BYTE_ENCODINGS};
 use crate::table::IndexTables;
 use enc_model::{Encoding, Utf8Char};
 use std::alloc::{AllocError, Global};
 use std::marker::Model;
-
-/// How many single-byte encodings there are.
-const SINGLE_BYTE_ENCODINGS: usize = 15;
 
 /// The tables of the files that were given.
 #[derive(Drop)]
@@ -253,7 +251,7 @@ impl IndexSet {
     pub fn pointers_sjis(&self) -> Option<&Pointers>
         ensures value { MatchOption result ((c : ℕ) → pointer_sjis (tables self.now).jis0208 c ≡ None)
             (λ p. (c : ℕ) → found_pointer p.now c ≡ pointer_sjis (tables self.now).jis0208 c) }
-        ensures bounded { IfSome result (λ p. (c : ℕ) → IfSome (found_pointer p.now c) (λ n. n < 11280)) }
+        ensures bounded { IfSome result (λ p. (c : ℕ) → IfSome (found_pointer p.now c) (λ n. n < JIS0208_POINTERS)) }
     {
         Some(self.tables.jis0208.as_ref()?.pointers_sjis())
     }
@@ -271,7 +269,7 @@ impl IndexSet {
     #[inline(always)]
     pub fn pointer_sjis(&self, c: char) -> Option<u32>
         ensures value { result ≡ pointer_sjis (tables self.now).jis0208 c }
-        ensures bounded { IfSome result (λ p. p < 11280) }
+        ensures bounded { IfSome result (λ p. p < JIS0208_POINTERS) }
     {
         self.pointers_sjis()?.find(c)
     }

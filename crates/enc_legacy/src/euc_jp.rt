@@ -3,7 +3,7 @@
 ghost use Rattle.std.specs.Prelude.{◌≡◌, OnOk, false, true, []};
 ghost use Rattle.enc_legacy.specs.EucJpState.{IsEucJpPair, IsEucJpState};
 ghost use Rattle.enc_model.specs.Stream.{steps};
-ghost use Rattle.enc_feed.specs.Sink.{Given};
+ghost use Rattle.enc_model.specs.Sink.{Given};
 ghost use Rattle.enc_model.specs.Japanese.{EucJp, euc_jp, euc_jp_start, euc_jp_pair};
 ghost use Rattle.enc_model.specs.Indexes.{tables};
 ghost use Rattle.enc_model.proofs.Calm.{euc_jp_calm};
@@ -15,7 +15,7 @@ use crate::stride::{PairDecoder, Strider, decode_strides, read_run};
 use enc_feed::{Batch, BlockDecoder, Decoder, PairReader, Sink, feed, finish};
 use enc_index::{IndexSet, Kind};
 use enc_model::{Answer, Restored, Utf8Char};
-use lane_kernels::{ascii_lanes, ascii_prefix};
+use lane_kernels::{ascii_front, ascii_lanes};
 use std::marker::Model;
 
 /// The EUC-JP decoder (Encoding Standard, section 12.1.1). Its state is the lead byte, or 0, and whether the pair is
@@ -117,7 +117,7 @@ impl PairDecoder for EucJpState {
     #[tactic(auto, using(enc_feed::proofs::Prefixes::prefix_none, crate::proofs::Prefixes::euc_prefix))]
     fn ascii(&self, _indexes: &IndexSet, bytes: &[u8]) -> usize {
         if self.lead == 0 {
-            ascii_prefix(bytes)
+            ascii_front(bytes)
         } else {
             0
         }

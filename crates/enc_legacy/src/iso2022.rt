@@ -6,7 +6,7 @@ ghost use Rattle.enc_feed.specs.Batches.{BatchTook};
 ghost use Rattle.enc_model.specs.declared.Charset.TheVariants.{Ascii, Lead};
 ghost use Rattle.enc_model.specs.declared.Place.TheVariants.{In};
 ghost use Rattle.enc_model.specs.Stream.{restored_bytes, steps};
-ghost use Rattle.enc_feed.specs.Sink.{Given};
+ghost use Rattle.enc_model.specs.Sink.{Given};
 ghost use Rattle.enc_model.specs.Japanese.{Iso2022, iso2022, iso2022_start, iso2022_byte, iso2022_end, iso2022_plain};
 ghost use Rattle.enc_model.proofs.Calm.{iso2022_calm};
 ghost use Rattle.enc_model.specs.Indexes.{tables};
@@ -19,7 +19,7 @@ use crate::stride::{Strider, decode_strides};
 use enc_feed::{Batch, BlockDecoder, Decoder, PairReader, ROOM, Sink, decode_each, feed, finish};
 use enc_index::{IndexSet, Kind};
 use enc_model::{Answer, Charset, Introducer, Place, Restored, Utf8Char};
-use lane_kernels::plain_prefix_2022;
+use lane_kernels::plain_front_2022;
 use std::marker::Model;
 
 /// The ISO-2022-JP decoder (Encoding Standard, section 12.2.1). Its state is the place, the output state and the output
@@ -223,7 +223,7 @@ impl Iso2022State {
         ensures state { self.new
             ≡ (steps (iso2022 (tables _indexes.now).jis0208) false self.old (take result rest.now)).state }
     {
-        let run = plain_prefix_2022(rest);
+        let run = plain_front_2022(rest);
         if run == 0 {
             return 0;
         }

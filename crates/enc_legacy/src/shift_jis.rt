@@ -4,7 +4,7 @@ ghost use Rattle.std.specs.Prelude.{◌≡◌, OnOk, IfSome, true, false, ◌<�
 ghost use Rattle.enc_legacy.specs.ShiftJis.{IsShiftJisLead, IsShiftJisPair, IsShiftJisState};
 ghost use Rattle.enc_model.specs.Index.{Index, code};
 ghost use Rattle.enc_model.specs.Stream.{steps};
-ghost use Rattle.enc_feed.specs.Sink.{Given};
+ghost use Rattle.enc_model.specs.Sink.{Given};
 ghost use Rattle.enc_model.specs.Japanese.{shift_jis, shift_jis_at, shift_jis_pair};
 ghost use Rattle.enc_model.specs.Indexes.{tables};
 ghost use Rattle.enc_model.proofs.Calm.{shift_jis_calm};
@@ -16,7 +16,7 @@ use crate::stride::{PairDecoder, Strider, decode_strides, read_run};
 use enc_feed::{Batch, BlockDecoder, Decoder, PairReader, Sink, feed, finish};
 use enc_index::{IndexSet, Kind};
 use enc_model::{Answer, Restored, Utf8Char};
-use lane_kernels::{ascii_lanes, ascii_prefix};
+use lane_kernels::{ascii_front, ascii_lanes};
 use std::marker::Model;
 
 /// The Shift_JIS decoder (Encoding Standard, section 12.3.1). Its state is the lead byte, or 0.
@@ -122,7 +122,7 @@ impl PairDecoder for ShiftJisState {
     #[tactic(auto, using(enc_feed::proofs::Prefixes::prefix_none, crate::proofs::Prefixes::sjis_prefix))]
     fn ascii(&self, _indexes: &IndexSet, bytes: &[u8]) -> usize {
         if self.lead == 0 {
-            ascii_prefix(bytes)
+            ascii_front(bytes)
         } else {
             0
         }

@@ -4,7 +4,7 @@ ghost use Rattle.std.specs.Prelude.{◌≡◌, ◌<◌, ◌≤◌, ℕ, OnOk, If
 ghost use Rattle.std.specs.Prelude.{length, take, slice_index};
 ghost use Rattle.enc_index.specs.Bytes.{byte_char};
 ghost use Rattle.enc_model.specs.Stream.{steps};
-ghost use Rattle.enc_feed.specs.Sink.{Given};
+ghost use Rattle.enc_model.specs.Sink.{Given};
 ghost use Rattle.enc_model.specs.Japanese.{single};
 ghost use Rattle.enc_model.specs.Indexes.{tables};
 ghost use Rattle.enc_legacy.specs.Singles.{single_in, single_start};
@@ -14,7 +14,7 @@ use crate::kana::answer_for;
 use enc_feed::{Batch, Decoder, ROOM, Sink, feed_each, finish};
 use enc_index::{IndexSet, Kind};
 use enc_model::{Answer, Encoding, Restored, Utf8Char};
-use lane_kernels::{AsciiLanes, ascii_prefix};
+use lane_kernels::{AsciiLanes, ascii_front};
 use std::marker::Model;
 
 /// The single-byte decoder (Encoding Standard, section 9.1). It has no state besides its encoding.
@@ -117,7 +117,7 @@ impl SingleState {
         ensures { Given S.takes S.refuses sink.old
             (steps (single_in (tables indexes.now)) false self.now piece.now).text sink.new result }
     {
-        let prefix = ascii_prefix(piece);
+        let prefix = ascii_front(piece);
         sink.ascii(&piece[..prefix])?;
         if prefix == piece.len() {
             return Ok(());

@@ -8,3 +8,4 @@ pub mod Decode
 pub mod Utf8Chars
 pub mod Transcode
 pub mod Indexes
+pub mod Sink

@@ -2,9 +2,11 @@
 #![tactic(auto)]
 
 mod laws;
+mod sink;
 mod utf8_char;
 
 pub use laws::{in_any_cut, restored_first, text_grows, with_a_bom};
+pub use sink::Sink;
 pub use utf8_char::Utf8Char;
 
 /// The encodings of this gateway. Their order is part of the spool's format.

@@ -2,9 +2,10 @@
 use Rattle.std.proofs.Common.{ℕ, ◌≡◌, Bool, false, List, ◌++◌, Result, sym, subst, ◌∙◌, ap, IsErrAnd}
 use Rattle.enc_model.specs.Decode.{Decoding, decoding}
 use Rattle.enc_model.specs.Encode.{Tables}
-use Rattle.enc_feed.specs.Sink.{Given, IsSink}
+use Rattle.enc_model.specs.Sink.{Given, IsSink}
 use Rattle.enc_model.proofs.Pieces.{decoding_append}
-use Rattle.enc_feed.proofs.Feeding.{given_then, given_err}
+use Rattle.enc_feed.proofs.Feeding.{given_then}
+use Rattle.enc_model.proofs.Sinks.{given_err}
 
 module _ {A E : Type 0} (takes : A → List ℕ → A → Type 0) (refuses : A → List ℕ → E → A → Type 0)
     (sink : IsSink takes refuses) (t : Tables) (ended : Bool) (s : Decoding) (prefix b piece : List ℕ) where

@@ -3,7 +3,7 @@
 ghost use Rattle.std.specs.Prelude.{◌≡◌, OnOk, IfSome, MatchOption, true, false, []};
 ghost use Rattle.enc_model.specs.Decode.{Decoding, decoding, decoding_start};
 ghost use Rattle.enc_model.specs.Indexes.{tables};
-ghost use Rattle.enc_feed.specs.Sink.{Given};
+ghost use Rattle.enc_model.specs.Sink.{Given};
 ghost use Rattle.enc_stream.specs.AnyDecoder.{decoding_of};
 ghost use Rattle.enc_stream.specs.StateBytes.{IsOwn, IsReached, decoded_encoding, decoder_bytes, padded};
 
@@ -15,7 +15,7 @@ use enc_feed::Sink;
 use enc_index::IndexSet;
 use enc_legacy::{EucJpState, Iso2022State, ShiftJisState, SingleState};
 use enc_model::Encoding;
-use enc_unicode::{ByteOrder, Utf8State, Utf16State};
+use enc_unicode::{Order, Utf8State, Utf16State};
 
 /// A decoder's state, with its encoding.
 #[derive(Drop)]
@@ -35,8 +35,8 @@ impl AnyDecoder {
     {
         match encoding {
             Encoding::Utf8 => AnyDecoder::Utf8(Utf8State::new()),
-            Encoding::Utf16Be => AnyDecoder::Utf16(Utf16State::new(ByteOrder::Big)),
-            Encoding::Utf16Le => AnyDecoder::Utf16(Utf16State::new(ByteOrder::Little)),
+            Encoding::Utf16Be => AnyDecoder::Utf16(Utf16State::new(Order::Big)),
+            Encoding::Utf16Le => AnyDecoder::Utf16(Utf16State::new(Order::Little)),
             Encoding::ShiftJis => AnyDecoder::ShiftJis(ShiftJisState::new()),
             Encoding::EucJp => AnyDecoder::EucJp(EucJpState::new()),
             Encoding::Iso2022Jp => AnyDecoder::Iso2022(Iso2022State::new()),
@@ -104,8 +104,8 @@ impl AnyDecoder {
         match self {
             AnyDecoder::Utf8(_) => Encoding::Utf8,
             AnyDecoder::Utf16(state) => match state.order() {
-                ByteOrder::Big => Encoding::Utf16Be,
-                ByteOrder::Little => Encoding::Utf16Le,
+                Order::Big => Encoding::Utf16Be,
+                Order::Little => Encoding::Utf16Le,
             },
             AnyDecoder::ShiftJis(_) => Encoding::ShiftJis,
             AnyDecoder::EucJp(_) => Encoding::EucJp,
@@ -138,8 +138,8 @@ impl AnyDecoder {
     {
         Some(match encoding {
             Encoding::Utf8 => AnyDecoder::Utf8(utf8_at(bytes)?),
-            Encoding::Utf16Be => AnyDecoder::Utf16(utf16_at(ByteOrder::Big, bytes)?),
-            Encoding::Utf16Le => AnyDecoder::Utf16(utf16_at(ByteOrder::Little, bytes)?),
+            Encoding::Utf16Be => AnyDecoder::Utf16(utf16_at(Order::Big, bytes)?),
+            Encoding::Utf16Le => AnyDecoder::Utf16(utf16_at(Order::Little, bytes)?),
             Encoding::ShiftJis => AnyDecoder::ShiftJis(shift_jis_at(bytes[0])?),
             Encoding::EucJp => AnyDecoder::EucJp(euc_jp_at(bytes[0], bytes[1])?),
             Encoding::Iso2022Jp => AnyDecoder::Iso2022(iso2022_at(bytes)?),

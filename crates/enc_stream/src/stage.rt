@@ -3,7 +3,7 @@
 ghost use Rattle.std.specs.Prelude.{◌≡◌, ◌++◌, ◌↔◌, IfOk, IsTrue, false};
 ghost use Rattle.enc_model.specs.Decode.{decoding, decoding_start};
 ghost use Rattle.enc_model.specs.Indexes.{tables};
-ghost use Rattle.enc_feed.specs.Sink.{Given};
+ghost use Rattle.enc_model.specs.Sink.{Given};
 ghost use Rattle.enc_model.specs.Transcode.{Before, fed_text, fed_end};
 ghost use Rattle.enc_stream.specs.AnyDecoder.{decoding_of};
 ghost use Rattle.enc_stream.specs.Sniff.{held_bytes, Sniffs};

@@ -12,7 +12,7 @@ ghost use Rattle.enc_stream.specs.StateBytes.{IsReached, padded, decoder_bytes};
 use crate::numbers::{charset_at, number_of_charset};
 use enc_legacy::{EucJpState, Iso2022State, ShiftJisState};
 use enc_model::{Charset, Introducer, Place};
-use enc_unicode::{ByteOrder, Utf8State, Utf16State};
+use enc_unicode::{Order, Utf8State, Utf16State};
 
 /// The count of the bytes of an unfinished character, and the bytes.
 pub fn utf8_bytes(state: &Utf8State) -> [u8; 4]
@@ -56,7 +56,7 @@ pub fn utf16_bytes(state: &Utf16State) -> [u8; 4]
 }
 
 /// The state of these bytes.
-pub fn utf16_at(order: ByteOrder, bytes: [u8; 4]) -> Option<Utf16State>
+pub fn utf16_at(order: Order, bytes: [u8; 4]) -> Option<Utf16State>
     ensures same { (s : Utf16) → IsReached (OfUtf16 (is_big order) s) → padded 4
         (decoder_bytes (OfUtf16 (is_big order) s)) ≡ bytes → result ≡ Some (record { big = is_big order; state = s }) }
     ensures order { IfSome result (λ s. s.big ≡ is_big order) }

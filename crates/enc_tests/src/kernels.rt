@@ -3,7 +3,7 @@
 ghost use Rattle.std.specs.Prelude.{◌≤◌};
 
 use lane_kernels::{
-    ByteOrder, Pairing, Step, ascii_prefix, narrow, plain_prefix_2022, range_prefix, scalar_prefix,
+    Order, Pairing, Step, ascii_front, narrow, plain_front_2022, range_front, scalar_prefix,
 };
 use std::process::Abort;
 
@@ -47,12 +47,12 @@ fn prefixes(rt: HostRuntime) {
             for length in 0..201 {
                 let prefix = &bytes[..length];
                 assert_eq!(rt;
-                    ascii_prefix(prefix),
+                    ascii_front(prefix),
                     slow_prefix(prefix, &[]),
                     "of {length}"
                 );
                 assert_eq!(rt;
-                    plain_prefix_2022(prefix),
+                    plain_front_2022(prefix),
                     slow_prefix(prefix, &[0x0E, 0x0F, 0x1B]),
                     "of {length}"
                 );
@@ -79,7 +79,7 @@ fn ranges(rt: HostRuntime) {
             for length in 0..201 {
                 let prefix = &bytes[..length];
                 assert!(rt;
-                    range_prefix(prefix, lo, hi) == slow_range(prefix, lo, hi),
+                    range_front(prefix, lo, hi) == slow_range(prefix, lo, hi),
                     "{lo:X} to {hi:X}, {stop:X} at {place} of {length}"
                 );
             }
@@ -129,13 +129,13 @@ fn narrowing(rt: HostRuntime) {
 const LEFT: u8 = 0x7F;
 
 /// The bytes of 32 units. If one is carried, the first byte comes apart, and the block ends with `LEFT`.
-fn bytes_of_units(order: ByteOrder, units: &[u16; 32], is_carried: bool) -> (Option<u8>, [u8; 64]) {
+fn bytes_of_units(order: Order, units: &[u16; 32], is_carried: bool) -> (Option<u8>, [u8; 64]) {
     let mut bytes = [LEFT; 65];
     for i in 0..32 {
         let [high, low] = units[i].to_be_bytes();
         let pair = match order {
-            ByteOrder::Big => (high, low),
-            ByteOrder::Little => (low, high),
+            Order::Big => (high, low),
+            Order::Little => (low, high),
         };
         bytes[2 * i] = pair.0;
         bytes[2 * i + 1] = pair.1;
@@ -159,10 +159,10 @@ fn bytes_of_units(order: ByteOrder, units: &[u16; 32], is_carried: bool) -> (Opt
 /// Otherwise it is refused, and what is carried doesn't change.
 fn is_paired(rt: &impl Abort, units: &[u16; 32], carries: bool, paired: Option<Option<u16>>) {
     for (order, is_carried) in [
-        (ByteOrder::Big, false),
-        (ByteOrder::Big, true),
-        (ByteOrder::Little, false),
-        (ByteOrder::Little, true),
+        (Order::Big, false),
+        (Order::Big, true),
+        (Order::Little, false),
+        (Order::Little, true),
     ] {
         let (odd, bytes) = bytes_of_units(order, units, is_carried);
         let mut out = [0u16; 32];
@@ -223,7 +223,7 @@ fn byte_carried_through_a_block(rt: HostRuntime) {
     bytes[63] = 0x7F;
     let mut units = [0u16; 32];
     let mut pairing = Pairing::carrying(Some(0x3D), None);
-    assert!(rt; pairing.block(ByteOrder::Little, &bytes, &mut units));
+    assert!(rt; pairing.block(Order::Little, &bytes, &mut units));
     assert!(rt;
         units[0] == 0xD83D && units[1] == 0xDE00 && units[2] == 0x41 && units[31] == 0xD83D
     );
@@ -231,7 +231,7 @@ fn byte_carried_through_a_block(rt: HostRuntime) {
     assert_eq!(rt; pairing.lead(), Some(0xD83D));
 }
 
-fn steps_to(rt: &impl Abort, pairing: &mut Pairing, order: ByteOrder, bytes: &[u8], last: Step) {
+fn steps_to(rt: &impl Abort, pairing: &mut Pairing, order: Order, bytes: &[u8], last: Step) {
     let mut step = Step {
         fault: false,
         scalar: None,
@@ -256,12 +256,12 @@ fn tails(rt: HostRuntime) {
         fault: true,
         scalar: None,
     };
-    let runs: [(ByteOrder, &[u8], Step); 5] = [
-        (ByteOrder::Little, &[0x3D, 0xD8, 0x00, 0xDE], grin),
-        (ByteOrder::Big, &[0xD8, 0x3D, 0xDE, 0x00], grin),
-        (ByteOrder::Little, &[0x3D, 0xD8, 0x41, 0x00], torn),
-        (ByteOrder::Big, &[0xDE, 0x00], stray),
-        (ByteOrder::Big, &[0xD8, 0x00, 0xD8, 0x3D], stray),
+    let runs: [(Order, &[u8], Step); 5] = [
+        (Order::Little, &[0x3D, 0xD8, 0x00, 0xDE], grin),
+        (Order::Big, &[0xD8, 0x3D, 0xDE, 0x00], grin),
+        (Order::Little, &[0x3D, 0xD8, 0x41, 0x00], torn),
+        (Order::Big, &[0xDE, 0x00], stray),
+        (Order::Big, &[0xD8, 0x00, 0xD8, 0x3D], stray),
     ];
     let mut pairing = Pairing::new();
     for (order, bytes, last) in runs {

@@ -8,7 +8,7 @@ use crate::strings::STRINGS;
 use crate::texts::TEXTS;
 use enc_index::IndexSet;
 use enc_model::Mode;
-use enc_stream::Transcoder;
+use enc_stream::{TranscodeError, Transcoder};
 use std::alloc::Global;
 use std::process::Abort;
 
@@ -273,5 +273,29 @@ fn characters_and_faults_after_many_letters(rt: HostRuntime) {
         for line in AT_THE_END.lines() {
             holds_among(&rt, rt.alloc(), &set, line, (before, 0));
         }
+    }
+}
+
+/// After a character without a code, and after its end, a transcoder takes nothing more.
+#[test]
+fn spent_transcoder_takes_nothing(rt: HostRuntime) {
+    let alloc = rt.alloc();
+    let set = few_pairs(&rt, alloc);
+    let mut refused = between(&rt, "UTF-8", "Shift_JIS", Mode::Fatal);
+    let mut ended = between(&rt, "UTF-8", "UTF-8", Mode::Html);
+    let mut out = Vec::new(alloc);
+    let fault = refused.feed(&set, "\u{1F600}".as_bytes(), &mut out);
+    assert_eq!(rt; fault, Err(TranscodeError::Unencodable('\u{1F600}')));
+    assert_eq!(rt; ended.feed(&set, b"a", &mut out), Ok(()));
+    assert_eq!(rt; ended.finish(&set, &mut out), Ok(()));
+    assert!(rt; out.as_slice() == b"a".as_slice());
+    assert!(rt; refused.is_spent() && !ended.is_spent());
+    for mut spent in [refused, ended] {
+        assert_eq!(rt;
+            spent.feed(&set, b"b", &mut out),
+            Err(TranscodeError::Spent)
+        );
+        assert_eq!(rt; spent.finish(&set, &mut out), Err(TranscodeError::Spent));
+        assert!(rt; out.as_slice() == b"a".as_slice());
     }
 }

@@ -5,7 +5,7 @@ use Rattle.std.proofs.lemmas.List.{length-take}
 use Rattle.std.specs.Str.{IsUtf8, chars}
 use Rattle.enc_feed.specs.Batches.{BatchTook}
 use Rattle.enc_model.specs.Stream.{DecoderRun, steps}
-use Rattle.enc_feed.specs.Sink.{IsSink}
+use Rattle.enc_model.specs.Sink.{IsSink}
 use Rattle.enc_model.specs.Utf8.{Utf8, utf8, utf8_start}
 use Rattle.enc_model.proofs.Texts.{utf8_text}
 use Rattle.enc_unicode.specs.Utf8State.{IsUtf8State}

@@ -1,5 +1,5 @@
 -- A sink that takes everything and claims nothing.
-use Rattle.enc_feed.specs.Sink.{IsSink}
+use Rattle.enc_model.specs.Sink.{IsSink}
 
 -- The laws of a sink hold of it.
 pub nowhere_sink : {A E : Type 0} → IsSink {A = A} {E = E} (λ old text new. Unit {0}) (λ old text why new. ⊥)

@@ -10,7 +10,7 @@ ghost use Rattle.lane_kernels.specs.Steps.{scalar_text, scalars_of, step_text, u
 ghost use Rattle.lane_kernels.specs.Units.{IsCarried};
 
 use enc_feed::{Batch, ROOM};
-use lane_kernels::{ByteOrder, Pairing, Step, lead_in, paired, paired_units_decode};
+use lane_kernels::{Order, Pairing, Step, lead_in, paired, paired_units_decode};
 
 /// How many bytes are decoded at once.
 const LANES: usize = 64;
@@ -59,7 +59,7 @@ fn push_units(carried: Option<u16>, units: &[u16; 32], batch: &mut Batch)
 }
 
 /// Decodes bytes one by one.
-fn decode_each(pairing: &mut Pairing, order: ByteOrder, bytes: &[u8], batch: &mut Batch)
+fn decode_each(pairing: &mut Pairing, order: Order, bytes: &[u8], batch: &mut Batch)
     requires { length batch.old + 12 * length bytes.now ≤ ROOM }
     ensures text { BatchTook batch.old (steps (utf16 (is_big order)) false pairing.old bytes.now).text batch.new }
     ensures state { pairing.new ≡ (steps (utf16 (is_big order)) false pairing.old bytes.now).state }
@@ -70,12 +70,7 @@ fn decode_each(pairing: &mut Pairing, order: ByteOrder, bytes: &[u8], batch: &mu
 }
 
 /// Decodes 64 bytes if their units are paired. Returns whether they are.
-fn decode_paired(
-    pairing: &mut Pairing,
-    order: ByteOrder,
-    bytes: &[u8; 64],
-    batch: &mut Batch,
-) -> bool
+fn decode_paired(pairing: &mut Pairing, order: Order, bytes: &[u8; 64], batch: &mut Batch) -> bool
     requires { length batch.old + 128 ≤ ROOM }
     ensures text { OnTrue result
         (BatchTook batch.old (steps (utf16 (is_big order)) false pairing.old bytes.now).text batch.new) }
@@ -93,7 +88,7 @@ fn decode_paired(
 }
 
 /// Decodes the next part of a block: 64 bytes, or all if there are fewer. Returns its length.
-fn decode_some(pairing: &mut Pairing, order: ByteOrder, rest: &[u8], batch: &mut Batch) -> usize
+fn decode_some(pairing: &mut Pairing, order: Order, rest: &[u8], batch: &mut Batch) -> usize
     requires some { 0 < length rest.now }
     requires room { length batch.old + 12 * length rest.now ≤ ROOM }
     ensures some { (0 < result) × (result ≤ length rest.now) }
@@ -112,7 +107,7 @@ fn decode_some(pairing: &mut Pairing, order: ByteOrder, rest: &[u8], batch: &mut
 }
 
 /// Decodes a block, for which the batch has room.
-pub fn decode_block(pairing: &mut Pairing, order: ByteOrder, block: &[u8], batch: &mut Batch)
+pub fn decode_block(pairing: &mut Pairing, order: Order, block: &[u8], batch: &mut Batch)
     requires { length batch.old + 12 * length block.now ≤ ROOM }
     ensures text { BatchTook batch.old (steps (utf16 (is_big order)) false pairing.old block.now).text batch.new }
     ensures state { pairing.new ≡ (steps (utf16 (is_big order)) false pairing.old block.now).state }

@@ -4,7 +4,7 @@ ghost use Rattle.std.specs.Prelude.{◌≡◌, ◌<◌, ◌≤◌, length, slice
 ghost use Rattle.std.specs.Str.{IsUtf8};
 ghost use Rattle.enc_model.specs.Index.{within};
 
-use lane_kernels::ascii_prefix;
+use lane_kernels::ascii_front;
 use std::str::from_utf8_unchecked;
 
 /// Whether this is a continuation byte.
@@ -83,7 +83,7 @@ fn text_len(bytes: &[u8]) -> usize
     ensures utf8 { IsUtf8 (take result bytes.now) }
 {
     match bytes[0] {
-        0x00..=0x7F => ascii_prefix(bytes),
+        0x00..=0x7F => ascii_front(bytes),
         0xC2..=0xDF => two_len(bytes),
         0xE1..=0xEC => three_len(bytes),
         0x80..=0xC1 | 0xF5..=0xFF => 0,

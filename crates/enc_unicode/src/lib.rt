@@ -17,6 +17,6 @@ mod utf16;
 mod utf8;
 mod well_formed;
 
-pub use lane_kernels::ByteOrder;
+pub use lane_kernels::Order;
 pub use utf8::Utf8State;
 pub use utf16::Utf16State;

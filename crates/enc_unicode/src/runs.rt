@@ -15,7 +15,7 @@ ghost use Rattle.enc_unicode.specs.WroteUnits.{WroteUnits};
 
 use crate::narrow::write_narrow;
 use crate::packing::{BLOCK_CODE, write_units};
-use lane_kernels::{ByteOrder, low_first, mask_within, turned_round};
+use lane_kernels::{Order, low_first, mask_within, turned_round};
 use std::simd::prelude::*;
 
 /// How many bytes are decoded at once.
@@ -26,13 +26,13 @@ pub const CODE: usize = 2048;
 
 /// The units of 64 bytes.
 #[inline(always)]
-fn units_in(order: ByteOrder, bytes: &[u8; LANES]) -> u16x32
+fn units_in(order: Order, bytes: &[u8; LANES]) -> u16x32
     ensures { result ≡ units_of (is_big order) bytes.now }
 {
     let units = low_first(u8x64::from_array(*bytes));
     match order {
-        ByteOrder::Big => turned_round(units),
-        ByteOrder::Little => units,
+        Order::Big => turned_round(units),
+        Order::Little => units,
     }
 }
 
@@ -77,7 +77,7 @@ fn write_ascii(units: u16x32, code: &mut [u8], from: usize)
 /// surrogate.
 #[inline(always)]
 fn write_block(
-    order: ByteOrder,
+    order: Order,
     bytes: &[u8; LANES],
     code: &mut [u8; CODE],
     from: usize,
@@ -104,7 +104,7 @@ fn write_block(
 
 /// The same for the first 64 bytes, if there are as many.
 #[inline(always)]
-fn write_next(order: ByteOrder, rest: &[u8], code: &mut [u8; CODE], from: usize) -> Option<usize>
+fn write_next(order: Order, rest: &[u8], code: &mut [u8; CODE], from: usize) -> Option<usize>
     requires room { from + BLOCK_CODE ≤ CODE }
     requires utf8 { IsUtf8 (take from code.old) }
     ensures unchanged { IfNone result (code.new ≡ code.old) }
@@ -118,7 +118,7 @@ fn write_next(order: ByteOrder, rest: &[u8], code: &mut [u8; CODE], from: usize)
 }
 
 /// Decodes leading blocks without surrogates as long as there is room. Returns how many bytes were read and written.
-pub fn write_text(order: ByteOrder, bytes: &[u8], code: &mut [u8; CODE]) -> (usize, usize)
+pub fn write_text(order: Order, bytes: &[u8], code: &mut [u8; CODE]) -> (usize, usize)
     ensures read { result.0 ≤ length bytes.now }
     ensures few { result.1 ≤ CODE }
     ensures utf8 { IsUtf8 (take result.1 code.new) }

@@ -5,7 +5,7 @@ ghost use Rattle.std.specs.Bool.{OnTrue};
 ghost use Rattle.lane_kernels.specs.Orders.{is_big};
 ghost use Rattle.lane_kernels.specs.Units.{IsCarried};
 ghost use Rattle.enc_model.specs.Stream.{restored_bytes, steps};
-ghost use Rattle.enc_feed.specs.Sink.{Given};
+ghost use Rattle.enc_model.specs.Sink.{Given};
 ghost use Rattle.enc_model.specs.Utf16.{Utf16, utf16, utf16_start, utf16_unit, utf16_end};
 ghost use Rattle.enc_model.proofs.Calm.{utf16_calm};
 
@@ -13,7 +13,7 @@ use crate::blocks::decode_block;
 use crate::runs::{CODE, write_text};
 use enc_feed::{BLOCK, Batch, BlockDecoder, Decoder, Sink, feed};
 use enc_model::{Answer, Restored};
-use lane_kernels::{ByteOrder, Pairing, paired, unit_in};
+use lane_kernels::{Order, Pairing, paired, unit_in};
 use std::marker::Model;
 use std::str::from_utf8_unchecked;
 
@@ -98,12 +98,12 @@ impl Units {
 }
 
 impl Decoder for Units {
-    type Tables = ByteOrder;
+    type Tables = Order;
 
     ghost handler = { λ order. utf16 (is_big order) };
 
     #[tactic(auto, unfolding(enc_model::specs::Utf16::utf16))]
-    fn read(&mut self, order: &ByteOrder, byte: Option<u8>) -> (Answer, Restored) {
+    fn read(&mut self, order: &Order, byte: Option<u8>) -> (Answer, Restored) {
         let Some(second) = byte else {
             return (self.end(), Restored::Zero);
         };
@@ -124,11 +124,11 @@ impl Decoder for Units {
 
 impl BlockDecoder for Units {
     #[tactic(auto, using(enc_feed::proofs::Prefixes::prefix_none))]
-    fn prefix(&self, _order: &ByteOrder, _bytes: &[u8]) -> usize {
+    fn prefix(&self, _order: &Order, _bytes: &[u8]) -> usize {
         0
     }
 
-    fn decode_block(&mut self, order: &ByteOrder, block: &[u8], batch: &mut Batch) {
+    fn decode_block(&mut self, order: &Order, block: &[u8], batch: &mut Batch) {
         let mut pairing = Pairing::carrying(self.byte, self.lead);
         decode_block(&mut pairing, *order, block, batch);
         self.byte = pairing.odd();
@@ -161,7 +161,7 @@ impl Units {
     /// Decodes the next part of a piece: a run without surrogates, or a block. Returns its length.
     fn advance<S: Sink>(
         &mut self,
-        order: ByteOrder,
+        order: Order,
         rest: &[u8],
         sink: &mut S,
     ) -> Result<usize, S::Refusal>
@@ -190,7 +190,7 @@ impl Units {
     /// Decodes a piece by runs without surrogates and by blocks.
     pub fn feed_runs<S: Sink>(
         &mut self,
-        order: ByteOrder,
+        order: Order,
         piece: &[u8],
         sink: &mut S,
     ) -> Result<(), S::Refusal>

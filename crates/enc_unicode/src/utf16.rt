@@ -5,18 +5,18 @@ ghost use Rattle.enc_unicode.specs.Utf16State.{InOrder};
 ghost use Rattle.lane_kernels.specs.Orders.{is_big};
 ghost use Rattle.lane_kernels.specs.Units.{IsCarried};
 ghost use Rattle.enc_model.specs.Stream.{steps};
-ghost use Rattle.enc_feed.specs.Sink.{Given};
+ghost use Rattle.enc_model.specs.Sink.{Given};
 ghost use Rattle.enc_model.specs.Utf16.{utf16, utf16_start};
 
 use crate::units::Units;
 use enc_feed::{Sink, finish};
-use lane_kernels::ByteOrder;
+use lane_kernels::Order;
 use std::marker::Model;
 
 /// The UTF-16 decoder (Encoding Standard, section 14.2.1), in one byte order.
 #[derive(Drop)]
 pub struct Utf16State {
-    order: ByteOrder,
+    order: Order,
     units: Units,
 }
 
@@ -28,7 +28,7 @@ impl Model for Utf16State {
 
 impl Utf16State {
     /// A decoder that has read nothing.
-    pub fn new(order: ByteOrder) -> Self
+    pub fn new(order: Order) -> Self
         ensures { result ≡ record { big = is_big order; state = utf16_start } }
     {
         Utf16State {
@@ -38,7 +38,7 @@ impl Utf16State {
     }
 
     /// A decoder with this pending byte and lead surrogate.
-    pub fn in_state(order: ByteOrder, byte: Option<u8>, lead: Option<u16>) -> Self
+    pub fn in_state(order: Order, byte: Option<u8>, lead: Option<u16>) -> Self
         requires { IsCarried lead }
         ensures { result ≡ record { big = is_big order; state = record { byte = byte; lead = lead } } }
     {
@@ -49,7 +49,7 @@ impl Utf16State {
     }
 
     /// The byte order.
-    pub fn order(&self) -> ByteOrder
+    pub fn order(&self) -> Order
         ensures { is_big result ≡ self.now.big }
     {
         self.order

@@ -4,7 +4,7 @@ ghost use Rattle.std.specs.Prelude.{◌≡◌, ◌≢◌, IfSome, IfNone, IfOk, 
 ghost use Rattle.std.specs.Prelude.{◌∷◌, length, take, Some};
 ghost use Rattle.enc_unicode.specs.Utf8State.{IsUtf8State, IsUnfinishedState, utf8_after};
 ghost use Rattle.enc_model.specs.Stream.{steps};
-ghost use Rattle.enc_feed.specs.Sink.{Given};
+ghost use Rattle.enc_model.specs.Sink.{Given};
 ghost use Rattle.enc_feed.specs.Batches.{BatchTook};
 ghost use Rattle.enc_model.specs.Index.{within};
 ghost use Rattle.enc_model.specs.Utf8.{Utf8, utf8, utf8_start, utf8_first, utf8_next};

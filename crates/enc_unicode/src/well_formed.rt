@@ -6,7 +6,7 @@ ghost use Rattle.enc_unicode.specs.Looks.{IsNarrow};
 use crate::by_characters::text_before_fault;
 use crate::guesses::{FEWEST, seeming_end};
 use enc_feed::BLOCK;
-use lane_kernels::ascii_prefix;
+use lane_kernels::ascii_front;
 use simdutf8::basic;
 use std::str::from_utf8_unchecked;
 
@@ -214,7 +214,7 @@ fn window(bytes: &[u8], reach: usize) -> &[u8]
 fn ascii_text(bytes: &[u8]) -> &str
     ensures { result.now ≡ take (length result.now) bytes.now }
 {
-    let len = ascii_prefix(bytes);
+    let len = ascii_front(bytes);
     unsafe { from_utf8_unchecked(&bytes[..len]) }
 }
 

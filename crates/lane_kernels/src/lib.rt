@@ -14,9 +14,9 @@ mod units;
 pub use finder::AsciiLanes;
 pub use laws::paired_units_decode;
 pub use narrowing::narrow;
-pub use order::ByteOrder;
+pub use order::Order;
 pub use pairing::{Pairing, Step};
 pub use prefix::{
-    ascii_chunk, ascii_lanes, ascii_prefix, plain_chunk_2022, plain_prefix_2022, range_prefix,
+    ascii_chunk, ascii_front, ascii_lanes, plain_chunk_2022, plain_front_2022, range_front,
 };
 pub use units::{lead_in, low_first, mask_within, paired, scalar_prefix, turned_round, unit_in};

@@ -2,7 +2,7 @@
 
 /// Which byte of a unit comes first.
 #[derive(Clone, Copy, Debug, PartialEq, Eq)]
-pub enum ByteOrder {
+pub enum Order {
     /// The higher byte, as in UTF-16BE.
     Big,
     /// The lower byte, as in UTF-16LE.

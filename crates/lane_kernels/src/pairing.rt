@@ -10,7 +10,7 @@ ghost use Rattle.lane_kernels.specs.Units.{IsCarried, ArePaired, last_lead, lead
 ghost use Rattle.lane_kernels.specs.Units.{units_of, with_carried};
 ghost use Rattle.lane_kernels.specs.Steps.{step_text, unit_fault, unit_scalar};
 
-use crate::order::ByteOrder;
+use crate::order::Order;
 use crate::units::{are_paired, lead_in, left_after, paired, unit_in, units_after};
 use std::marker::Model;
 use std::simd::prelude::*;
@@ -76,7 +76,7 @@ impl Pairing {
     /// Makes 32 units of the carried byte, if there is one, and the 64 bytes. Returns whether they are paired, given
     /// the carried lead. If so, an odd last byte and a last lead are carried on; otherwise the state is unchanged. The
     /// units are written in both cases.
-    pub fn block(&mut self, order: ByteOrder, bytes: &[u8; 64], units: &mut [u16; 32]) -> bool
+    pub fn block(&mut self, order: Order, bytes: &[u8; 64], units: &mut [u16; 32]) -> bool
         ensures units { units.new ≡ units_of (is_big order) (with_carried self.old.byte bytes.now) }
         ensures paired { IsTrue result ↔ ArePaired self.old.lead
             (units_of (is_big order) (with_carried self.old.byte bytes.now)) }
@@ -128,7 +128,7 @@ impl Pairing {
     }
 
     /// Reads one byte as the decoder does, with restored bytes read again.
-    pub fn tail(&mut self, order: ByteOrder, byte: u8) -> Step
+    pub fn tail(&mut self, order: Order, byte: u8) -> Step
         ensures fault { IsTrue result.fault ↔ (utf16 (is_big order) self.old (Some byte)).answer ≡ Error }
         ensures text { step_text result ≡ (steps (utf16 (is_big order)) false self.old (byte ∷ [])).text }
         ensures state { self.new ≡ (steps (utf16 (is_big order)) false self.old (byte ∷ [])).state }

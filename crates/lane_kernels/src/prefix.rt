@@ -103,7 +103,7 @@ fn short_ascii_prefix(bytes: &[u8]) -> usize
 }
 
 /// The length of leading ASCII.
-pub fn ascii_prefix(bytes: &[u8]) -> usize
+pub fn ascii_front(bytes: &[u8]) -> usize
     ensures { result ≡ prefix_len is_ascii bytes.now }
 {
     let skipped = skip_long_ascii(bytes);
@@ -120,14 +120,14 @@ pub fn ascii_lanes(bytes: &[u8]) -> usize
 }
 
 /// The length of the prefix of ASCII without 0E, 0F and 1B.
-pub fn plain_prefix_2022(bytes: &[u8]) -> usize
+pub fn plain_front_2022(bytes: &[u8]) -> usize
     ensures { result ≡ prefix_len is_plain_2022 bytes.now }
 {
     prefix(&Plain2022, bytes)
 }
 
 /// The length of the prefix of bytes from `lo` to `hi`, both included. It is 0 if `hi` is below `lo`.
-pub fn range_prefix(bytes: &[u8], lo: u8, hi: u8) -> usize
+pub fn range_front(bytes: &[u8], lo: u8, hi: u8) -> usize
     ensures { result ≡ prefix_len (within lo hi) bytes.now }
 {
     prefix(&Range { lo, hi }, bytes)

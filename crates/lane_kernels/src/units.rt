@@ -10,17 +10,17 @@ ghost use Rattle.lane_kernels.specs.Units.{units_of, with_carried};
 ghost use Rattle.lane_kernels.specs.Orders.{is_big};
 
 use crate::lanes::{LANES, first_set};
-use crate::order::ByteOrder;
+use crate::order::Order;
 use std::simd::prelude::*;
 
 /// The unit of two bytes.
 #[inline(always)]
-pub fn unit_in(order: ByteOrder, first: u8, second: u8) -> u16
+pub fn unit_in(order: Order, first: u8, second: u8) -> u16
     ensures { result ≡ unit_of (is_big order) first second }
 {
     match order {
-        ByteOrder::Big => first as u16 * 256 + second as u16,
-        ByteOrder::Little => second as u16 * 256 + first as u16,
+        Order::Big => first as u16 * 256 + second as u16,
+        Order::Little => second as u16 * 256 + first as u16,
     }
 }
 
@@ -89,19 +89,19 @@ pub fn turned_round(units: u16x32) -> u16x32
 
 /// The units of 64 bytes.
 #[inline(always)]
-fn units_in(order: ByteOrder, bytes: u8x64) -> u16x32
+fn units_in(order: Order, bytes: u8x64) -> u16x32
     ensures { result ≡ units_of (is_big order) bytes }
 {
     let units = low_first(bytes);
     match order {
-        ByteOrder::Big => turned_round(units),
-        ByteOrder::Little => units,
+        Order::Big => turned_round(units),
+        Order::Little => units,
     }
 }
 
 /// The units of the first 64 bytes, with the carried byte before them.
 #[inline(always)]
-pub(crate) fn units_after(order: ByteOrder, odd: Option<u8>, bytes: &[u8; 64]) -> u16x32
+pub(crate) fn units_after(order: Order, odd: Option<u8>, bytes: &[u8; 64]) -> u16x32
     ensures { result ≡ units_of (is_big order) (take 64 (with_carried odd bytes.now)) }
 {
     match odd {

@@ -8,7 +8,7 @@ use Rattle.enc_encode.proofs.ascii_start.are_ascii.Goals as goal
 pub returns : goal.returns
 returns c =
     let bytes = c.args.bytes.now in
-    let prefix = c.ascii_prefix.ensures in
+    let prefix = c.ascii_front.ensures in
     OnTrue_from _ _ (λ e.
-    let whole : c.ascii_prefix.result ≡ length bytes = grind (arith, nat_tests, e) in
+    let whole : c.ascii_front.result ≡ length bytes = grind (arith, nat_tests, e) in
     subst (All (λ b. b < 128)) (ap (λ n. take n bytes) (sym prefix ∙ whole) ∙ take-length bytes) (prefix_all bytes))

@@ -1,5 +1,5 @@
 use Rattle.std.proofs.Common.{refl}
-use Rattle.enc_feed.proofs.Feeding.{given_err}
+use Rattle.enc_model.proofs.Sinks.{given_err}
 use Rattle.enc_feed.proofs.Parts.{read_begins, read_more, read_refused}
 use Rattle.enc_feed.proofs.by_blocks.feed_blocks.Goals as goal
 

@@ -1,6 +1,7 @@
 use Rattle.std.proofs.Common.{◌-◌, ◌≡◌, suc, arith}
 use Rattle.enc_model.specs.Stream.{points_of}
-use Rattle.enc_feed.proofs.Feeding.{given_err, end_given, end_refused, end_state, on_ok_err}
+use Rattle.enc_feed.proofs.Feeding.{end_given, end_refused, end_state, on_ok_err}
+use Rattle.enc_model.proofs.Sinks.{given_err}
 use Rattle.enc_feed.proofs.by_bytes.+finish_within.Goals as goal
 
 pub returns-in_err-emit : goal.returns-in_err-emit

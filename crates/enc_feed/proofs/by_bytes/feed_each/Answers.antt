@@ -1,6 +1,7 @@
 use Rattle.std.proofs.Common.{ap, sym, ◌+◌, Ok, Err, Result, ℕ}
 use Rattle.enc_model.proofs.Steps.{steps_none}
-use Rattle.enc_feed.proofs.Feeding.{given_err, feed_begins, feed_byte, feed_refused, state_byte}
+use Rattle.enc_feed.proofs.Feeding.{feed_begins, feed_byte, feed_refused, state_byte}
+use Rattle.enc_model.proofs.Sinks.{given_err}
 use Rattle.enc_feed.proofs.by_bytes.feed_each.Goals as goal
 
 pub loop-byte-init : goal.loop-byte-init

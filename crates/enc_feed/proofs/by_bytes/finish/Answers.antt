@@ -1,5 +1,5 @@
 use Rattle.std.proofs.Common.{subst, sym}
-use Rattle.enc_feed.specs.Sink.{Given}
+use Rattle.enc_model.specs.Sink.{Given}
 use Rattle.enc_model.proofs.Steps.{steps_end}
 use Rattle.enc_feed.proofs.Feeding.{end_over}
 use Rattle.enc_feed.proofs.by_bytes.finish.Goals as goal

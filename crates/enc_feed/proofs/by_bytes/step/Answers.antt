@@ -1,4 +1,5 @@
-use Rattle.enc_feed.proofs.Feeding.{given_err, step_refused, step_rest, step_over}
+use Rattle.enc_feed.proofs.Feeding.{step_refused, step_rest, step_over}
+use Rattle.enc_model.proofs.Sinks.{given_err}
 use Rattle.enc_model.specs.Stream.{restored_bytes}
 use Rattle.enc_feed.proofs.by_bytes.step.Goals as goal
 

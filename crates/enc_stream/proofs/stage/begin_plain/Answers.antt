@@ -1,7 +1,7 @@
 use Rattle.std.proofs.Common.{false, ℕ, Result, Ok}
 use Rattle.enc_model.specs.Decode.{decoding_start}
 use Rattle.enc_model.specs.Indexes.{tables}
-use Rattle.enc_feed.proofs.Feeding.{given_err}
+use Rattle.enc_model.proofs.Sinks.{given_err}
 use Rattle.enc_stream.specs.AnyDecoder.{decoding_of}
 use Rattle.enc_stream.specs.Sniff.{held_bytes}
 use Rattle.enc_stream.proofs.Given.{given_both, given_refused, state_both}

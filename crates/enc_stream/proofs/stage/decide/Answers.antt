@@ -2,7 +2,7 @@ use Rattle.std.proofs.Common.{ℕ, ◌-◌, List, ◌++◌, refl, sym, ◌∙◌
 use Rattle.std.proofs.lemmas.List.{take_rest}
 use Rattle.enc_model.specs.Indexes.{tables}
 use Rattle.enc_model.specs.Transcode.{FedText, During, Before}
-use Rattle.enc_feed.proofs.Feeding.{given_err}
+use Rattle.enc_model.proofs.Sinks.{given_err}
 use Rattle.enc_stream.specs.Sniff.{held_bytes}
 use Rattle.enc_stream.proofs.Fed.{fed_held, fed_sniffed}
 use Rattle.enc_stream.proofs.stage.decide.Goals as goal

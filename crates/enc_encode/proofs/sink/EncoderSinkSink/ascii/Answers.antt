@@ -1,6 +1,6 @@
 use Rattle.std.proofs.Common.{subst}
 use Rattle.enc_model.specs.Indexes.{tables}
-use Rattle.enc_feed.specs.Sink.{Given}
+use Rattle.enc_model.specs.Sink.{Given}
 use Rattle.enc_encode.specs.Sinks.{SinkTook, SinkRefused}
 use Rattle.enc_encode.proofs.Given.{given_sink}
 use Rattle.enc_encode.proofs.sink.EncoderSinkSink.ascii.Goals as goal

@@ -5,5 +5,5 @@ use Rattle.enc_legacy.proofs.shift_jis.ShiftJisStatePairDecoder.ascii.Goals as g
 
 pub returns-then-self-eq0 : goal.returns-then-self-eq0
 returns-then-self-eq0 c =
-    sjis_prefix (tables c.args._indexes.now).jis0208 c.args.self.now c.args.bytes.now c.ascii_prefix.result
-    (sym c.self.view_is ∙ c.if-self-eq0.true) c.ascii_prefix.ensures
+    sjis_prefix (tables c.args._indexes.now).jis0208 c.args.self.now c.args.bytes.now c.ascii_front.result
+    (sym c.self.view_is ∙ c.if-self-eq0.true) c.ascii_front.ensures

@@ -1,7 +1,8 @@
 use Rattle.std.proofs.Common.{refl, take, arith}
 use Rattle.std.proofs.lemmas.Grind.{common_steps}
 use Rattle.enc_model.specs.Indexes.{tables}
-use Rattle.enc_feed.proofs.Feeding.{given_err, feed_begins}
+use Rattle.enc_feed.proofs.Feeding.{feed_begins}
+use Rattle.enc_model.proofs.Sinks.{given_err}
 use Rattle.enc_feed.proofs.Parts.{part_taken, part_refused}
 use Rattle.enc_legacy.specs.Singles.{single_in}
 use Rattle.enc_legacy.specs.SinglesCalm.{single_in_calm}

@@ -1,7 +1,7 @@
 use Rattle.std.proofs.Common.{refl}
 use Rattle.lane_kernels.specs.Orders.{is_big}
 use Rattle.enc_model.proofs.Calm.{utf16_calm}
-use Rattle.enc_feed.proofs.Feeding.{given_err}
+use Rattle.enc_model.proofs.Sinks.{given_err}
 use Rattle.enc_feed.proofs.Parts.{read_begins, read_more, read_refused}
 use Rattle.enc_unicode.proofs.units.Units.feed_runs.Goals as goal
 

@@ -1,6 +1,6 @@
 use Rattle.std.proofs.Common.{refl}
 use Rattle.enc_model.proofs.Calm.{utf8_calm}
-use Rattle.enc_feed.proofs.Feeding.{given_err}
+use Rattle.enc_model.proofs.Sinks.{given_err}
 use Rattle.enc_feed.proofs.Parts.{read_begins, read_more, read_refused}
 use Rattle.enc_unicode.proofs.utf8.Utf8State.feed_parts.Goals as goal
 

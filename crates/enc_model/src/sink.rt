@@ -2,7 +2,7 @@
 
 ghost use Rattle.std.specs.Prelude.{ℕ, ◌<◌, List, [], ◌∷◌, All};
 ghost use Rattle.std.specs.Str.{chars};
-ghost use Rattle.enc_feed.specs.Sink.{Given, IsSink};
+ghost use Rattle.enc_model.specs.Sink.{Given, IsSink};
 
 /// A taker of decoded text.
 pub trait Sink {

@@ -4,8 +4,8 @@ use Rattle.std.proofs.lemmas.Iterator.Consumers.{YieldsList-so_far, YieldsList-t
 use Rattle.std.proofs.lemmas.List.{map-id, take-append-drop}
 use Rattle.std.proofs.Math.Seq.{drop-cons}
 use Rattle.std.specs.Str.{chars}
-use Rattle.enc_feed.proofs.Feeding.{given_err}
-use Rattle.enc_feed.proofs.sink.Sink.text.Goals as goal
+use Rattle.enc_model.proofs.Sinks.{given_err}
+use Rattle.enc_model.proofs.sink.Sink.text.Goals as goal
 
 pub returns-in_err-put : goal.returns-in_err-put
 returns-in_err-put g c =

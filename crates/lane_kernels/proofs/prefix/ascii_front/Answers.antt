@@ -2,7 +2,7 @@ use Rattle.std.proofs.Common.{◌+◌, ◌≤◌, length, arith, rules}
 use Rattle.std.proofs.lemmas.Grind.{common_steps}
 use Rattle.std.specs.Char.{is_ascii}
 use Rattle.lane_kernels.proofs.Prefixes.{passes_within}
-use Rattle.lane_kernels.proofs.prefix.ascii_prefix.Goals as goal
+use Rattle.lane_kernels.proofs.prefix.ascii_front.Goals as goal
 
 pub overflow_add-result : goal.overflow_add-result
 overflow_add-result c =
