@@ -1,11 +1,10 @@
 //! The blocks of each slot, linked from the highest ordinal down.
 ghost use Rattle.std.specs.Prelude.{◌≡◌, ◌≤◌, ◌<◌, ◌+◌, ℕ, List, Option, None, Some, IsNone, length, get_or, slice_set};
 ghost use Rattle.std.specs.Prelude.{replicate, IfOk, IfSome};
-ghost use Rattle.spool_blocks.specs.Blocks.{Row, slot_count, IsWholeText};
+ghost use Rattle.spool_blocks.specs.Blocks.{Row, slot_count, IsWholeText, IsInOrder};
 ghost use Rattle.spool_blocks.specs.Chains.{Owns, rank, Linked, Taken};
 
 use crate::link::Link;
-use crate::lists::fill;
 use crate::{BlockNo, Row};
 use common::{MOST_BLOCKS, SLOTS};
 use std::alloc::{AllocError, Global};
@@ -89,17 +88,24 @@ impl Chains {
         Some(block)
     }
 
-    /// The slot's blocks by ordinal, if its n blocks have the ordinals 0 to n - 1. One step for each block.
+    /// The slot's blocks by ordinal, and those of one ordinal by number. One step for each block: the links lead from
+    /// the highest down, so the list is filled from its end.
     pub(crate) fn list_of(&self, alloc: Global, slot: u32) -> Result<Vec<BlockNo>, AllocError>
         requires { slot < SLOTS }
         ensures size { IfOk result (λ list. length list.items ≡ slot_count slot self.now) }
         ensures listed { IfOk result
             (λ list. (i : ℕ) → i < length list.items → IsWholeText slot self.now
             → Owns self.now (get_or list.items i 0) slot i) }
+        ensures ordered { IfOk result (λ list. IsInOrder slot self.now list.items) }
     {
-        let at = slot as usize;
-        let mut list = vec![in alloc; 0; self.counts[at] as usize]?;
-        fill(&self.rows, &self.below, self.tops[at], slot, &mut list);
+        let mut at = self.counts[slot as usize] as usize;
+        let mut list = vec![in alloc; 0; at]?;
+        let mut next = self.tops[slot as usize];
+        while let Some(block) = next {
+            at -= 1;
+            list[at] = block;
+            next = self.below[block as usize].block();
+        }
         Ok(list)
     }
 }

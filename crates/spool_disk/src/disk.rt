@@ -37,6 +37,10 @@ pub trait Disk {
     /// after it.
     ghost fails_by: { Type 0 → Self → Self → Type 0 };
 
+    /// What a write leaves, as far as this kind of disk specifies more than `writes` does: where the write begins, its
+    /// bytes, the disk before it and after it.
+    ghost leaves: { ℕ → List ℕ → Self → Self → Type 0 } = { λ at bytes old new. Unit {0} };
+
     /// The number of bytes.
     fn len(&self) -> u64
         ensures { result ≡ size self.now };
@@ -71,7 +75,8 @@ pub trait Disk {
             (left_since self.new) (current self.new) (unsynced self.new) }
         ensures counts { Counts (IsErr result) (failures self.old) (failures self.new) }
         ensures reads { reads self.new ≡ reads self.old }
-        ensures fails_by { fails_by (IsErr result) self.old self.new };
+        ensures fails_by { fails_by (IsErr result) self.old self.new }
+        ensures leaves { leaves at bytes.now self.old self.new };
 
     /// Makes all writes so far durable: after a sync that succeeds, the only crash image is what a read gives. After
     /// one that fails, a read may give any of the crash images.

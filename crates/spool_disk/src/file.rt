@@ -36,7 +36,11 @@ impl PositionedDisk<SystemFile> {
     /// # Errors
     ///
     /// `DiskFault` for any error of the file system, and if another disk has the file's lock.
-    pub fn create<R: Files<File = File>>(rt: &R, path: &str, len: u64) -> Result<Self, DiskFault>
+    pub fn create<R: Files<File = File> + Alloc>(
+        rt: &R,
+        path: &str,
+        len: u64,
+    ) -> Result<Self, DiskFault>
         ensures len { IfOk result (λ disk. length_of disk ≡ len) }
         ensures none { IfOk result (λ disk. failed_in disk ≡ 0) }
         ensures made { IfOk result (λ disk. (found : ℕ) × (calls_in disk ≡ calls_to_make found len)) }
@@ -58,7 +62,11 @@ impl PositionedDisk<SystemFile> {
     }
 
     /// As `create`, with the system's error: `ResourceBusy` if another disk has the file's lock.
-    pub fn try_create<R: Files<File = File>>(rt: &R, path: &str, len: u64) -> io::Result<Self>
+    pub fn try_create<R: Files<File = File> + Alloc>(
+        rt: &R,
+        path: &str,
+        len: u64,
+    ) -> io::Result<Self>
         ensures len { IfOk result (λ disk. length_of disk ≡ len) }
         ensures none { IfOk result (λ disk. failed_in disk ≡ 0) }
         ensures made { IfOk result (λ disk. (found : ℕ) × (calls_in disk ≡ calls_to_make found len)) }

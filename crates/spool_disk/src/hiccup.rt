@@ -1,6 +1,7 @@
 //! A disk with a single failing call.
-ghost use Rattle.std.specs.Prelude.{◌≡◌, ◌≤◌, ◌+◌, ◌↔◌, Some, None, IsErr, OnOk, OnErr, ℕ, length};
+ghost use Rattle.std.specs.Prelude.{◌≡◌, ◌≤◌, ◌+◌, ◌↔◌, Some, None, IsErr, OnOk, OnErr, ℕ, length, replicate};
 ghost use Rattle.spool_disk.specs.Disk.{Counts, Elapses, Writes};
+ghost use Rattle.spool_disk.specs.Hiccup.{Fills};
 
 use crate::{CrashDisk, Disk, DiskFault};
 
@@ -9,6 +10,10 @@ const FILLED: usize = 65536;
 
 /// A disk with one failing call; all others pass to the inner disk. `len` doesn't count as a call. If a byte is given,
 /// a failing write fills its range with that byte, or the first 65,536 bytes of a longer range.
+///
+/// `write_at` states what a failing write leaves (`leaves`): without a byte the inner disk as it was; with one, on an
+/// honest disk, the filled range and nothing else changed. The exception is an inner disk that fails at this write too:
+/// its failures grow by one, and what should be filled may hold anything.
 #[derive(Drop)]
 pub struct HiccupDisk<D> {
     inner: D,
@@ -83,6 +88,8 @@ fn scrawl<D: Disk>(disk: &mut D, at: u64, bytes: &[u8], filler: &[u8])
     ensures writes { D.honest disk.old → Writes at bytes.now ⊥ (D.current disk.old) (D.current disk.new)
         (D.unsynced disk.old)
         (D.unsynced disk.new) }
+    ensures fills { D.honest disk.old → (byte : ℕ) → filler.now ≡ replicate FILLED byte
+        → Fills D.Disk at (length bytes.now) byte disk.old disk.new }
     ensures time { D.honest disk.old → Elapses (D.moment disk.old) (D.moment disk.new) (D.left_since disk.old)
         (D.left_since disk.new) (D.current disk.new) (D.unsynced disk.new) }
     ensures later { D.failures disk.old ≤ D.failures disk.new }
@@ -94,7 +101,7 @@ fn scrawl<D: Disk>(disk: &mut D, at: u64, bytes: &[u8], filler: &[u8])
 }
 
 impl<D: Disk> Disk for HiccupDisk<D> {
-    ghost use Rattle.spool_disk.specs.Hiccup.{Waits, within_of, missed_of};
+    ghost use Rattle.spool_disk.specs.Hiccup.{Leaves, Waits, within_of, wait_of, missed_of};
 
     ghost size = { λ d. D.size (within_of d) };
 
@@ -113,6 +120,8 @@ impl<D: Disk> Disk for HiccupDisk<D> {
     ghost reads = { λ d. D.reads (within_of d) };
 
     ghost fails_by = { λ failed old new. Waits (D.fails_by failed) failed old new };
+
+    ghost leaves = { λ at bytes old new. wait_of old ≡ Some 0 → Leaves D.Disk at (length bytes) old new };
 
     ghost counts_now = { λ d. D.counts_now (within_of d) };
 

@@ -66,7 +66,7 @@ impl MemoryDisk {
         } = self;
         tear(&mut written, &synced, &unsynced, kind);
         synced.copy_from_slice(&written);
-        wipe(&mut unsynced);
+        unsynced.fill(false);
         MemoryDisk {
             synced,
             written,
@@ -96,24 +96,13 @@ fn tear(written: &mut [u8], synced: &[u8], unsynced: &[bool], kind: Crash)
     }
 }
 
-// Removes all marks.
-fn wipe(marks: &mut [bool])
-    ensures { (p : ℕ) → get_or marks.new p false ≡ false }
-{
-    for mark in marks.iter_mut() {
-        *mark = false;
-    }
-}
-
 // Copies bytes to a place.
 fn put(into: &mut [u8], at: usize, bytes: &[u8])
     requires { at + length bytes.now ≤ length into.old }
     ensures outside { (p : ℕ) → (In at (length bytes.now) p → ⊥) → get_or into.new p 0 ≡ get_or into.old p 0 }
     ensures inside { (k : ℕ) → k < length bytes.now → get_or into.new (at + k) 0 ≡ get_or bytes.now k 0 }
 {
-    for i in 0..bytes.len() {
-        into[at + i] = bytes[i];
-    }
+    into[at..at + bytes.len()].copy_from_slice(bytes);
 }
 
 // Marks n places from `at` on.
@@ -122,9 +111,7 @@ fn mark(marks: &mut [bool], at: usize, n: usize)
     ensures outside { (p : ℕ) → (In at n p → ⊥) → get_or marks.new p false ≡ get_or marks.old p false }
     ensures all { (k : ℕ) → k < n → get_or marks.new (at + k) false ≡ true }
 {
-    for i in 0..n {
-        marks[at + i] = true;
-    }
+    marks[at..at + n].fill(true);
 }
 
 impl Disk for MemoryDisk {
@@ -173,7 +160,7 @@ impl Disk for MemoryDisk {
 
     fn sync(&mut self) -> Result<(), DiskFault> {
         self.synced.copy_from_slice(&self.written);
-        wipe(&mut self.unsynced);
+        self.unsynced.fill(false);
         Ok(())
     }
 }

@@ -5,7 +5,7 @@ ghost use Rattle.spool_disk.specs.Positioned.{made, opened};
 
 use crate::{FileCall, Made, Positioned};
 use common::Trace;
-use std::fs::{File, Files, OpenOptions, TryLockError};
+use std::fs::{self, File, Files, OpenOptions, TryLockError};
 use std::io;
 use std::os::unix::fs::FileExt;
 use std::path::Path;
@@ -77,8 +77,12 @@ impl SystemFile {
         }
     }
 
-    /// Syncs the folder of the path at which the file was opened, so that the file's name is durable.
-    pub fn sync_folder<R: Files<File = File>>(&mut self, rt: &R, path: &str) -> io::Result<()>
+    /// Syncs the folder of the file that the path leads to, through links, so that the file's name is durable.
+    pub fn sync_folder<R: Files<File = File> + Alloc>(
+        &mut self,
+        rt: &R,
+        path: &str,
+    ) -> io::Result<()>
         ensures { calls_of self.new ≡ made FileCall.SyncFolder [] (is_ok result) ∷ calls_of self.old }
     {
         let outcome = sync_folder_of(rt, path);
@@ -89,12 +93,10 @@ impl SystemFile {
     }
 }
 
-// Syncs the folder of the path.
-fn sync_folder_of<R: Files<File = File>>(rt: &R, path: &str) -> io::Result<()> {
-    let folder = match Path::new(path).parent() {
-        Some(parent) if !parent.as_str().is_empty() => parent,
-        _ => Path::new("."),
-    };
+// Syncs the folder of the file that the path leads to. Where the path is a link, that is not the link's own folder.
+fn sync_folder_of<R: Files<File = File> + Alloc>(rt: &R, path: &str) -> io::Result<()> {
+    let target = fs::canonicalize(rt, path)?;
+    let folder = target.parent().unwrap_or(Path::new("/"));
     File::open(rt, folder)?.sync_all()
 }
 

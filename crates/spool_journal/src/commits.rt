@@ -5,15 +5,16 @@ ghost use Rattle.spool_disk.specs.Views.{Lasts};
 ghost use Rattle.spool_journal.specs.Image.{journal_pages, all_pages, replayed, laid, page_number, InArea, Ascends};
 ghost use Rattle.spool_journal.specs.Phases.{Idle, IsBefore, ReadsAs, Matches, Placing, Upto, Settled};
 
+use crate::layout::JOURNAL_PAGE;
 use crate::places::{close_gate, open_gate, place_pages};
 use crate::staging::stage;
 use crate::syncs::sync_places;
-use crate::{Layout, PAGE, Pages};
+use crate::{HEAD, Layout, PAGE, Pages};
 use spool_disk::{Disk, DiskFault};
 
 // Writes the pages to their places, and closes the gate.
 fn finish<D: Disk>(disk: &mut D, items: &[(u32, [u8; PAGE])]) -> Result<(), DiskFault>
-    requires gate { 8192 ≤ D.size disk.old }
+    requires gate { HEAD ≤ D.size disk.old }
     requires room { (k : ℕ) → k < length items.now → PAGE * (page_number items.now k + 1) ≤ D.size disk.old }
     ensures size { D.size disk.new ≡ D.size disk.old }
     ensures honest { D.honest disk.old ↔ D.honest disk.new }
@@ -40,7 +41,7 @@ fn commit_items<D: Disk>(
     requires bound { journal ≤ 385 }
     requires some { 1 ≤ length items.now }
     requires few { length items.now ≤ 385 }
-    requires staged { PAGE * (3 + length items.now) ≤ D.size disk.old }
+    requires staged { PAGE * (JOURNAL_PAGE + length items.now) ≤ D.size disk.old }
     requires room { (k : ℕ) → k < length items.now → PAGE * (page_number items.now k + 1) ≤ D.size disk.old }
     ensures size { D.size disk.new ≡ D.size disk.old }
     ensures honest { D.honest disk.old ↔ D.honest disk.new }

@@ -6,12 +6,12 @@ ghost use Rattle.spool_journal.specs.Image.{count, journal_number, content, repl
 ghost use Rattle.spool_journal.specs.Phases.{IsBefore, ReadsAs, Ready, Opened, Matches, Placing, Upto, PagesPlaced};
 ghost use Rattle.spool_journal.specs.Phases.{Settled};
 
-use crate::{GATE, PAGE};
+use crate::{GATE, HEAD, OPEN, PAGE};
 use spool_disk::{Disk, DiskFault};
 
 /// Opens the gate and syncs. From here on the commit is durable.
 pub(crate) fn open_gate<D: Disk>(disk: &mut D) -> Result<(), DiskFault>
-    requires { 8192 ≤ D.size disk.old }
+    requires { HEAD ≤ D.size disk.old }
     ensures size { D.size disk.new ≡ D.size disk.old }
     ensures honest { D.honest disk.old ↔ D.honest disk.new }
     ensures counts { Counts (IsErr result) (D.failures disk.old) (D.failures disk.new) }
@@ -23,7 +23,7 @@ pub(crate) fn open_gate<D: Disk>(disk: &mut D) -> Result<(), DiskFault>
         → Ready j pages was (D.current disk.old) (D.unsynced disk.old) → Lasts D.Disk disk.old disk.new
         (λ image. IsBefore j was (D.unsynced disk.old) image ⊎ ReadsAs j image (laid pages was)) }
 {
-    disk.write_at(GATE, &[165])?;
+    disk.write_at(GATE, &[OPEN])?;
     disk.sync()
 }
 
@@ -76,7 +76,7 @@ pub(crate) fn place_pages<D: Disk>(
 
 /// Closes the gate and syncs.
 pub(crate) fn close_gate<D: Disk>(disk: &mut D) -> Result<(), DiskFault>
-    requires { 8192 ≤ D.size disk.old }
+    requires { HEAD ≤ D.size disk.old }
     ensures size { D.size disk.new ≡ D.size disk.old }
     ensures honest { D.honest disk.old ↔ D.honest disk.new }
     ensures counts { Counts (IsErr result) (D.failures disk.old) (D.failures disk.new) }

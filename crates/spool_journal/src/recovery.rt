@@ -8,10 +8,10 @@ ghost use Rattle.spool_journal.specs.Image.{journal_pages, all_pages, replayed, 
 ghost use Rattle.spool_journal.specs.Image.{count, journal_number, InForm};
 ghost use Rattle.spool_journal.specs.Phases.{Idle, ReadsAs, Still, Placing, Upto, Settled, HeadOf};
 
-use crate::layout::{area_end, metadata_page};
+use crate::layout::{JOURNAL_PAGE, area_end, metadata_page};
 use crate::places::{close_gate, place};
 use crate::syncs::sync_places;
-use crate::{GATE, Layout, PAGE, RecoverError};
+use crate::{GATE, HEAD, JOURNAL, Layout, OPEN, PAGE, RecoverError};
 use spool_disk::{Disk, DiskFault};
 
 // Syncs, so that what a read gives can't change any more.
@@ -31,32 +31,32 @@ fn settle<D: Disk>(disk: &mut D) -> Result<(), DiskFault>
 // Whether the gate is open.
 #[tactic(auto, using(crate::proofs::Recovers::gate_is))]
 fn is_open<D: Disk>(disk: &mut D) -> Result<bool, DiskFault>
-    requires { 8192 ≤ D.size disk.old }
+    requires { HEAD ≤ D.size disk.old }
     ensures size { D.size disk.new ≡ D.size disk.old }
     ensures honest { D.honest disk.old ↔ D.honest disk.new }
     ensures counts { Counts (IsErr result) (D.failures disk.old) (D.failures disk.new) }
     ensures given { IfOk result (λ shown. (gate : ℕ)
-        × (D.reads disk.new ≡ given PAGE (gate ∷ []) ∷ D.reads disk.old) × (shown ≡ (gate == 165))) }
+        × (D.reads disk.new ≡ given PAGE (gate ∷ []) ∷ D.reads disk.old) × (shown ≡ (gate == OPEN))) }
     ensures none { OnErr result (D.reads disk.new ≡ D.reads disk.old) }
     ensures still { D.honest disk.old → (bytes : ℕ → ℕ) → Still bytes (D.current disk.old) (D.unsynced disk.old)
         → Still bytes (D.current disk.new) (D.unsynced disk.new) }
     ensures open { D.honest disk.old → (bytes : ℕ → ℕ) → Still bytes (D.current disk.old) (D.unsynced disk.old)
-        → IfOk result (λ shown. shown ≡ (bytes PAGE == 165)) }
+        → IfOk result (λ shown. shown ≡ (bytes PAGE == OPEN)) }
     ensures lasts { D.honest disk.old → (bytes : ℕ → ℕ) → Still bytes (D.current disk.old) (D.unsynced disk.old)
         → Lasts D.Disk disk.old disk.new (λ image. (p : ℕ) → image p ≡ bytes p) }
 {
     let mut gate = [0];
     disk.read(GATE, &mut gate)?;
-    Ok(gate[0] == 165)
+    Ok(gate[0] == OPEN)
 }
 
 // Reads the journal's head.
 fn read_head<D: Disk>(disk: &mut D, head: &mut [u8; PAGE]) -> Result<(), DiskFault>
-    requires { 12288 ≤ D.size disk.old }
+    requires { JOURNAL ≤ D.size disk.old }
     ensures size { D.size disk.new ≡ D.size disk.old }
     ensures honest { D.honest disk.old ↔ D.honest disk.new }
     ensures counts { Counts (IsErr result) (D.failures disk.old) (D.failures disk.new) }
-    ensures reads { ReadsOnce (Between 8192 12288) (D.reads disk.old) (D.reads disk.new) }
+    ensures reads { ReadsOnce (Between HEAD JOURNAL) (D.reads disk.old) (D.reads disk.new) }
     ensures still { D.honest disk.old → (bytes : ℕ → ℕ) → Still bytes (D.current disk.old) (D.unsynced disk.old)
         → Still bytes (D.current disk.new) (D.unsynced disk.new) }
     ensures head { D.honest disk.old → (bytes : ℕ → ℕ) → Still bytes (D.current disk.old) (D.unsynced disk.old)
@@ -66,7 +66,7 @@ fn read_head<D: Disk>(disk: &mut D, head: &mut [u8; PAGE]) -> Result<(), DiskFau
     ensures gave { (bytes : ℕ → ℕ) → ReadsGave bytes (D.reads disk.old) (D.reads disk.new)
         → OnOk result (HeadOf bytes head.new) }
 {
-    disk.read(8192, head)
+    disk.read(HEAD, head)
 }
 
 // The number in four bytes, the highest first.
@@ -75,10 +75,7 @@ fn get_word(head: &[u8; PAGE], at: usize) -> u32
     requires { at + 4 ≤ PAGE }
     ensures { result ≡ word (byte_of head.now) at }
 {
-    head[at] as u32 * 16777216
-        + head[at + 1] as u32 * 65536
-        + head[at + 2] as u32 * 256
-        + head[at + 3] as u32
+    u32::from_be_bytes([head[at], head[at + 1], head[at + 2], head[at + 3]])
 }
 
 // Whether the journal's head is valid.
@@ -117,7 +114,7 @@ fn copy_page<D: Disk>(disk: &mut D, from: u32, to: u32) -> Result<(), DiskFault>
         (D.unsynced disk.new) }
     ensures upto { D.honest disk.old → (j i : ℕ) (opened : ℕ → ℕ) → Placing j opened (D.current disk.old)
         (D.unsynced disk.old) → Upto opened (D.current disk.old) i → i < count opened → journal_number opened i ≡ to
-        → from ≡ 3 + i
+        → from ≡ JOURNAL_PAGE + i
         → OnOk result (Upto opened (D.current disk.new) (i + 1)) }
     ensures lasts { D.honest disk.old → (j i : ℕ) → j ≤ 385 → (opened : ℕ → ℕ)
         → Placing j opened (D.current disk.old) (D.unsynced disk.old) → i < count opened → journal_number opened i ≡ to
@@ -136,7 +133,8 @@ fn replay<D: Disk>(disk: &mut D, head: &[u8; PAGE], journal: u32) -> Result<(), 
     ensures size { D.size disk.new ≡ D.size disk.old }
     ensures honest { D.honest disk.old ↔ D.honest disk.new }
     ensures counts { Counts (IsErr result) (D.failures disk.old) (D.failures disk.new) }
-    ensures reads { ReadsOnce (Between 12288 (PAGE * (3 + journal))) (D.reads disk.old) (D.reads disk.new) }
+    ensures reads { ReadsOnce (Between JOURNAL (PAGE * (JOURNAL_PAGE + journal))) (D.reads disk.old)
+        (D.reads disk.new) }
     ensures placing { D.honest disk.old → (opened : ℕ → ℕ) → HeadOf opened head.now
         → Placing journal opened (D.current disk.old) (D.unsynced disk.old)
         → Placing journal opened (D.current disk.new)
@@ -151,7 +149,7 @@ fn replay<D: Disk>(disk: &mut D, head: &[u8; PAGE], journal: u32) -> Result<(), 
     let count = get_word(head, 0);
     for k in 0..count {
         let number = get_word(head, 4 + 4 * k as usize);
-        copy_page(disk, 3 + k, number)?;
+        copy_page(disk, JOURNAL_PAGE + k, number)?;
     }
     Ok(())
 }
@@ -164,12 +162,13 @@ fn replay_all<D: Disk>(disk: &mut D, head: &[u8; PAGE], journal: u32) -> Result<
     ensures size { D.size disk.new ≡ D.size disk.old }
     ensures honest { D.honest disk.old ↔ D.honest disk.new }
     ensures counts { Counts (IsErr result) (D.failures disk.old) (D.failures disk.new) }
-    ensures reads { ReadsOnce (Between 12288 (PAGE * (3 + journal))) (D.reads disk.old) (D.reads disk.new) }
+    ensures reads { ReadsOnce (Between JOURNAL (PAGE * (JOURNAL_PAGE + journal))) (D.reads disk.old)
+        (D.reads disk.new) }
     ensures settled { D.honest disk.old → (bytes : ℕ → ℕ) → HeadOf bytes head.now
-        → Still bytes (D.current disk.old) (D.unsynced disk.old) → bytes PAGE ≡ 165
+        → Still bytes (D.current disk.old) (D.unsynced disk.old) → bytes PAGE ≡ OPEN
         → OnOk result (Settled journal (replayed bytes) (D.current disk.new) (D.unsynced disk.new)) }
     ensures lasts { D.honest disk.old → (bytes : ℕ → ℕ) → HeadOf bytes head.now
-        → Still bytes (D.current disk.old) (D.unsynced disk.old) → bytes PAGE ≡ 165
+        → Still bytes (D.current disk.old) (D.unsynced disk.old) → bytes PAGE ≡ OPEN
         → Lasts D.Disk disk.old disk.new (λ image. ReadsAs journal image (replayed bytes)) }
 {
     replay(disk, head, journal)?;
@@ -181,19 +180,21 @@ fn replay_all<D: Disk>(disk: &mut D, head: &[u8; PAGE], journal: u32) -> Result<
 fn mend<D: Disk>(disk: &mut D, journal: u32) -> Result<(), RecoverError>
     requires few { journal ≤ 385 }
     requires room { PAGE * area_end journal ≤ D.size disk.old }
-    requires page { 12288 ≤ D.size disk.old }
+    requires page { JOURNAL ≤ D.size disk.old }
     ensures size { D.size disk.new ≡ D.size disk.old }
     ensures honest { D.honest disk.old ↔ D.honest disk.new }
     ensures counts { Counts (result ≡ Err RecoverError.DiskFault) (D.failures disk.old) (D.failures disk.new) }
-    ensures reads { ReadsOnce (Between 8192 (PAGE * (3 + journal))) (D.reads disk.old) (D.reads disk.new) }
+    ensures reads { ReadsOnce (Between HEAD (PAGE * (JOURNAL_PAGE + journal))) (D.reads disk.old)
+        (D.reads disk.new) }
     ensures settled { D.honest disk.old → (bytes : ℕ → ℕ) → Still bytes (D.current disk.old) (D.unsynced disk.old)
-        → bytes PAGE ≡ 165 → OnOk result (Settled journal (replayed bytes) (D.current disk.new) (D.unsynced disk.new)) }
+        → bytes PAGE ≡ OPEN
+        → OnOk result (Settled journal (replayed bytes) (D.current disk.new) (D.unsynced disk.new)) }
     ensures form { D.honest disk.old → (bytes : ℕ → ℕ) → Still bytes (D.current disk.old) (D.unsynced disk.old)
         → OnOk result (InForm journal (count bytes) (journal_number bytes)) }
     ensures damaged { D.honest disk.old → (bytes : ℕ → ℕ) → Still bytes (D.current disk.old) (D.unsynced disk.old)
         → result ≡ Err RecoverError.Damaged → InForm journal (count bytes) (journal_number bytes) → ⊥ }
     ensures lasts { D.honest disk.old → (bytes : ℕ → ℕ) → Still bytes (D.current disk.old) (D.unsynced disk.old)
-        → bytes PAGE ≡ 165 → Lasts D.Disk disk.old disk.new
+        → bytes PAGE ≡ OPEN → Lasts D.Disk disk.old disk.new
         (λ image. ((p : ℕ) → image p ≡ bytes p) ⊎ ReadsAs journal image (replayed bytes)) }
     ensures gave_form { (bytes : ℕ → ℕ) → ReadsGave bytes (D.reads disk.old) (D.reads disk.new)
         → OnOk result (InForm journal (count bytes) (journal_number bytes)) }
@@ -223,7 +224,7 @@ pub fn recover<D: Disk>(disk: &mut D, layout: &Layout) -> Result<(), RecoverErro
     ensures counts { Counts (result ≡ Err RecoverError.DiskFault) (D.failures disk.old) (D.failures disk.new) }
 
     // It reads places of the gate's page, the head and the journal's pages, and none twice.
-    ensures reads { ReadsOnce (Between PAGE (PAGE * (3 + journal_pages layout.now))) (D.reads disk.old)
+    ensures reads { ReadsOnce (Between PAGE (PAGE * (JOURNAL_PAGE + journal_pages layout.now))) (D.reads disk.old)
         (D.reads disk.new) }
 
     // Every crash image then is what a plain reading gave, except for the gate and the journal.
@@ -237,10 +238,10 @@ pub fn recover<D: Disk>(disk: &mut D, layout: &Layout) -> Result<(), RecoverErro
 
     // `Damaged` is answered exactly for an open gate with an invalid head.
     ensures form { D.honest disk.old → OnOk result
-        (D.current disk.old PAGE ≡ 165 → InForm (journal_pages layout.now) (count (D.current disk.old))
+        (D.current disk.old PAGE ≡ OPEN → InForm (journal_pages layout.now) (count (D.current disk.old))
         (journal_number (D.current disk.old))) }
     ensures damaged { D.honest disk.old → result ≡ Err RecoverError.Damaged
-        → (D.current disk.old PAGE ≡ 165) × (InForm (journal_pages layout.now) (count (D.current disk.old))
+        → (D.current disk.old PAGE ≡ OPEN) × (InForm (journal_pages layout.now) (count (D.current disk.old))
         (journal_number (D.current disk.old)) → ⊥) }
 
     // A crash during the recovery leaves an image of before, or one that reads the same.
@@ -249,17 +250,17 @@ pub fn recover<D: Disk>(disk: &mut D, layout: &Layout) -> Result<(), RecoverErro
         (overlaid (D.current disk.old))) }
 
     // With a closed gate nothing is written: every crash image is one of before, and a read gives the same.
-    ensures unwritten { D.honest disk.old → (D.current disk.old PAGE ≡ 165 → ⊥)
+    ensures unwritten { D.honest disk.old → (D.current disk.old PAGE ≡ OPEN → ⊥)
         → Lasts D.Disk disk.old disk.new (IsImage (D.current disk.old) (D.unsynced disk.old)) }
-    ensures same { D.honest disk.old → (D.current disk.old PAGE ≡ 165 → ⊥) → (result ≡ Err RecoverError.DiskFault → ⊥)
+    ensures same { D.honest disk.old → (D.current disk.old PAGE ≡ OPEN → ⊥) → (result ≡ Err RecoverError.DiskFault → ⊥)
         → Still (D.current disk.old) (D.current disk.new) (D.unsynced disk.new) }
 
     // What holds of every disk, of the bytes that its reads gave.
     ensures gave_form { (bytes : ℕ → ℕ) → ReadsGave bytes (D.reads disk.old) (D.reads disk.new)
-        → OnOk result (bytes PAGE ≡ 165 → InForm (journal_pages layout.now) (count bytes) (journal_number bytes)) }
+        → OnOk result (bytes PAGE ≡ OPEN → InForm (journal_pages layout.now) (count bytes) (journal_number bytes)) }
     ensures gave_damaged { (bytes : ℕ → ℕ) → ReadsGave bytes (D.reads disk.old) (D.reads disk.new)
         → result ≡ Err RecoverError.Damaged
-        → (bytes PAGE ≡ 165) × (InForm (journal_pages layout.now) (count bytes) (journal_number bytes) → ⊥) }
+        → (bytes PAGE ≡ OPEN) × (InForm (journal_pages layout.now) (count bytes) (journal_number bytes) → ⊥) }
 {
     settle(disk)?;
     if is_open(disk)? {

@@ -5,13 +5,14 @@ ghost use Rattle.spool_disk.specs.Views.{Lasts};
 ghost use Rattle.spool_journal.specs.Image.{word, byte_of, page_number, InArea, Ascends};
 ghost use Rattle.spool_journal.specs.Phases.{Idle, IsBefore, Staging, Copied, Ready};
 
-use crate::PAGE;
+use crate::layout::JOURNAL_PAGE;
+use crate::{HEAD, JOURNAL, PAGE};
 use spool_disk::{Disk, DiskFault};
 
 // Writes each page to its journal page.
 fn stage_pages<D: Disk>(disk: &mut D, items: &[(u32, [u8; PAGE])]) -> Result<(), DiskFault>
     requires few { length items.now ≤ 385 }
-    requires room { PAGE * (3 + length items.now) ≤ D.size disk.old }
+    requires room { PAGE * (JOURNAL_PAGE + length items.now) ≤ D.size disk.old }
     ensures size { D.size disk.new ≡ D.size disk.old }
     ensures honest { D.honest disk.old ↔ D.honest disk.new }
     ensures counts { Counts (IsErr result) (D.failures disk.old) (D.failures disk.new) }
@@ -24,7 +25,7 @@ fn stage_pages<D: Disk>(disk: &mut D, items: &[(u32, [u8; PAGE])]) -> Result<(),
         → Lasts D.Disk disk.old disk.new (IsBefore j (D.current disk.old) (D.unsynced disk.old)) }
 {
     for i in 0..items.len() {
-        disk.write_at(PAGE as u64 * (3 + i as u64), &items[i].1)?;
+        disk.write_at(PAGE as u64 * (JOURNAL_PAGE as u64 + i as u64), &items[i].1)?;
     }
     Ok(())
 }
@@ -36,10 +37,7 @@ fn put_word(head: &mut [u8; PAGE], at: usize, value: u32)
     ensures word { word (byte_of head.new) at ≡ value }
     ensures others { (other : ℕ) → Apart other 4 at 4 → word (byte_of head.new) other ≡ word (byte_of head.old) other }
 {
-    head[at] = (value / 16777216) as u8;
-    head[at + 1] = (value / 65536 % 256) as u8;
-    head[at + 2] = (value / 256 % 256) as u8;
-    head[at + 3] = (value % 256) as u8;
+    head[at..at + 4].copy_from_slice(&value.to_be_bytes());
 }
 
 // The journal's head for these pages.
@@ -58,7 +56,7 @@ fn head_of(items: &[(u32, [u8; PAGE])]) -> [u8; PAGE]
 
 // Writes the journal's head, and syncs.
 fn write_head<D: Disk>(disk: &mut D, head: &[u8; PAGE]) -> Result<(), DiskFault>
-    requires { 12288 ≤ D.size disk.old }
+    requires { JOURNAL ≤ D.size disk.old }
     ensures size { D.size disk.new ≡ D.size disk.old }
     ensures honest { D.honest disk.old ↔ D.honest disk.new }
     ensures counts { Counts (IsErr result) (D.failures disk.old) (D.failures disk.new) }
@@ -67,13 +65,13 @@ fn write_head<D: Disk>(disk: &mut D, head: &[u8; PAGE]) -> Result<(), DiskFault>
         ((j : ℕ) → Staging j (D.current disk.old) (D.unsynced disk.old) (D.current disk.new) (D.unsynced disk.new)) }
     ensures is_synced { D.honest disk.old → OnOk result ((p : ℕ) → D.unsynced disk.new p → ⊥) }
     ensures head { D.honest disk.old → OnOk result
-        ((i : ℕ) → i < PAGE → D.current disk.new (8192 + i) ≡ byte_of head.now i) }
-    ensures unchanged { D.honest disk.old → OnOk result ((p : ℕ) → 12288 ≤ p
+        ((i : ℕ) → i < PAGE → D.current disk.new (HEAD + i) ≡ byte_of head.now i) }
+    ensures unchanged { D.honest disk.old → OnOk result ((p : ℕ) → JOURNAL ≤ p
         → D.current disk.new p ≡ D.current disk.old p) }
     ensures lasts { D.honest disk.old → (j : ℕ) → Idle j (D.current disk.old) (D.unsynced disk.old)
         → Lasts D.Disk disk.old disk.new (IsBefore j (D.current disk.old) (D.unsynced disk.old)) }
 {
-    disk.write_at(8192, head)?;
+    disk.write_at(HEAD, head)?;
     disk.sync()
 }
 
@@ -81,7 +79,7 @@ fn write_head<D: Disk>(disk: &mut D, head: &[u8; PAGE]) -> Result<(), DiskFault>
 pub(crate) fn stage<D: Disk>(disk: &mut D, items: &[(u32, [u8; PAGE])]) -> Result<(), DiskFault>
     requires some { 1 ≤ length items.now }
     requires few { length items.now ≤ 385 }
-    requires room { PAGE * (3 + length items.now) ≤ D.size disk.old }
+    requires room { PAGE * (JOURNAL_PAGE + length items.now) ≤ D.size disk.old }
     ensures size { D.size disk.new ≡ D.size disk.old }
     ensures honest { D.honest disk.old ↔ D.honest disk.new }
     ensures counts { Counts (IsErr result) (D.failures disk.old) (D.failures disk.new) }

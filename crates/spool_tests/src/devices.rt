@@ -2,7 +2,7 @@
 
 ghost use Rattle.std.specs.Prelude.{◌≡◌, ◌≤◌};
 
-use spool_disk::{Crash, Disk, DiskFault, FileDisk, MemoryDisk};
+use spool_disk::{Crash, Disk, DiskFault, FileDisk, HiccupDisk, MemoryDisk};
 use std::fs::{self, Files};
 use std::io;
 use std::process::Abort;
@@ -39,6 +39,23 @@ fn crash_leaves_old_new_or_torn_bytes(rt: HostRuntime) {
         disk.write_at(1, b"XY").expect(&rt, "no call fails");
         let mut left = disk.crash(kind);
         assert_eq!(rt; prefix(&mut left), Ok(want), "{kind:?}");
+    }
+}
+
+#[test]
+fn failing_write_fills_its_range(rt: HostRuntime) {
+    for (fill, want) in [
+        (Some(7), *b"a\x07\x07d"),
+        (Some(0), *b"a\0\0d"),
+        (Some(0xA5), *b"a\xA5\xA5d"),
+        (None, *b"abcd"),
+    ] {
+        let mut disk = MemoryDisk::new(rt.alloc(), 4).expect(&rt, "memory");
+        disk.write_at(0, b"abcd").expect(&rt, "no call fails");
+        let mut disk = HiccupDisk::new(disk, 0, fill);
+        assert_eq!(rt; disk.write_at(1, b"XY"), Err(DiskFault));
+        let mut left = disk.into_inner();
+        assert_eq!(rt; prefix(&mut left), Ok(want), "{fill:?}");
     }
 }
 

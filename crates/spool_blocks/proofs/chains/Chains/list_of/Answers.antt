@@ -1,27 +1,36 @@
-use Rattle.std.proofs.Common.{◌≡◌, ◌∙◌, length, ap, arith}
-use Rattle.std.proofs.lemmas.List.{with_items_is}
-use Rattle.spool_blocks.specs.Blocks.{slot_count}
+use Rattle.std.proofs.Common.{None, ◌∙◌, arith, length-set}
 use Rattle.spool_blocks.proofs.Links.{was_read}
-use Rattle.spool_blocks.proofs.Listed.{none_listed, listed_whole}
+use Rattle.spool_blocks.proofs.Listed.{block_in, some_left, listed_on, all_listed, listed_whole}
 use Rattle.spool_blocks.proofs.chains.Chains.list_of.Goals as goal
 
-pub fill-requires-clause-top : goal.fill-requires-clause-top
-fill-requires-clause-top c =
-    none_listed c.self.invariant _ c.deref.ensures.value c.args.slot _ _ c.requires c.index-2.ensures
+pub overflow_sub-at : goal.overflow_sub-at
+overflow_sub-at c = some_left c.loop-next.invariant.listed c.in-Some.is
+
+pub index_mut-requires : goal.index_mut-requires
+index_mut-requires c =
+    omega (arith, some_left c.loop-next.invariant.listed c.in-Some.is, c.loop-next.invariant.room)
+
+pub index-requires-in-Some : goal.index-requires-in-Some
+index-requires-in-Some c = let here = block_in c.loop-next.invariant.listed c.in-Some.is in omega (arith, here)
+
+pub loop-next-smaller : goal.loop-next-smaller
+loop-next-smaller c = omega (arith, some_left c.loop-next.invariant.listed c.in-Some.is)
+
+pub loop-next-preserved : goal.loop-next-preserved
+loop-next-preserved c =
+    let listed = c.loop-next.invariant.listed in
+    let read = was_read c.self.inside.below.items c.in-Some.block None _ c.index-in-Some.ensures
+    (block_in listed c.in-Some.is) in
+    record {
+      size = length-set _ _ _ ∙ c.loop-next.invariant.size;
+      room = grind (arith, length-set, c.loop-next.invariant.room);
+      listed = rw c.block-next.ensures (listed_on listed c.in-Some.is _ read c.loop-next.invariant.room);
+    }
+
+pub returns-clause-ordered : goal.returns-clause-ordered
+returns-clause-ordered c =
+    rw c.self.view_is at (all_listed c.loop-next.invariant.listed c.in_default.is c.requires c.self.invariant.few)
 
 pub returns-clause-listed : goal.returns-clause-listed
-returns-clause-listed c =
-    let items = with_items_is c.in_ok-list.list c.fill.new.list (omega arith) in
-    let count = was_read c.self.inside.counts.items c.args.slot 0 _ c.index.ensures (omega arith) in
-    let all : length c.fill.new.list ≡ slot_count c.args.slot c.args.self.now =
-    omega (
-      arith,
-      c.self.invariant.counted c.args.slot c.requires,
-      ap (slot_count c.args.slot) c.self.view_is,
-      count,
-      c.fill.ensures.size,
-      c.deref_mut.ensures.len,
-      c.in_ok-list.ensures.len,
-    ) in
-    rw items (listed_whole c.args.self.now c.deref.result.now c.args.slot c.fill.new.list
-    (c.deref.ensures.value ∙ c.self.view_is) all c.fill.ensures.listed)
+returns-clause-listed c i lt whole =
+    listed_whole (rw c.self.view_is at c.loop-next.invariant.size) (returns-clause-ordered c) whole i lt
