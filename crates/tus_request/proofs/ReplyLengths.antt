@@ -1,6 +1,6 @@
 -- No reply is longer than 2,048 bytes without its body.
 use Rattle.std.proofs.Common.{ℕ, ◌≤◌, ◌<◌, ◌+◌, ◌^◌, Bool, true, false, List, [], ◌∷◌, ◌++◌, length, Option, Some, None}
-use Rattle.std.proofs.Common.{IfSome, OnErr, OnOk, Result, Ok, Err, arith, codes, ◌≡◌, refl, sym, ap, ◌∙◌}
+use Rattle.std.proofs.Common.{IfSome, OnErr, OnOk, Result, Ok, Err, arith, codes, ◌≡◌, refl, subst, sym, ap, ◌∙◌}
 use Rattle.std.proofs.lemmas.List.{length-append, append-nil}
 use Rattle.std.proofs.lemmas.Fmt.{length-decimal-le}
 use Rattle.std.specs.Fmt.{decimal, digits}
@@ -41,11 +41,12 @@ around status lines n closes few small =
 pub record IsReply (text reply_bytes : List ℕ) : Type 0 where
   pub same : text ≡ reply_bytes
   pub short : length text ≤ 2048
+  pub fits : length text < 2 ^ 64
 
 is_reply : (text reply_bytes : List ℕ) → text ≡ reply_bytes → length reply_bytes ≤ 2048 → IsReply text reply_bytes
-is_reply text reply_bytes same short = record { same = same; short = rw same short }
+is_reply text reply_bytes same short = record { same = same; short = rw same short; fits = rw same (omega (arith, short)) }
 
-unless_small : (bare : Bool) (n : ℕ) → n < 2 ^ 64 → IfSome (unless_bare bare n) (λ k. k < 2 ^ 64)
+pub unless_small : (bare : Bool) (n : ℕ) → n < 2 ^ 64 → IfSome (unless_bare bare n) (λ k. k < 2 ^ 64)
 unless_small true n small = tt
 unless_small false n small = small
 
@@ -97,20 +98,33 @@ declared_short : (declared : Option ℕ) → IfSome declared (λ k. k < 2 ^ 64) 
 declared_short None small = omega arith
 declared_short (Some n) small = omega (arith, header_length (codes "Upload-Length") (decimal n), few_digits n small)
 
-metadata_short : (metadata : List ℕ) → length metadata ≤ MOST_METADATA → length (metadata_line metadata) ≤ 1560
-metadata_short [] few = omega arith
-metadata_short (b ∷ bytes) few = omega (arith, few, header_length (codes "Upload-Metadata") (b ∷ bytes))
+metadata_around : (metadata : List ℕ) → length (metadata_line metadata) ≤ length metadata + 24
+metadata_around [] = omega arith
+metadata_around (b ∷ bytes) = omega (arith, header_length (codes "Upload-Metadata") (b ∷ bytes))
 
-pub head : (offset : ℕ) (declared : Option ℕ) (metadata : List ℕ) (bare closes : Bool) (first known size : List ℕ)
-    (n : Option ℕ) → offset < 2 ^ 64 → IfSome declared (λ k. k < 2 ^ 64) → length metadata ≤ MOST_METADATA
-    → first ≡ header (codes "Upload-Offset") (decimal offset) → known ≡ declared_line declared → size ≡ length_line n
-    → n ≡ unless_bare bare 0
-    → IsReply (reply (codes "200 OK") (first ++ (known ++ (metadata_line metadata ++ (size ++ [])))) None closes)
-    (reply_head offset declared metadata bare closes)
-head offset declared metadata bare closes a b size n small known few offsets declares is none =
-    let first = header (codes "Upload-Offset") (decimal offset) in
-    is_reply _ _ (rw (offsets, declares) (three_lines (codes "200 OK") first (declared_line declared)
-    (metadata_line metadata) size (unless_bare bare 0) closes (is ∙ ap length_line none))) (omega (
+-- whatever the metadata, it can be counted
+pub long_head : (offset declared size metadata : List ℕ) (closes : Bool)
+    → length offset + length declared + length size ≤ 200 → length metadata < 2 ^ 63
+    → length (reply (codes "200 OK") (offset ++ (declared ++ (metadata_line metadata ++ (size ++ [])))) None closes)
+    < 2 ^ 64
+long_head offset declared size metadata closes few long = omega (
+  arith,
+  few,
+  long,
+  around (codes "200 OK") (offset ++ (declared ++ (metadata_line metadata ++ (size ++ [])))) None closes (omega arith) tt,
+  length-append offset (declared ++ (metadata_line metadata ++ (size ++ []))),
+  length-append declared (metadata_line metadata ++ (size ++ [])),
+  length-append (metadata_line metadata) (size ++ []),
+  length-append {A = ℕ} size [],
+  metadata_around metadata,
+)
+
+-- a reply to HEAD has at most so many bytes beside the metadata
+head_around : (offset : ℕ) (declared : Option ℕ) (metadata : List ℕ) (bare closes : Bool) → offset < 2 ^ 64
+    → IfSome declared (λ k. k < 2 ^ 64)
+    → length (reply_head offset declared metadata bare closes) ≤ length metadata + 400
+head_around offset declared metadata bare closes small known =
+    let first = header (codes "Upload-Offset") (decimal offset) in omega (
       arith,
       around (codes "200 OK") (first ++ (declared_line declared ++ metadata_line metadata)) (unless_bare bare 0) closes
           (omega arith) (unless_small bare 0 (omega arith)),
@@ -119,8 +133,54 @@ head offset declared metadata bare closes a b size n small known few offsets dec
       header_length (codes "Upload-Offset") (decimal offset),
       few_digits offset small,
       declared_short declared known,
-      metadata_short metadata few,
+      metadata_around metadata,
+    )
+
+-- the lines beside the metadata are short
+pub lines_short : (offset : ℕ) (declared : Option ℕ) (first known size : List ℕ) (n : Option ℕ) → offset < 2 ^ 64
+    → IfSome declared (λ k. k < 2 ^ 64) → IfSome n (λ k. k < 2 ^ 64)
+    → first ≡ header (codes "Upload-Offset") (decimal offset) → known ≡ declared_line declared → size ≡ length_line n
+    → length first + length known + length size ≤ 200
+lines_short offset declared first known size n small fits few offsets declares is =
+    rw (offsets, declares, is) (omega (
+      arith,
+      header_length (codes "Upload-Offset") (decimal offset),
+      few_digits offset small,
+      declared_short declared fits,
+      length_short n few,
     ))
+
+-- it is that reply, of which the metadata may have any length
+pub record IsHead (text reply_bytes metadata : List ℕ) : Type 0 where
+  pub same : text ≡ reply_bytes
+  pub around : length text ≤ length metadata + 400
+
+pub head : (offset : ℕ) (declared : Option ℕ) (metadata : List ℕ) (bare closes : Bool) (first known size : List ℕ)
+    (n : Option ℕ) → offset < 2 ^ 64 → IfSome declared (λ k. k < 2 ^ 64)
+    → first ≡ header (codes "Upload-Offset") (decimal offset) → known ≡ declared_line declared → size ≡ length_line n
+    → n ≡ unless_bare bare 0
+    → IsHead (reply (codes "200 OK") (first ++ (known ++ (metadata_line metadata ++ (size ++ [])))) None closes)
+    (reply_head offset declared metadata bare closes) metadata
+head offset declared metadata bare closes a b size n small known offsets declares is none =
+    let first = header (codes "Upload-Offset") (decimal offset) in
+    let same : reply (codes "200 OK") (a ++ (b ++ (metadata_line metadata ++ (size ++ [])))) None closes
+    ≡ reply_head offset declared metadata bare closes =
+    rw (offsets, declares) (three_lines (codes "200 OK") first (declared_line declared)
+    (metadata_line metadata) size (unless_bare bare 0) closes (is ∙ ap length_line none)) in
+    record {
+      same = same;
+      around = subst (λ x. length x ≤ length metadata + 400) (sym same)
+          (head_around offset declared metadata bare closes small known);
+    }
+
+pub short_head : (text reply_bytes metadata : List ℕ) → IsHead text reply_bytes metadata
+    → length metadata ≤ MOST_METADATA → IsReply text reply_bytes
+short_head text reply_bytes metadata is few =
+    let around = is.around in record {
+      same = is.same;
+      short = omega (arith, around, few);
+      fits = omega (arith, around, few);
+    }
 
 name_short : (to : Encoding) → length (name_of to) ≤ 20
 name_short to = grind arith

@@ -82,10 +82,9 @@ pub fn reply_head(
     closes: bool,
     out: &mut Vec<u8>,
 ) -> Result<(), AllocError>
-    requires { length metadata.now ≤ MOST_METADATA }
     ensures ok { OnOk result (out.new.items ≡ out.old.items ++ reply_head offset declared metadata.now bare closes) }
     ensures err { OnErr result (out.new.items ≡ out.old.items) }
-    ensures short { GrowsBy longest_reply out.old.items out.new.items }
+    ensures short { length metadata.now ≤ MOST_METADATA → GrowsBy longest_reply out.old.items out.new.items }
 {
     let (mut digits, mut known, mut size) = (Buffer::new(), Buffer::new(), Buffer::new());
     let offset = offset_line(offset, &mut digits);

@@ -82,6 +82,7 @@ impl<U: Uploads> Session<U> {
             → SessionRepresents U.Uploads sure (links_of self.old) store st
             → Opens U.Uploads sure (links_of self.new) store result st (Opened conn) }
         ensures no_disk_fault { IsErrOf result (SessionError.Stop Stop.DiskFault) → ⊥ }
+        ensures no_memory { IsErrOf result (SessionError.Stop Stop.NoMemory) → ⊥ }
         ensures no_down { IsErrOf result SessionError.Down → ⊥ }
     {
         if conn >= self.links.len() || self.links[conn].is_some() {

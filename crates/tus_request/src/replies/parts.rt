@@ -1,5 +1,5 @@
 //! The lines that replies are made of.
-ghost use Rattle.std.specs.Prelude.{◌≡◌, ◌+◌, ◌<◌, ◌≤◌, ◌++◌, [], None, codes, length, OnOk, OnErr};
+ghost use Rattle.std.specs.Prelude.{◌^◌, ◌≡◌, ◌+◌, ◌<◌, ◌≤◌, ◌++◌, [], None, codes, length, OnOk, OnErr};
 ghost use Rattle.std.specs.Prelude.{vec_len, vec_capacity};
 ghost use Rattle.std.specs.Fmt.{decimal};
 ghost use Rattle.enc_labels.specs.Labels.{name_of};
@@ -129,9 +129,10 @@ pub(super) fn declared_line(declared: Option<u64>, digits: &mut Buffer) -> Line<
 
 /// The line of an upload's metadata, if it has any.
 pub(super) fn metadata_line(metadata: &str) -> Line<'_>
-    ensures { line_shown result ≡ metadata_line metadata.now }
+    ensures line { line_shown result ≡ metadata_line metadata.now }
+    ensures few { length metadata.now < 2 ^ 63 }
 {
-    if metadata.is_empty() {
+    if metadata.len() == 0 {
         return whole_line("");
     }
     Line {
@@ -168,7 +169,7 @@ fn last_lines(closes: bool) -> &'static str
 
 /// How many bytes a reply with these lines has.
 fn room_for(status: &str, lines: &[Line<'_>], closes: bool) -> usize
-    requires { length (reply status.now (lines_shown lines.now) None closes) ≤ longest_reply }
+    requires { length (reply status.now (lines_shown lines.now) None closes) < 2 ^ 64 }
     ensures { result ≡ length (reply status.now (lines_shown lines.now) None closes) }
 {
     let mut room = FIRST.len() + status.len() + COMMON.len() + last_lines(closes).len();
@@ -228,7 +229,7 @@ pub(super) fn append(
     closes: bool,
     out: &mut Vec<u8>,
 ) -> Result<(), AllocError>
-    requires { length (reply status.now (lines_shown lines.now) None closes) ≤ longest_reply }
+    requires { length (reply status.now (lines_shown lines.now) None closes) < 2 ^ 64 }
     ensures ok { OnOk result (out.new.items ≡ out.old.items ++ reply status.now (lines_shown lines.now) None closes) }
     ensures err { OnErr result (out.new.items ≡ out.old.items) }
     ensures full { OnErr result (vec_capacity out.old
@@ -249,8 +250,7 @@ pub(super) fn append_head<'m>(
     closes: bool,
     out: &mut Vec<u8>,
 ) -> Result<(), AllocError>
-    requires { length (reply (codes "200 OK") (line_shown offset ++ (line_shown declared
-        ++ (metadata_line metadata.now ++ (line_shown size ++ [])))) None closes) ≤ longest_reply }
+    requires { length (line_shown offset) + length (line_shown declared) + length (line_shown size) ≤ 200 }
     ensures ok { OnOk result (out.new.items ≡ out.old.items ++ reply (codes "200 OK")
         (line_shown offset.entry ++ (line_shown declared.entry ++ (metadata_line metadata.now
         ++ (line_shown size.entry ++ [])))) None closes) }

@@ -4,7 +4,7 @@ use Rattle.tus_request.proofs.replies.reply_created.Goals as goal
 pub append-requires : goal.append-requires
 append-requires c =
     (created c.args.number c.args.bare c.args.closes _ _ _ c.ranges.number.fits
-    c.location_line-location.ensures c.length_line-length.ensures c.unless_bare.ensures).short
+    c.location_line-location.ensures c.length_line-length.ensures c.unless_bare.ensures).fits
 
 pub returns : goal.returns
 returns c =

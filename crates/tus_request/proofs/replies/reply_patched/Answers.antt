@@ -3,7 +3,7 @@ use Rattle.tus_request.proofs.replies.reply_patched.Goals as goal
 
 pub append-requires : goal.append-requires
 append-requires c =
-    (patched c.args.offset c.args.closes _ c.ranges.offset.fits c.offset_line-offset.ensures).short
+    (patched c.args.offset c.args.closes _ c.ranges.offset.fits c.offset_line-offset.ensures).fits
 
 pub returns : goal.returns
 returns c =

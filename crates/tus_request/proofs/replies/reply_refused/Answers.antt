@@ -6,7 +6,7 @@ pub append-requires : goal.append-requires
 append-requires c =
     (refused c.args.fault c.args.on_files c.args.bare c.args.closes _ _ _ _ _
     c.status_of.ensures (c.whole_line-lead.ensures ∙ c.refusal_lead.ensures) c.refusal_line-number.ensures
-    c.length_line-length.ensures c.unless_bare.ensures).short
+    c.length_line-length.ensures c.unless_bare.ensures).fits
 
 pub returns : goal.returns
 returns c =

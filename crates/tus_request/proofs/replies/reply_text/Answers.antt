@@ -4,7 +4,7 @@ use Rattle.tus_request.proofs.replies.reply_text.Goals as goal
 pub append-requires : goal.append-requires
 append-requires c =
     (text c.args.to c.args.«length» c.args.bare c.args.closes _ _ _ c.ranges.«length».fits
-    c.type_line.ensures c.length_line-length.ensures c.unless_bare.ensures).short
+    c.type_line.ensures c.length_line-length.ensures c.unless_bare.ensures).fits
 
 pub returns : goal.returns
 returns c =
