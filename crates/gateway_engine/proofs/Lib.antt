@@ -1,3 +1,4 @@
 pub mod Sessions
 pub mod Exits
 pub mod OnDisk
+pub mod Joining

@@ -88,8 +88,11 @@ module _ {D U B : Type 0} (disk : Ghosts D) (disk_of : U → D) (size_of : U →
     abbrev st : State
     st = beginning m (Some n)
 
+    abbrev Since : D → List Store → Type 0
+    Since d stores = LastsOver disk (disk_of before) d n stores
+
     lasts_over : (past : List Marked) → ShowsSince u before now st past
-        → LastsOver disk (disk_of before) (disk_of now) n (stores_of st past)
+        → Since (disk_of now) (stores_of st past)
     lasts_over past shows = record {
       later = shows.limits.later;
       since = left_shows disk (disk_of now) (size_of now) n (disk.moment (disk_of before)) (stores_of st past)
@@ -113,7 +116,7 @@ module _ {D U B : Type 0} (disk : Ghosts D) (disk_of : U → D) (size_of : U →
           (rests st' is)
 
       ended_on : (r : script.Result) (exit : Exit) → EndedSo u true before now st r held prefix exit
-          → EndedOn disk (disk_of before) (disk_of now) n st r held prefix exit
+          → EndedOn (Since (disk_of now)) st r held prefix exit
       ended_on r exit is = record {
         exits = is.writes.exits;
         wrote = subst (Appends prefix held)
@@ -124,14 +127,14 @@ module _ {D U B : Type 0} (disk : Ghosts D) (disk_of : U → D) (size_of : U →
       }
 
       rests_on : (r : script.Result) (exit : Exit) → RestsSo u true before now st r held prefix exit
-          → RestsOn disk (disk_of before) (disk_of now) n st r held prefix exit
+          → RestsOn disk Since (disk_of now) n st r held prefix exit
       rests_on r exit is = record {
         ended = ended_on r exit is.ended;
         shows = rests_all r.run.past r.run.state (is.ended.shows refl) is.rests;
       }
 
       failed_on : (r : script.Result) → FailedSo u true before now st r held prefix
-          → FailedOn disk (disk_of before) (disk_of now) n st r held prefix
+          → FailedOn disk Since (disk_of now) n st r held prefix
       failed_on r is =
           let size : size_of now ≡ n = same_size n (size_of now) (is.ended.shows refl).since.0 in
           let stores : List Store = last_stores st r.run.past in
@@ -143,7 +146,7 @@ module _ {D U B : Type 0} (disk : Ghosts D) (disk_of : U → D) (size_of : U →
           }
 
       stopped_on : (r : script.Result) (fault : CallFault) → StoppedSo u true before now st r held prefix fault
-          → StoppedOn disk (disk_of before) (disk_of now) n st r held prefix fault
+          → StoppedOn disk Since (disk_of now) n st r held prefix fault
       stopped_on r fault is = record {
         past = is.writes.past;
         first = is.writes.first;

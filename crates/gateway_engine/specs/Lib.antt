@@ -5,3 +5,4 @@ pub use Rattle.gateway_script.specs.Outputs
 pub mod Gateways
 pub mod Ran
 pub mod RanOn
+pub mod RanFrom

@@ -35,56 +35,60 @@ pub record LastsOver {D : Type 0} (disk : Ghosts D) (before now : D) (n : ℕ) (
   pub always : (t : ℕ) (ms : List Store) → t ≤ disk.moment before → LeftOnly disk before n t ms → AllAmong stores ms
       → LeftOnly disk now n t ms
 
--- THE EXITS
+-- THE EXITS. `Since` is what images show since the run began, if the stores were these
 
 -- The script ended so, by the marks of its calls, and this was written after what was there: the output of all its
 -- events. Images show the uploads after all of them, all but the latest, and so on
-pub record EndedOn {D : Type 0} (disk : Ghosts D) (before now : D) (n : ℕ) (st : State) (r : script.Result)
-    (held prefix : Option (List ℕ)) (exit : Exit) : Type 0 where
+pub record EndedOn (Since : List Store → Type 0) (st : State) (r : script.Result) (held prefix : Option (List ℕ))
+    (exit : Exit) : Type 0 where
   pub exits : r.exit ≡ exit
   pub wrote : Appends prefix held r.run.out
   pub output : r.run.out ≡ output_of st r.run.past
   pub state : r.run.state ≡ history st r.run.past
-  pub lasts : LastsOver disk before now n (stores_of st r.run.past)
+  pub lasts : Since (stores_of st r.run.past)
 
 -- the script ended so, and the disk has the uploads of its history
-pub record RestsOn {D : Type 0} (disk : Ghosts D) (before now : D) (n : ℕ) (st : State) (r : script.Result)
-    (held prefix : Option (List ℕ)) (exit : Exit) : Type 0 where
-  pub ended : EndedOn disk before now n st r held prefix exit
+pub record RestsOn {D : Type 0} (disk : Ghosts D) (Since : D → List Store → Type 0) (now : D) (n : ℕ) (st : State)
+    (r : script.Result) (held prefix : Option (List ℕ)) (exit : Exit) : Type 0 where
+  pub ended : EndedOn (Since now) st r held prefix exit
   pub shows : AllShow disk now n r.run.state.world.store
 
 -- The script ended at an event at which the disk failed. The disk has the uploads after all events, or after all but
 -- the latest one
-pub record FailedOn {D : Type 0} (disk : Ghosts D) (before now : D) (n : ℕ) (st : State) (r : script.Result)
-    (held prefix : Option (List ℕ)) : Type 0 where
-  pub ended : EndedOn disk before now n st r held prefix Faulted
+pub record FailedOn {D : Type 0} (disk : Ghosts D) (Since : D → List Store → Type 0) (now : D) (n : ℕ) (st : State)
+    (r : script.Result) (held prefix : Option (List ℕ)) : Type 0 where
+  pub ended : EndedOn (Since now) st r held prefix Faulted
   pub shows : AllShowOne disk now n (last_stores st r.run.past)
 
 -- The run was broken off after these events, the first of the script's. The disk has the uploads of their history
-pub record StoppedOn {D : Type 0} (disk : Ghosts D) (before now : D) (n : ℕ) (st : State) (r : script.Result)
-    (held prefix : Option (List ℕ)) (fault : CallFault) : Type 0 where
+pub record StoppedOn {D : Type 0} (disk : Ghosts D) (Since : D → List Store → Type 0) (now : D) (n : ℕ) (st : State)
+    (r : script.Result) (held prefix : Option (List ℕ)) (fault : CallFault) : Type 0 where
   pub past : List Marked
   pub first : IsFirst past r.run.past
   pub out : List ℕ
   pub wrote : Appends prefix held out
   pub most : WroteMost fault st past out
   pub shows : AllShow disk now n (history st past).world.store
-  pub lasts : LastsOver disk before now n (stores_of st past)
+  pub lasts : Since now (stores_of st past)
+
+abbrev pub HasRunAs : {D : Type 0} → Ghosts D → (D → List Store → Type 0) → Result D (D × ScriptFault)
+    → Option (List ℕ) → Option (List ℕ) → ℕ → State → List ℕ → Type 0
+HasRunAs disk Since (Ok d) held prefix n st bytes =
+    (marks : List Mark) × RestsOn disk Since d n st (script_result st marks bytes) held prefix Ran
+HasRunAs disk Since (Err (d, Script line)) held prefix n st bytes =
+    (marks : List Mark) × RestsOn disk Since d n st (script_result st marks bytes) held prefix (AtLine line)
+HasRunAs disk Since (Err (d, Stop DiskFault)) held prefix n st bytes =
+    (marks : List Mark) × FailedOn disk Since d n st (script_result st marks bytes) held prefix
+HasRunAs disk Since (Err (d, Stop NoMemory)) held prefix n st bytes =
+    (marks : List Mark) × StoppedOn disk Since d n st (script_result st marks bytes) held prefix (calls.Stop NoMemory)
+HasRunAs disk Since (Err (d, Io)) held prefix n st bytes =
+    (marks : List Mark) × StoppedOn disk Since d n st (script_result st marks bytes) held prefix calls.Io
 
 -- how a run over uploads on a disk ends
 abbrev pub HasRunOn : {D : Type 0} → Ghosts D → D → Result D (D × ScriptFault) → Option (List ℕ) → Option (List ℕ) → ℕ
-    → State
-    → List ℕ → Type 0
-HasRunOn disk before (Ok d) held prefix n st bytes =
-    (marks : List Mark) × RestsOn disk before d n st (script_result st marks bytes) held prefix Ran
-HasRunOn disk before (Err (d, Script line)) held prefix n st bytes =
-    (marks : List Mark) × RestsOn disk before d n st (script_result st marks bytes) held prefix (AtLine line)
-HasRunOn disk before (Err (d, Stop DiskFault)) held prefix n st bytes =
-    (marks : List Mark) × FailedOn disk before d n st (script_result st marks bytes) held prefix
-HasRunOn disk before (Err (d, Stop NoMemory)) held prefix n st bytes =
-    (marks : List Mark) × StoppedOn disk before d n st (script_result st marks bytes) held prefix (calls.Stop NoMemory)
-HasRunOn disk before (Err (d, Io)) held prefix n st bytes =
-    (marks : List Mark) × StoppedOn disk before d n st (script_result st marks bytes) held prefix calls.Io
+    → State → List ℕ → Type 0
+HasRunOn disk before result held prefix n st bytes =
+    HasRunAs disk (λ now stores. LastsOver disk before now n stores) result held prefix n st bytes
 
 -- WHATEVER THE DISK
 

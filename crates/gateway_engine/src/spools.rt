@@ -1,5 +1,5 @@
 //! A gateway over a spool on a disk.
-ghost use Rattle.std.specs.Prelude.{◌≡◌, ◌↔◌, ℕ, Option, true, false, List, Some, IfOk};
+ghost use Rattle.std.specs.Prelude.{◌≡◌, ◌↔◌, ℕ, Option, true, false, List, Some, IfOk, OnErr};
 ghost use Rattle.spool_disk.specs.Disk.{Counts};
 ghost use Rattle.spool_disk.specs.Views.{Lasts};
 ghost use Rattle.spool_image.specs.LeftOnly.{AllShow, IsSpool, LeftOrShows, SpoolLeft};
@@ -16,7 +16,10 @@ ghost use Rattle.gateway_engine.specs.Gateways.{store_of};
 ghost use Rattle.gateway_script.specs.Script.{IsScript};
 ghost use Rattle.gateway_engine.specs.Ran.{CountsEither, HasFailed, HasRefused, handed_back};
 ghost use Rattle.gateway_engine.specs.RanOn.{HasRunOn, WritesRun};
+ghost use Rattle.gateway_engine.specs.RanFrom.{HasFailedOn, HasRefusedOn, HasRunFrom, RunsBy, WritesOpened};
+ghost use Rattle.gateway_engine.specs.RanFrom.{WritesOver, disk_back, opening_in};
 
+use crate::faults::RunFault;
 use crate::gateway::Gateway;
 use crate::scripts::run_over;
 use common::Stop;
@@ -94,7 +97,7 @@ impl<D: Disk> Gateway<Spool<D>> {
 ///
 /// Refused with `Stop` if a growth outside the calls was refused or the disk failed, with `Script` of the first line
 /// that is none or too long, and with `Io`. What was committed and written before stays.
-pub fn run<D: Disk, R: CountedRead, W: CountedWrite>(
+pub fn run_opened<D: Disk, R: CountedRead, W: CountedWrite>(
     alloc: Global,
     reader: &mut R,
     writer: &mut W,
@@ -121,5 +124,65 @@ pub fn run<D: Disk, R: CountedRead, W: CountedWrite>(
     match run_over(alloc, reader, writer, spool) {
         Ok(spool) => Ok(spool.into_disk()),
         Err((spool, fault)) => Err((spool.into_disk(), fault)),
+    }
+}
+
+/// Opens the spool on a disk, runs a script from `reader` over it, and writes to `writer` what its calls give. The disk
+/// is handed back.
+///
+/// The script is read whole before its first line is run, and after the opening.
+///
+/// Refused with `Open` where the disk isn't opened, for the reason that `Spool::open` has, and then with `Script`, as
+/// `run_opened`. What was committed and written before stays.
+pub fn run<D: Disk, R: CountedRead, W: CountedWrite>(
+    alloc: Global,
+    reader: &mut R,
+    writer: &mut W,
+    disk: D,
+) -> Result<D, (D, RunFault)>
+    // Over a disk of which a read shows uploads: the exit and the output are the script's, with a mark for each call,
+    // and images show the uploads of its history, from the moment before the opening on.
+    ensures runs { (n : ℕ) (m : Store) → IsSpool D.Disk disk n m
+        → (script : List ℕ) × IsScript (R.remaining reader.old) script
+        × HasRunFrom D.Disk disk result (W.contents writer.new) (W.contents writer.old) n (beginning m (Some n))
+        script }
+
+    // On any disk that is opened: a view was read, which shows uploads, and over these the exit and the output are the
+    // script's. Of a text only the number of its bytes is promised here.
+    ensures writes { WritesOpened result (R.remaining reader.old) (W.contents writer.new) (W.contents writer.old) }
+
+    // On any disk the opening answers by what its reads gave: the view, over whose uploads the exit and the output are
+    // the script's, or the refusal.
+    ensures given { RunsBy D.Disk disk result
+        (WritesOver result (R.remaining reader.old) (W.contents writer.new) (W.contents writer.old)) }
+
+    // What is opened is a valid spool. Each refusal to open has its reason, and each reason is answered so.
+    ensures exact { D.honest disk → OpensExactly (D.size disk) (D.current disk)
+        (open_refusal_of (opening_in result)) }
+
+    // Where the disk isn't opened, neither the reader nor the writer was called.
+    ensures unopened { OnErr (opening_in result) ((reader.new ≡ reader.old) × (writer.new ≡ writer.old)) }
+
+    // And it comes back as its opening left it: where no journal is to be replayed nothing is written to it.
+    ensures size { OnErr (opening_in result) (D.size (disk_back result) ≡ D.size disk) }
+    ensures honest { OnErr (opening_in result) (D.honest disk ↔ D.honest (disk_back result)) }
+    ensures unwritten { D.honest disk → OnErr (opening_in result) (Unwritten D.Disk disk (disk_back result)) }
+    ensures same { D.honest disk
+        → OnErr (opening_in result) (ReadsSame D.Disk disk (disk_back result) (HasFailedOn result)) }
+
+    // The disk failed exactly where the answer is a disk fault.
+    ensures counts { Counts (HasFailedOn result) (D.failures disk) (D.failures (disk_back result)) }
+
+    // `Io` exactly where the reader or the writer refused a call.
+    ensures io { CountsEither (HasRefusedOn result) (R.refusals reader.old) (R.refusals reader.new)
+        (W.refusals writer.old) (W.refusals writer.new) }
+{
+    let spool = match Spool::open(alloc, disk) {
+        Ok(spool) => spool,
+        Err((disk, fault)) => return Err((disk, RunFault::Open(fault))),
+    };
+    match run_opened(alloc, reader, writer, spool) {
+        Ok(disk) => Ok(disk),
+        Err((disk, fault)) => Err((disk, RunFault::Script(fault))),
     }
 }

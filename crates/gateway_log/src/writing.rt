@@ -46,7 +46,7 @@ pub struct Log<'a, T: Clock, W: Write + Drop> {
 
 impl<'a, T: Clock, W: Write + Drop> Log<'a, T, W> {
     /// A log without lines, with the times of this clock.
-    pub fn new(alloc: Global, clock: &'a T, writer: W) -> Self {
+    pub fn new(clock: &'a T, alloc: Global, writer: W) -> Self {
         let now = now_of(clock);
         Log {
             alloc,

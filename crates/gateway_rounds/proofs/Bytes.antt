@@ -11,8 +11,8 @@ use Rattle.tus_session.specs.History.{Event, Failed, Mark, Marked, OutOfMemory, 
 use Rattle.tus_session.specs.Images.{last_stores, shown_by}
 use Rattle.tus_laws.proofs.Growing.{always_known}
 use Rattle.gateway_script.specs.declared.faults.ScriptFault.TheVariants as scripts
-use Rattle.gateway_rounds.specs.declared.faults.RunFault.{RunFault}
-use Rattle.gateway_rounds.specs.declared.faults.RunFault.TheVariants.{Open, Script}
+use Rattle.gateway_engine.specs.declared.faults.RunFault.{RunFault}
+use Rattle.gateway_engine.specs.declared.faults.RunFault.TheVariants.{Open, Script}
 use Rattle.gateway_rounds.specs.declared.round.End.{End}
 use Rattle.gateway_rounds.specs.declared.round.End.TheVariants.{Crash, Nothing}
 use Rattle.gateway_rounds.specs.declared.round.Work.{Work}

@@ -1,4 +1,3 @@
 pub mod Passing
 pub mod Bytes
 pub mod Living
-mod Joining

@@ -2,7 +2,8 @@
 use Rattle.std.proofs.Common.{◌≡◌, ◌⊎◌, ◌<◌, ◌≤◌, ◌+◌, ◌*◌, ◌^◌, inl, inr, ℕ, List, [], ◌∷◌, ◌++◌, drop, Option}
 use Rattle.std.proofs.Common.{Some, None, Result, Ok, Err, refl}
 use Rattle.std.proofs.Common.{sym, subst, ap, ◌∙◌, append-nil, append_assoc, arith, ⊎_elim}
-use Rattle.std.proofs.lemmas.Bool.{cases_lt}
+use Rattle.std.specs.Prelude.{OnErr}
+use Rattle.common.specs.declared.stop.Stop.{Stop}
 use Rattle.common.specs.declared.stop.Stop.TheVariants.{NoMemory, DiskFault}
 use Rattle.spool_disk.specs.Disk.{Counts, IsImage}
 use Rattle.spool_disk.specs.declared.disk.Disk.{Ghosts}
@@ -19,7 +20,6 @@ use Rattle.spool_image.specs.declared.error.UpgradeError.{UpgradeError}
 use Rattle.spool_image.proofs.Crashed.{synced_shows}
 use Rattle.spool_catalog.proofs.Upgraded.{upgraded_valid}
 use Rattle.spool_catalog.specs.Shows.{IsValid}
-use Rattle.spool_catalog.specs.Loads.{LoadsAs}
 use Rattle.spool_catalog.specs.declared.error.OpenFault.{OpenFault}
 use Rattle.spool_catalog.specs.declared.error.OpenFault.TheVariants as opens
 use Rattle.spool_pages.proofs.Resting.{rests_image}
@@ -34,12 +34,12 @@ use Rattle.gateway_script.specs.Script as script
 use Rattle.gateway_script.specs.Script.{script_result, Exit}
 use Rattle.gateway_script.specs.Outputs.{IsFirst, output_of, last_output, WroteMost}
 use Rattle.gateway_script.specs.declared.faults.CallFault.TheVariants as calls
-use Rattle.gateway_script.specs.declared.faults.ScriptFault.{ScriptFault}
 use Rattle.gateway_script.specs.declared.faults.ScriptFault.TheVariants as scripts
-use Rattle.gateway_engine.specs.Ran.{CountsEither, HasFailed, HasRefused}
-use Rattle.gateway_engine.specs.RanOn.{AllShowOne, EndedOn, HasRunOn}
-use Rattle.gateway_rounds.specs.declared.faults.RunFault.{RunFault}
-use Rattle.gateway_rounds.specs.declared.faults.RunFault.TheVariants.{Open, Script}
+use Rattle.gateway_engine.specs.Ran.{CountsEither}
+use Rattle.gateway_engine.specs.RanOn.{AllShowOne, EndedOn}
+use Rattle.gateway_engine.specs.RanFrom.{HasFailedOn, HasRefusedOn, HasRunFrom, opening_in}
+use Rattle.gateway_engine.specs.declared.faults.RunFault.{RunFault}
+use Rattle.gateway_engine.specs.declared.faults.RunFault.TheVariants.{Open, Script}
 use Rattle.gateway_rounds.specs.Rounds.{OpensWith, Crashes, IsRunFault, left_by_run, left_by_upgrade, IsWholeRun}
 use Rattle.gateway_rounds.specs.Rounds.{RunEndsAs}
 use Rattle.gateway_rounds.specs.Rounds.{PassesRun, UpgradeEnds, UpgradeLeaves}
@@ -132,23 +132,23 @@ module _ {D : Type 0} (disk : Ghosts D) (given back : D) (n : ℕ) (before : Lis
         (lasts.nothing_else (disk.moment given) image (omega arith) (now (disk.moment given) image lasts.later is));
   }
 
-  -- the bytes that were there, and those that a run of this script with this fault wrote after them, from the disk as
-  -- it was opened
-  module _ (begun : D) (prefix held bytes : List ℕ) where
+  -- the bytes that were there, and those that a run of this script with this fault wrote after them
+  module _ (prefix held bytes : List ℕ) where
     abbrev Lived : Option RunFault → Type 0
     Lived fault =
         (left : List Store) × AllShowOne disk back n left × (out : List ℕ) × (held ≡ prefix ++ out)
         × PassesRun n m bytes fault out before left
 
-    whole : {exit : Exit} (r : script.Result) → EndedOn disk begun back n st r (Some held) (Some prefix) exit
-        → IsWholeRun st r r.run.past r.run.out
+    whole : {Since : List Store → Type 0} {exit : Exit} (r : script.Result)
+        → EndedOn Since st r (Some held) (Some prefix) exit → IsWholeRun st r r.run.past r.run.out
     whole r is = record { events = refl; output = is.output }
 
-    written_whole : {exit : Exit} (r : script.Result) → EndedOn disk begun back n st r (Some held) (Some prefix) exit
+    written_whole : {Since : List Store → Type 0} {exit : Exit} (r : script.Result)
+        → EndedOn Since st r (Some held) (Some prefix) exit
         → (rest : List ℕ) × (output_of st r.run.past ≡ r.run.out ++ rest)
     written_whole r is = ([], sym is.output ∙ sym (append-nil r.run.out))
 
-    pub ran : HasRunOn disk begun (Ok back) (Some held) (Some prefix) n st bytes → Lived None
+    pub ran : HasRunFrom disk given (Ok back) (Some held) (Some prefix) n st bytes → Lived None
     ran (marks, is) =
         let r = script_result st marks bytes in (
           r.run.state.world.store ∷ [],
@@ -160,7 +160,8 @@ module _ {D : Type 0} (disk : Ghosts D) (given back : D) (n : ℕ) (before : Lis
               (is.ended.exits, whole r is.ended),
         )
 
-    at_line : (line : ℕ) → HasRunOn disk begun (Err (back, scripts.Script line)) (Some held) (Some prefix) n st bytes
+    at_line : (line : ℕ)
+        → HasRunFrom disk given (Err (back, Script (scripts.Script line))) (Some held) (Some prefix) n st bytes
         → Lived (Some (Script (scripts.Script line)))
     at_line line (marks, is) =
         let r = script_result st marks bytes in (
@@ -173,7 +174,7 @@ module _ {D : Type 0} (disk : Ghosts D) (given back : D) (n : ℕ) (before : Lis
               (ap (λ (s : State). s.world.store ∷ []) is.ended.state) (is.ended.exits, whole r is.ended),
         )
 
-    failed : HasRunOn disk begun (Err (back, scripts.Stop DiskFault)) (Some held) (Some prefix) n st bytes
+    failed : HasRunFrom disk given (Err (back, Script (scripts.Stop DiskFault))) (Some held) (Some prefix) n st bytes
         → Lived (Some (Script (scripts.Stop DiskFault)))
     failed (marks, is) =
         let r = script_result st marks bytes in (
@@ -186,8 +187,8 @@ module _ {D : Type 0} (disk : Ghosts D) (given back : D) (n : ℕ) (before : Lis
               (written_whole r is.ended) refl (is.ended.exits, whole r is.ended),
         )
 
-    out_of_memory : HasRunOn disk begun (Err (back, scripts.Stop NoMemory)) (Some held) (Some prefix) n st bytes
-        → Lived (Some (Script (scripts.Stop NoMemory)))
+    out_of_memory : HasRunFrom disk given (Err (back, Script (scripts.Stop NoMemory))) (Some held) (Some prefix) n st
+        bytes → Lived (Some (Script (scripts.Stop NoMemory)))
     out_of_memory (marks, is) = (
       (history st is.past).world.store ∷ [],
       all_one disk back n (history st is.past).world.store is.shows,
@@ -198,7 +199,7 @@ module _ {D : Type 0} (disk : Ghosts D) (given back : D) (n : ℕ) (before : Lis
           (most_prefix st is.past is.out is.most) refl is.most,
     )
 
-    broken_off : HasRunOn disk begun (Err (back, scripts.Io)) (Some held) (Some prefix) n st bytes
+    broken_off : HasRunFrom disk given (Err (back, Script scripts.Io)) (Some held) (Some prefix) n st bytes
         → Lived (Some (Script scripts.Io))
     broken_off (marks, is) = (
       (history st is.past).world.store ∷ [],
@@ -209,36 +210,31 @@ module _ {D : Type 0} (disk : Ghosts D) (given back : D) (n : ℕ) (before : Lis
           (part_prefix st is.past is.out is.most) refl is.most,
     )
 
-    pub reported : (fault : ScriptFault) → HasRunOn disk begun (Err (back, fault)) (Some held) (Some prefix) n st bytes
-        → Lived (Some (Script fault))
-    reported (scripts.Stop NoMemory) has = out_of_memory has
-    reported (scripts.Stop DiskFault) has = failed has
-    reported (scripts.Script line) has = at_line line has
-    reported scripts.Io has = broken_off has
-
-  -- the disk wasn't opened, so nothing was written
-  module _ (prefix bytes : List ℕ) where
-    none_first : (past : List Marked) → IsFirst [] past
-    none_first past = (past, sym (append-nil past))
-
-    unbegun : (fault : RunFault) → before ≡ left_by_run (Some fault) st [] before
-        → RunEndsAs (Some fault) st (script_result st [] bytes) [] [] → AllShowOne disk back n before
-        → Lived given prefix prefix bytes (Some fault)
-    unbegun fault leaves ends still = (
+    -- the disk wasn't opened, so nothing was written
+    unbegun : (stop : Stop) → held ≡ prefix → AllShowOne disk back n before → Lived (Some (Open (opens.Stop stop)))
+    unbegun stop same still = (
       before,
       still,
       [],
-      sym (append-nil prefix),
-      passed [] [] bytes (Some fault) [] before (none_first (script_result st [] bytes).run.past) ([], refl) leaves
-          ends,
+      same ∙ sym (append-nil prefix),
+      passed [] [] bytes (Some (Open (opens.Stop stop))) [] before (
+        (script_result st [] bytes).run.past,
+        sym (append-nil (script_result st [] bytes).run.past),
+      ) ([], refl) refl refl,
     )
 
-    pub unopened : {S : Type 0} (done : S → Type 0) (fault : OpenFault) → LoadsAs {T = S} (Err fault) done
-        → AllShowOne disk back n before → Lived given prefix prefix bytes (Some (Open fault))
-    unopened done (opens.Stop stop) refused still = unbegun (Open (opens.Stop stop)) refl refl still
-    unopened done opens.NotASpool refused still = absurd refused
-    unopened done opens.Damaged refused still = absurd refused
-    unopened done opens.Version refused still = absurd refused
+    pub reported : {Same : Type 0} (fault : RunFault) → (Same → held ≡ prefix)
+        → HasRunFrom disk given (Err (back, fault)) (Some held) (Some prefix) n st bytes
+        → OnErr (opening_in {D = D} (Err (back, fault))) Same → Lived (Some fault)
+    reported (Script (scripts.Stop NoMemory)) so has unopened = out_of_memory has
+    reported (Script (scripts.Stop DiskFault)) so has unopened = failed has
+    reported (Script (scripts.Script line)) so has unopened = at_line line has
+    reported (Script scripts.Io) so has unopened = broken_off has
+    reported (Open (opens.Stop stop)) so has unopened =
+        unbegun stop (so unopened) (still_shown has.lasts has.honest has.room)
+    reported (Open opens.NotASpool) so has unopened = absurd has
+    reported (Open opens.Damaged) so has unopened = absurd has
+    reported (Open opens.Version) so has unopened = absurd has
 
 -- THE COUNTS of faults, and of refused allocations
 no_fault : {F : Type 0} {a b : ℕ} → (F → ⊥) → Counts F a b → Counts ⊥ a b
@@ -248,7 +244,7 @@ no_fault never counts = record {
   nothing_else = λ less. never (counts.nothing_else less);
 }
 
-pub counts_unopened : (fault : OpenFault) (a b : ℕ) → Counts (fault ≡ opens.Stop DiskFault) a b
+counts_unopened : (fault : OpenFault) (a b : ℕ) → Counts (fault ≡ opens.Stop DiskFault) a b
     → Counts (IsRunFault (Some (Open fault))) a b
 counts_unopened (opens.Stop DiskFault) a b counts = record {
   later = counts.later;
@@ -260,29 +256,13 @@ counts_unopened opens.NotASpool a b counts = no_fault (λ e. cc) counts
 counts_unopened opens.Damaged a b counts = no_fault (λ e. cc) counts
 counts_unopened opens.Version a b counts = no_fault (λ e. cc) counts
 
--- an opening that didn't fail counts nothing, and then comes the run
-unfailed : {a b : ℕ} → Counts ⊥ a b → b ≡ a
-unfailed {a = a} {b = b} counts =
-    elim (cases_lt a b) as (λ _. b ≡ a)
-    [ inl less ↦ absurd (counts.nothing_else less) | inr most ↦ omega (arith, counts.later) ]
-
--- and the faults of the run are reported
-pub counts_ran : {D : Type 0} {a b c : ℕ} (back : D) → Counts ⊥ a b → Counts (HasFailed {U = D} (Ok back)) b c
-    → Counts (IsRunFault None) a c
-counts_ran {c = c} back first then = subst (λ n. Counts ⊥ n c) (unfailed first) then
-
-reported_counts : {D : Type 0} (back : D) (fault : ScriptFault) (a b : ℕ)
-    → Counts (HasFailed {U = D} (Err (back, fault))) a b
-    → Counts (IsRunFault (Some (Script fault))) a b
-reported_counts back (scripts.Stop NoMemory) a b counts = counts
-reported_counts back (scripts.Stop DiskFault) a b counts = counts
-reported_counts back (scripts.Script line) a b counts = counts
-reported_counts back scripts.Io a b counts = counts
-
-pub counts_reported_of : {D : Type 0} {a b c : ℕ} (back : D) (fault : ScriptFault) → Counts ⊥ a b
-    → Counts (HasFailed {U = D} (Err (back, fault))) b c → Counts (IsRunFault (Some (Script fault))) a c
-counts_reported_of {a = a} {b = b} {c = c} back fault first then =
-    subst (λ n. Counts (IsRunFault (Some (Script fault))) n c) (unfailed first) (reported_counts back fault b c then)
+pub counts_run : {D : Type 0} (back : D) (fault : RunFault) (a b : ℕ)
+    → Counts (HasFailedOn {D = D} (Err (back, fault))) a b → Counts (IsRunFault (Some fault)) a b
+counts_run back (Script (scripts.Stop NoMemory)) a b counts = counts
+counts_run back (Script (scripts.Stop DiskFault)) a b counts = counts
+counts_run back (Script (scripts.Script line)) a b counts = counts
+counts_run back (Script scripts.Io) a b counts = counts
+counts_run back (Open fault) a b counts = counts_unopened fault a b counts
 
 -- a reader that refuses nothing
 none_refused : (0 < 0) ⊎ (2 ^ 64 ≤ 0 + 1) → ⊥
@@ -300,21 +280,15 @@ pub refusals_done : {v w : ℕ} → CountsEither ⊥ 0 0 v w
     → Counts (◌≡◌ {A = Option RunFault} None (Some (Script scripts.Io))) v w
 refusals_done c = writer_alone (λ e. absurd (cc)) (λ never. absurd never) c
 
-pub refusals_reported : {D : Type 0} (back : D) (fault : ScriptFault) (v w : ℕ)
-    → CountsEither (HasRefused {U = D} (Err (back, fault))) 0 0 v w
-    → Counts (◌≡◌ {A = Option RunFault} (Some (Script fault)) (Some (Script scripts.Io))) v w
-refusals_reported back (scripts.Stop stop) v w c = writer_alone (λ e. absurd (cc)) (λ never. absurd never) c
-refusals_reported back (scripts.Script line) v w c = writer_alone (λ e. absurd (cc)) (λ never. absurd never) c
-refusals_reported back scripts.Io v w c = writer_alone (λ e. tt) (λ is. refl) c
-
--- nothing was written
-pub refusals_none : (fault : OpenFault) (v : ℕ)
-    → Counts (◌≡◌ {A = Option RunFault} (Some (Open fault)) (Some (Script scripts.Io))) v v
-refusals_none fault v = record {
-  later = omega arith;
-  counted = λ e. absurd (cc);
-  nothing_else = λ less. absurd (omega (arith, less));
-}
+pub refusals_reported : {D : Type 0} (back : D) (fault : RunFault) (v w : ℕ)
+    → CountsEither (HasRefusedOn {D = D} (Err (back, fault))) 0 0 v w
+    → Counts (◌≡◌ {A = Option RunFault} (Some fault) (Some (Script scripts.Io))) v w
+refusals_reported back (Script (scripts.Stop stop)) v w c =
+    writer_alone (λ e. absurd (cc)) (λ never. absurd never) c
+refusals_reported back (Script (scripts.Script line)) v w c =
+    writer_alone (λ e. absurd (cc)) (λ never. absurd never) c
+refusals_reported back (Script scripts.Io) v w c = writer_alone (λ e. tt) (λ is. refl) c
+refusals_reported back (Open fault) v w c = writer_alone (λ e. absurd (cc)) (λ never. absurd never) c
 
 -- THE END OF A ROUND
 pub crashed : {D C : Type 0} (disk : Ghosts D) (chosen : C → D → D → Type 0) (how : C) (back after : D) (n : ℕ)

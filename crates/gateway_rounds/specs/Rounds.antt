@@ -21,8 +21,8 @@ use Rattle.gateway_script.specs.Outputs.{IsFirst, output_of, WroteMost}
 use Rattle.gateway_script.specs.declared.faults.CallFault.TheVariants as calls
 use Rattle.gateway_script.specs.declared.faults.ScriptFault.TheVariants as scripts
 use Rattle.gateway_engine.specs.RanOn.{AllShowOne}
-use Rattle.gateway_rounds.specs.declared.faults.RunFault.{RunFault}
-use Rattle.gateway_rounds.specs.declared.faults.RunFault.TheVariants.{Open, Script}
+use Rattle.gateway_engine.specs.declared.faults.RunFault.{RunFault}
+use Rattle.gateway_engine.specs.declared.faults.RunFault.TheVariants.{Open, Script}
 use Rattle.gateway_rounds.specs.declared.round.End.{End}
 use Rattle.gateway_rounds.specs.declared.round.End.TheVariants.{Crash, Nothing}
 use Rattle.gateway_rounds.specs.declared.round.Round.{Round}

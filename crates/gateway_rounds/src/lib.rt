@@ -2,14 +2,11 @@
 //! Then it crashes, or goes on as it is.
 #![tactic(auto)]
 
-mod faults;
-mod laws;
 mod life;
 mod round;
 mod streams;
 
-pub use faults::RunFault;
-pub use laws::runs_join;
+pub use gateway_engine::RunFault;
 pub use life::{endure, live_through};
 pub use round::{End, Round, Run, Work};
 pub use streams::WrittenBytes;

@@ -4,11 +4,10 @@ ghost use Rattle.upload_rules.specs.Store.{Store};
 ghost use Rattle.gateway_engine.specs.RanOn.{AllShowOne};
 ghost use Rattle.gateway_rounds.specs.Rounds.{IsEnd, IsRound, IsRun, IsUpgrade, IsWork};
 
-use crate::faults::RunFault;
 use crate::streams::{ScriptBytes, WrittenBytes};
-use gateway_engine::run;
+use gateway_engine::{RunFault, run};
 use spool_disk::CrashDisk;
-use spool_image::{Spool, UpgradeError, upgrade};
+use spool_image::{UpgradeError, upgrade};
 use std::alloc::Global;
 
 /// A round of a disk's life: what is done, what came of it, and how the round ends.
@@ -73,21 +72,14 @@ fn live_run<D: CrashDisk>(alloc: Global, disk: D, round: &mut Run) -> D
     ensures { (n : ℕ) (before : List Store) → AllShowOne D.Disk disk n before → (left : List Store)
         × AllShowOne D.Disk result n left × IsRun D.Disk n disk result before left round.old round.new }
 {
-    let spool = match Spool::open(alloc, disk) {
-        Ok(spool) => spool,
-        Err((disk, fault)) => {
-            round.fault = Some(RunFault::Open(fault));
-            return disk;
-        }
-    };
     let mut script = ScriptBytes::new(round.script.as_slice());
-    match run(alloc, &mut script, &mut round.written, spool) {
+    match run(alloc, &mut script, &mut round.written, disk) {
         Ok(disk) => {
             round.fault = None;
             disk
         }
         Err((disk, fault)) => {
-            round.fault = Some(RunFault::from(fault));
+            round.fault = Some(fault);
             disk
         }
     }

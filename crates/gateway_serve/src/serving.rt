@@ -50,8 +50,8 @@ pub struct Outcome<C> {
 ///
 /// After turns in which no socket had anything to do it rests, at most 10 milliseconds.
 pub fn serve_on<A: Acceptor, C: Connections, T: Clock>(
-    alloc: Global,
     clock: &T,
+    alloc: Global,
     acceptor: &mut A,
     gateway: C,
     connections: u64,

@@ -14,7 +14,7 @@ use crate::tongues::{
     ISO_2022_JP, SHIFT_JIS, UTF_8, UTF_16LE, WINDOWS_1252, in_utf8, japanese_sjis,
 };
 use crate::words::Language;
-use spool_image::Spool;
+use gateway_engine::{RunFault, run as run_script};
 use std::alloc::{AllocError, Global};
 
 // The spool is small, so that a long text fills it.
@@ -46,18 +46,10 @@ pub(crate) fn run(mut job: Job<'_>) -> Result<Digest, Fault> {
     for _ in 0..job.count {
         writer.write(&mut job.random)?;
         output.clear();
-        let spool = match Spool::open(job.alloc, disk) {
-            Ok(spool) => spool,
-            Err((_, fault)) => return Err(Fault::from(fault)),
-        };
-        disk = match gateway_engine::run(
-            job.alloc,
-            &mut writer.script.as_bytes(),
-            &mut output,
-            spool,
-        ) {
+        disk = match run_script(job.alloc, &mut writer.script.as_bytes(), &mut output, disk) {
             Ok(disk) => disk,
-            Err((_, fault)) => return Err(Fault::from(fault)),
+            Err((_, RunFault::Open(fault))) => return Err(Fault::from(fault)),
+            Err((_, RunFault::Script(fault))) => return Err(Fault::from(fault)),
         };
         if refusals(&output) > MOST_REFUSED {
             return Err(Fault::Refused);

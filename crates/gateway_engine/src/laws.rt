@@ -11,7 +11,8 @@ use spool_disk::Disk;
 
 /// Let every image since a moment before an opening show one of some stores. This still holds after the opening, if the
 /// store that was opened is one of them, and after the run over the opened spool, if each store after a change of the
-/// run is one of them. So the promises of `Spool::open` (`lasts`, `shows`) and of `run` (`runs`) can be joined.
+/// run is one of them. So the promises of `Spool::open` (`lasts`, `shows`) and of `run_opened` (`runs`) are joined to
+/// those of `run`.
 pub fn runs_join<D: Disk>()
     ensures opened { (before opened : D) (n t : ℕ) (m : Store) (ms : List Store) → t ≤ D.moment before → Among m ms
         → LeftOnly D.Disk before n t ms → Lasts D.Disk before opened (LeftOrShows D.Disk before n m)
