@@ -1,7 +1,19 @@
 -- Files that spools are in, of which one is opened and closed.
-use Rattle.std.proofs.Common.{◌≡◌, ℕ, refl, subst, List, Bool, true, false, Option, Some, if◌then◌else◌}
+use Rattle.std.proofs.Common.{◌≡◌, ◌∙◌, ap, arith, inl, refl, sym, ℕ, Bool, true, false, List, Option, Some}
+use Rattle.std.proofs.Common.{if◌then◌else◌}
 use Rattle.std.specs.Prelude.{bytes_eq}
-use Rattle.gateway_files.specs.SpoolFiles.{Disks, Leaves, with_disk}
+use Rattle.std.proofs.lemmas.Slice.Eq.{bytes_eq-Decides}
+use Rattle.spool_disk.specs.declared.disk.Disk.{Ghosts}
+use Rattle.gateway_files.specs.SpoolFiles.{Disks, Leaves, OnlyRead, with_disk}
+
+-- what wasn't even read was only read
+pub unread : {D : Type 0} (disk : Ghosts D) (d : D) → OnlyRead disk d d
+unread disk d = record {
+  size = refl;
+  honest = λ honest. honest;
+  preserves = λ honest. record { same = λ p. refl; unsyncs = λ p is. is };
+  lasts = λ honest. record { later = omega arith; nothing_else = λ t image le since. inl since };
+}
 
 twice : {X : Type 0} (b : Bool) (x y z : X) → (if b then y else (if b then x else z)) ≡ (if b then y else z)
 twice true x y z = refl
@@ -11,15 +23,41 @@ with_twice : {D : Type 0} (disks : Disks D) (path : List ℕ) (x y : Option D)
     → with_disk (with_disk disks path x) path y ≡ with_disk disks path y
 with_twice disks path x y = λ i other. twice (bytes_eq other path) x y (disks other) i
 
-pub one_disk : {D : Type 0} (a b : D) (there : Option D) → there ≡ Some a → there ≡ Some b → a ≡ b
+here : {D : Type 0} (disks : Disks D) (path : List ℕ) (x : Option D) → disks path ≡ x → (other : List ℕ) (b : Bool)
+    → bytes_eq other path ≡ b → (if b then x else disks other) ≡ disks other
+here disks path x is other true same = sym is ∙ ap disks (sym ((bytes_eq-Decides other path).0 same))
+here disks path x is other false same = refl
+
+with_same : {D : Type 0} (disks : Disks D) (path : List ℕ) (x : Option D) → disks path ≡ x
+    → with_disk disks path x ≡ disks
+with_same disks path x is = λ i other. here disks path x is other (bytes_eq other path) refl i
+
+one_disk : {D : Type 0} (a b : D) (there : Option D) → there ≡ Some a → there ≡ Some b → a ≡ b
 one_disk a b there this that = cc
 
--- what is put under a path last is there
-pub leaves_put : {D : Type 0} (holds : Disks D → Type 0) (disks : Disks D) (path : List ℕ) (x : Option D)
-    (P : D → Type 0) (d : D) → holds (with_disk (with_disk disks path x) path (Some d)) → P d
-    → Leaves holds disks path P
-leaves_put holds disks path x P d held so = record {
-  disk = d;
-  held = subst holds (with_twice disks path x (Some d)) held;
-  is = so;
-}
+module _ {D : Type 0} (holds : Disks D → Type 0) (disks : Disks D) (path : List ℕ) where
+  -- what is put under a path last is there
+  pub leaves_put : (x : Option D) (P : D → Type 0) (d : D) → holds (with_disk (with_disk disks path x) path (Some d))
+      → P d → Leaves holds disks path P
+  leaves_put x P d held so = record {
+    disk = d;
+    held = rw (with_twice disks path x (Some d)) at held;
+    is = so;
+  }
+
+  pub leaves_again : (x : Option D) (P Q : D → Type 0) → Leaves holds (with_disk disks path x) path P
+      → ((d : D) → P d → Q d) → Leaves holds disks path Q
+  leaves_again x P Q left so = leaves_put x Q left.disk left.held (so left.disk left.is)
+
+  -- where nothing was done
+  pub leaves_same : (d : D) (P : D → Type 0) → disks path ≡ Some d → holds disks → P d → Leaves holds disks path P
+  leaves_same d P is held so = record {
+    disk = d;
+    held = rw (with_same disks path (Some d) is) held;
+    is = so;
+  }
+
+  -- one disk is at the path
+  pub leaves_as : (there d : D) (Q : D → D → Type 0) → disks path ≡ Some there → disks path ≡ Some d
+      → Leaves holds disks path (Q there) → Leaves holds disks path (Q d)
+  leaves_as there d Q is this left = rw (one_disk there d (disks path) is this) at left

@@ -3,28 +3,33 @@
 
 mod scripting;
 mod serving;
+mod standard;
 mod watched;
 
 use clap::Error;
 use clap::error::ErrorKind;
 use common::Stop;
 use gateway_files::{
-    Failure, Fault, Formatted, Task, delete_file, delete_incomplete_file, ended, export_file,
-    format_file, json_file, list_file, report_formatted, report_read, report_upgraded, text_file,
+    Failure, Fault, Task, delete_file, delete_incomplete_file, ended, export_file, format_file,
+    json_file, list_file, report_formatted, report_longer, report_read, report_upgraded, text_file,
     upgrade_file,
 };
 use gateway_orders::{Order, USAGE, read_order, report_usage};
 use scripting::run_script;
 use serving::{Reporting, serve_file, serve_up};
+use standard::Closed;
 use std::alloc::Global;
 use std::process::ExitCode;
 use std::{env, io};
 
 fn main(rt: HostRuntime) -> ExitCode {
+    // First of all, and to the end: so no file of the program gets the number of a standard stream.
+    let closed = Closed::find(&rt);
     let status = match words(&rt, rt.alloc()) {
         Ok(words) => run(&rt, &words),
         Err(error) => ended(&mut rt.stderr(), no_words(&rt, error)),
     };
+    drop(closed);
     ExitCode::from(status)
 }
 
@@ -45,12 +50,15 @@ fn obey<'a>(rt: &'a HostRuntime, order: Order<'a>) -> Result<u8, Failure<'a>> {
             spool,
             blocks,
             indexes,
+            overwrite,
         } => {
-            let Formatted { pages, files } = format_file(rt, alloc, spool, blocks, indexes)?;
-            report_formatted(&mut io::writer(rt), blocks, pages)?;
-            // If standard error can't be written, the index files aren't reported.
-            let reported = report_read(&mut rt.stderr(), files.as_slice());
-            drop(reported);
+            let made = format_file(rt, alloc, spool, blocks, indexes, overwrite)?;
+            report_formatted(&mut io::writer(rt), blocks, made.pages)?;
+            // If standard error can't be written, neither the index files nor the file's length are reported.
+            drop(report_read(&mut rt.stderr(), made.files.as_slice()));
+            if let Some(len) = made.longer {
+                drop(report_longer(&mut rt.stderr(), spool, len));
+            }
         }
         Order::Script { spool } => run_script(rt, alloc, spool)?,
         Order::Serve(service) => serve_file(rt, alloc, service).1?,

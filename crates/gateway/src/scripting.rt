@@ -1,20 +1,14 @@
 //! Running standard input as a script over a spool.
-ghost use Rattle.std.specs.Prelude.{◌≡◌, ℕ, Some, Err, IsOk};
-ghost use Rattle.common.specs.declared.stop.Stop.{Stop};
-ghost use Rattle.spool_disk.specs.Disk.{Counts};
-ghost use Rattle.spool_image.specs.LeftOnly.{IsSpool};
-ghost use Rattle.upload_rules.specs.Store.{Store};
+ghost use Rattle.std.specs.Prelude.{◌≡◌, ◌⊎◌, Some, IsErrAnd};
 ghost use Rattle.gateway_files.specs.Failures.{fault_in};
-ghost use Rattle.gateway_files.specs.SpoolFiles.{Disks, Leaves};
-ghost use Rattle.gateway.specs.Scripts.{HasRunSpool};
-ghost use Rattle.gateway_files.specs.declared.faults.Fault.{Fault};
-ghost use Rattle.gateway_script.specs.declared.faults.ScriptFault.{ScriptFault};
+ghost use Rattle.gateway_files.specs.SpoolFiles.{Disks, Leaves, NotOpened};
+ghost use Rattle.gateway.specs.Scripts.{RanIn, run_fault};
 
 use enc_index::IndexSet;
-use gateway_engine::{Counted, CountedRead, CountedWrite, ScriptFault, run};
+use gateway_engine::{Counted, CountedRead, CountedWrite, RunFault, ScriptFault, run};
 use gateway_files::{Failure, Fault, Noted, SpoolFiles, SystemFiles, open_in, refused_in};
-use spool_disk::{Disk, MemoryDisk};
-use spool_image::{Spool, format, pages_of};
+use spool_disk::MemoryDisk;
+use spool_image::{format, pages_of};
 use spool_journal::PAGE;
 use std::alloc::Global;
 use std::io;
@@ -73,8 +67,10 @@ fn run_in_memory<'a, R: CountedRead, W: CountedWrite>(
     writer: &mut W,
 ) -> Result<(), Failure<'a>> {
     let disk = spool_in_memory(alloc)?;
-    let (_disk, ran) = run_over_disk(alloc, reader, writer, disk);
-    Ok(ran?)
+    match run(alloc, reader, writer, disk) {
+        Ok(_disk) => Ok(()),
+        Err((_disk, fault)) => Err(Failure::from(fault_of(fault))),
+    }
 }
 
 // Runs a script over the spool in the file at this path.
@@ -85,60 +81,36 @@ fn run_in<'a, F: SpoolFiles, R: CountedRead, W: CountedWrite>(
     reader: &mut R,
     writer: &mut W,
 ) -> Result<(), Failure<'a>>
-    // Where it ends well the output of the script's events over the spool's uploads was written, and the file has the
-    // uploads after them.
-    ensures runs { (disks : Disks F.File) (d : F.File) (n : ℕ) (m : Store) → F.holds files.old disks
-        → disks path.now ≡ Some d → IsSpool F.File.Disk d n m → IsOk result
-        → Leaves (F.holds files.new) disks path.now (HasRunSpool F.File.Disk n m (R.remaining reader.old)
-        (W.contents writer.old) (W.contents writer.new)) }
+    // Where the file can be opened the script is run over its spool, with what `gateway_engine::run` promises, and the
+    // failure is the run's. Where it can't, neither the reader nor the writer was called. The other files stay.
+    ensures runs { (disks : Disks F.File) (d : F.File) → F.holds files.old disks → disks path.now ≡ Some d
+        → Leaves (F.holds files.new) disks path.now (λ d'.
+        IsErrAnd result (λ failure. NotOpened d failure d' × (reader.new ≡ reader.old) × (writer.new ≡ writer.old))
+        ⊎ RanIn F.File.Disk d result (R.remaining reader.old) (W.contents writer.old) (W.contents writer.new)
+        ((reader.new ≡ reader.old) × (writer.new ≡ writer.old)) d') }
 {
-    let (disk, ran) = run_over_disk(alloc, reader, writer, open_in(files, path)?);
-    match ran {
-        Ok(()) => {
+    let disk = match open_in(files, path) {
+        Ok(disk) => disk,
+        Err(failure) => return Err(failure),
+    };
+    match run(alloc, reader, writer, disk) {
+        Ok(disk) => {
             files.close(path, disk);
             Ok(())
         }
-        Err(fault) => Err(refused_in(files, fault, path, disk)),
-    }
-}
-
-// Opens the spool on a disk, runs a script from `reader` over it, and writes its output to `writer`. The disk is
-// returned.
-fn run_over_disk<D: Disk + Drop, R: CountedRead, W: CountedWrite>(
-    alloc: Global,
-    reader: &mut R,
-    writer: &mut W,
-    disk: D,
-) -> (D, Result<(), Fault>)
-    // A run of a spool that ends well has written the output of the script's events over its uploads, and the disk has
-    // those after them.
-    ensures runs { (n : ℕ) (m : Store) → IsSpool D.Disk disk n m → IsOk result.1
-        → HasRunSpool D.Disk n m (R.remaining reader.old) (W.contents writer.old) (W.contents writer.new) result.0 }
-
-    // The disk failed exactly where the answer is a disk fault.
-    ensures counts { Counts (result.1 ≡ Err (Fault.Stop Stop.DiskFault)) (D.failures disk) (D.failures result.0) }
-{
-    let spool = match Spool::open(alloc, disk) {
-        Ok(spool) => spool,
-        Err((disk, fault)) => return (disk, Err(Fault::from(fault))),
-    };
-    match run(alloc, reader, writer, spool) {
-        Ok(disk) => (disk, Ok(())),
-        Err((disk, fault)) => (disk, Err(fault_of(fault))),
+        Err((disk, fault)) => Err(refused_in(files, fault_of(fault), path, disk)),
     }
 }
 
 // The program's error for a run that ended early.
-fn fault_of(fault: ScriptFault) -> Fault
-    ensures memory { fault ≡ ScriptFault.Stop Stop.NoMemory → result ≡ Fault.Stop Stop.NoMemory }
-    ensures device { fault ≡ ScriptFault.Stop Stop.DiskFault → result ≡ Fault.Stop Stop.DiskFault }
-    ensures script { (line : ℕ) → fault ≡ ScriptFault.Script line → result ≡ Fault.Script line }
-    ensures io { fault ≡ ScriptFault.Io → result ≡ Fault.Io }
+fn fault_of(fault: RunFault) -> Fault
+    ensures { result ≡ run_fault fault }
 {
     match fault {
-        ScriptFault::Stop(stop) => Fault::Stop(stop),
-        ScriptFault::Script(line) => Fault::Script(line),
-        ScriptFault::Io => Fault::Io,
+        RunFault::Open(fault) => Fault::from(fault),
+        RunFault::Script(ScriptFault::Stop(stop)) => Fault::Stop(stop),
+        RunFault::Script(ScriptFault::Script(line)) => Fault::Script(line),
+        RunFault::Script(ScriptFault::Io) => Fault::Io,
     }
 }
 

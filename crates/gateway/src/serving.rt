@@ -51,7 +51,7 @@ pub(crate) fn serve_file<'a>(
         clients,
         ended: _,
         served,
-    } = serve_on(alloc, rt, &mut acceptor, gateway, connections, turns);
+    } = serve_on(rt, alloc, &mut acceptor, gateway, connections, turns);
     // If standard error can't be written, the count isn't reported.
     drop(report_served(&mut rt.stderr(), clients.opened));
     outcome(served, spool, gateway.into_disk())
@@ -240,7 +240,7 @@ fn serve_logged(
     ensures counts { Counts (IsErr result.1) (failed_in (disk_in gateway))
         (failed_in (disk_in result.0)) }
 {
-    let log = Log::new(alloc, rt, rt.stderr());
+    let log = Log::new(rt, alloc, rt.stderr());
     let watched = Watched::new(gateway, blocks, &log);
     let logged = Logged::new(listener, &log);
     let (watched, served) = serve_on_and_on(rt, alloc, &mut Listening::new(&logged), watched);
@@ -266,7 +266,7 @@ where
             clients: _,
             ended: _,
             served,
-        } = serve_on(alloc, rt, acceptor, gateway, u64::MAX, u64::MAX);
+        } = serve_on(rt, alloc, acceptor, gateway, u64::MAX, u64::MAX);
         gateway = next;
         if served.is_err() {
             return (gateway, served);

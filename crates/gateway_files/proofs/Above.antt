@@ -88,13 +88,13 @@ all_above (x ∷ xs) some =
     ]
 
 -- before the first all are to be written
-pub reported_first : (f : ℕ × Upload → List ℕ) (out : List ℕ) (xs : List (ℕ × Upload))
+pub reported_first : {X : Type 0} (f : ℕ × Upload → List X) (out : List X) (xs : List (ℕ × Upload))
     → ((u : Upload) → find 0 xs ≡ Some u → ⊥) → out ≡ [] → out ++ flat_map f (after 0 xs) ≡ flat_map f xs
 reported_first f out xs some e =
     ap (λ l. l ++ flat_map f (after 0 xs)) e ∙ ap (λ ys. flat_map f ys) (all_above xs some)
 
 -- one more is written, of what is to be written in the end
-reported_more : (f : ℕ × Upload → List ℕ) (whole out : List ℕ) (xs : List (ℕ × Upload)) (n : ℕ) (entry : ℕ × Upload)
+reported_more : {X : Type 0} (f : ℕ × Upload → List X) (whole out : List X) (xs : List (ℕ × Upload)) (n : ℕ) (entry : ℕ × Upload)
     → IsRising (numbers xs) → above n xs ≡ Some entry → out ++ flat_map f (after n xs) ≡ whole
     → (out ++ f entry) ++ flat_map f (after entry.0 xs) ≡ whole
 reported_more f whole out xs n entry rising e before =
@@ -102,7 +102,7 @@ reported_more f whole out xs n entry rising e before =
     ∙ (ap (λ ys. out ++ flat_map f ys) (sym (some_above n xs entry rising e)) ∙ before)
 
 -- all are written
-reported_all : (f : ℕ × Upload → List ℕ) (whole out : List ℕ) (xs : List (ℕ × Upload)) (n : ℕ) → above n xs ≡ None
+reported_all : {X : Type 0} (f : ℕ × Upload → List X) (whole out : List X) (xs : List (ℕ × Upload)) (n : ℕ) → above n xs ≡ None
     → out ++ flat_map f (after n xs) ≡ whole → out ≡ whole
 reported_all f whole out xs n e before =
     sym (append-nil out) ∙ (ap (λ ys. out ++ flat_map f ys) (sym (none_above n xs e)) ∙ before)
@@ -129,7 +129,7 @@ represented x None r t = absurd t
 represented x (Some entry) r t = (entry, refl, t)
 
 -- what is written of each upload, by its record
-module _ (x : IndexSet) (f : ℕ × Upload → List ℕ) (whole out : List ℕ) (xs : List (ℕ × Upload)) (n : ℕ)
+module _ {X : Type 0} (x : IndexSet) (f : ℕ × Upload → List X) (whole out : List X) (xs : List (ℕ × Upload)) (n : ℕ)
     (r : Option (Bor Record)) (t : RepresentsOf x (above n xs) (option_copied r))
     (before : out ++ flat_map f (after n xs) ≡ whole) where
   pub reported_none : r ≡ None → out ≡ whole
@@ -137,9 +137,9 @@ module _ (x : IndexSet) (f : ℕ × Upload → List ℕ) (whole out : List ℕ) 
       reported_all f whole out xs n (none_represented x (above n xs) (option_copied r) (ap (λ o. option_copied o) e)
       t) before
 
-  pub reported_next : (of : Record → List ℕ)
+  pub reported_next : (of : Record → List X)
       → ((r : Record) (entry : ℕ × Upload) → Represents x entry.0 r entry.1 → of r ≡ f entry)
-      → (now : Bor Record) (more : List ℕ) → IsRising (numbers xs) → r ≡ Some now → more ≡ out ++ of now.now
+      → (now : Bor Record) (more : List X) → IsRising (numbers xs) → r ≡ Some now → more ≡ out ++ of now.now
       → more ++ flat_map f (after now.now.number xs) ≡ whole
   reported_next of is now more rising e pushed =
       let it = represented x (above n xs) now.now (subst (λ o. RepresentsOf x (above n xs) (option_copied o)) e t) in

@@ -1,23 +1,25 @@
 -- Texts written into the files of a folder, one after the other.
 use Rattle.std.proofs.Common.{◌≡◌, ◌∙◌, ◌⊎◌, ap, arith, inl, inr, refl, subst, sym, ℕ, ◌+◌, ◌<◌}
 use Rattle.std.proofs.Common.{Bool, true, false, ◌||◌, List, [], ◌∷◌, ◌++◌, get_or, length, map, take, if◌then◌else◌}
-use Rattle.std.proofs.Common.{Option, Some, None, Result, Ok, Err, OnOk}
-use Rattle.std.specs.Prelude.{bytes_eq, option_map}
+use Rattle.std.proofs.Common.{Option, Some, None, Result, Ok, Err, IfOk, OnOk}
+use Rattle.std.proofs.Common.{option_map}
+use Rattle.std.specs.Prelude.{bytes_eq, not}
 use Rattle.std.proofs.lemmas.List.{map-append, take-map, take_more}
 use Rattle.std.proofs.Math.Bool.{or-false, or_assoc}
 use Rattle.std.proofs.lemmas.Slice.Eq.{bytes_eq-Decides}
 use Rattle.tus_request.proofs.LineLemmas.{true_or_false}
 use Rattle.upload_rules.specs.Reading.{text_at}
-use Rattle.upload_rules.specs.Store.{Store, Upload, is_complete, upload_of}
+use Rattle.upload_rules.specs.Store.{Store, upload_of}
 use Rattle.gateway_files.specs.Copies.{AreOf}
-use Rattle.gateway_files.specs.Exporting.{ExportedAs, Exports, ExportsAs, ExportsOneAs, ExportsSome, ExportsSomeAs}
-use Rattle.gateway_files.specs.Exporting.{HoldsTexts, IsJob, differs_as, differs_from, differs_one, exported}
-use Rattle.gateway_files.specs.Exporting.{exported_as, exported_one, some_differ}
+use Rattle.gateway_files.specs.Exporting.{AllLast, AllThere, ExportedAs, Exports, ExportsAs, ExportsOneAs, ExportsSome}
+use Rattle.gateway_files.specs.Exporting.{ExportsSomeAs, HoldsEach, HoldsTexts, IsJob, IsText, differs_from}
+use Rattle.gateway_files.specs.Exporting.{differs_one, exported, exported_as, exported_one, is_other, some_differ}
 use Rattle.gateway_files.specs.Folders.{Files, HoldsAll, HoldsEither, PreservesFiles, new_file}
-use Rattle.gateway_files.specs.Naming.{given_name}
-use Rattle.gateway_files.specs.Planning.{Job, file_name, is_name, is_used, job_shown, jobs_from, jobs_of}
+use Rattle.gateway_files.specs.Planning.{Job, job_shown}
+use Rattle.gateway_files.specs.declared.exporting.ExportTally.{ExportTally}
+use Rattle.gateway_files.specs.declared.outcomes.Outcome.{Outcome}
 use Rattle.gateway_files.proofs.Pieces.{are_same}
-use Rattle.gateway_files.proofs.Named.{AllFit, FitsName, Rises, all_last, all_more, new_name}
+use Rattle.gateway_files.proofs.Named.{Apart}
 use Rattle.gateway_files.specs.declared.planning.Job as code
 
 -- one job more
@@ -34,124 +36,49 @@ as_last sure m files mid now [] job is one = subst (λ before. ExportedAs sure m
 as_last sure m files mid now (first ∷ jobs) job is one =
     (is.0, is.1, as_last sure m (exported_as files first.1 is.0) mid now jobs job is.2 one)
 
--- an export that came so far
-pub as_some : (sure : Bool) (holds : Files → Type 0) (m : Store) (files : Files) (jobs : List code.Job) (i : ℕ)
-    → ExportsAs sure holds m (map job_shown (take i jobs)) files → ExportsSomeAs sure holds m (map job_shown jobs) files
-as_some sure holds m files jobs i is = record {
-  count = i;
-  some = subst (λ js. ExportsAs sure holds m js files) (sym (take-map job_shown i jobs)) is;
-}
+-- WHAT IS SO OF EACH JOB
 
-module _ (sure : Bool) (was holds : Files → Type 0) (m : Store) (files : Files) (jobs : List code.Job) (i : ℕ)
-    (job : code.Job) (lt : i < length jobs) (same : job ≡ get_or jobs i job)
-    (is : ExportsAs sure was m (map job_shown (take i jobs)) files) where
-  pub as_more : ExportsAs sure holds m (job_shown job ∷ []) is.now
-      → ExportsAs sure holds m (map job_shown (take (i + 1) jobs)) files
-  as_more one = record {
-    now = one.now;
-    held = one.held;
-    are = subst (λ js. ExportedAs sure m js files one.now) (jobs_more jobs i job lt same)
-        (as_last sure m files is.now one.now (map job_shown (take i jobs)) (job_shown job) is.are one.are);
-  }
+last_or : (jobs : List Job) (job it : Job) → IsJob it (jobs ++ job ∷ []) → IsJob it jobs ⊎ (it ≡ job)
+last_or [] job it (inl same) = inr same
+last_or [] job it (inr never) = absurd never
+last_or (first ∷ jobs) job it (inl same) = inl (inl same)
+last_or (first ∷ jobs) job it (inr later) = elim (last_or jobs job it later) [
+  | inl among ↦ inl (inr among)
+  | inr same ↦ inr same
+]
 
-  -- that was broken off in one
-  pub as_either : ExportsOneAs sure holds m (job_shown job) is.now
-      → ExportsSomeAs sure holds m (map job_shown jobs) files
-  as_either (inl held) =
-      as_some sure holds m files jobs i (record { now = is.now; held = held; are = is.are })
-  as_either (inr one) = as_some sure holds m files jobs (i + 1) (as_more one)
+abbrev Each : (ℕ → List ℕ → Type 0) → List Job → Type 0
+Each P jobs = (number : ℕ) (name : List ℕ) → IsJob (number, Some name) jobs → P number name
 
--- ONE JOB: where its text is to be written and where not
-module _ (sure : Bool) (holds : Files → Type 0) (m : Store) (files : Files) (job : Job) where
-  pub as_left : ((bytes : List ℕ) → exported_as files job.1 bytes ≡ files) → holds files
-      → ExportsAs sure holds m (job ∷ []) files
-  as_left left held =
-      let text = text_at m (upload_of m job.0) in
-      record { now = files; held = held; are = (text, are_same sure text, sym (left text)) }
+each_last : (P : ℕ → List ℕ → Type 0) (jobs : List Job) (job : Job) → Each P jobs → Each P (job ∷ [])
+    → Each P (jobs ++ job ∷ [])
+each_last P jobs job each one number name is = elim (last_or jobs job (number, Some name) is) [
+  | inl among ↦ each number name among
+  | inr same ↦ one number name (inl same)
+]
 
-  pub as_new : (bytes : List ℕ) → AreOf sure bytes (text_at m (upload_of m job.0))
-      → holds (exported_as files job.1 bytes) → ExportsAs sure holds m (job ∷ []) files
-  as_new bytes are held = record { now = exported_as files job.1 bytes; held = held; are = (bytes, are, refl) }
+pub each_more : (P : ℕ → List ℕ → Type 0) (jobs : List code.Job) (i : ℕ) (job : code.Job) → i < length jobs
+    → job ≡ get_or jobs i job → Each P (map job_shown (take i jobs)) → Each P (job_shown job ∷ [])
+    → Each P (map job_shown (take (i + 1) jobs))
+each_more P jobs i job lt is each one =
+    subst (λ js. Each P js) (jobs_more jobs i job lt is) (each_last P (map job_shown (take i jobs)) (job_shown job) each
+    one)
 
-  pub as_ended : (bytes : List ℕ) → AreOf sure bytes (text_at m (upload_of m job.0))
-      → HoldsEither holds files (exported_as files job.1 bytes) → ExportsOneAs sure holds m job files
-  as_ended bytes are (inl held) = inl held
-  as_ended bytes are (inr held) = inr (as_new bytes are held)
+-- of the only one
+pub each_one : (P : ℕ → List ℕ → Type 0) (n : ℕ) (name : List ℕ) → P n name → Each P ((n, Some name) ∷ [])
+each_one P n name is k other (inl same) =
+    let number : k ≡ n = ap (λ (j : Job). j.0) same in
+    let named : ◌≡◌ {A = Option (List ℕ)} (Some other) (Some name) = ap (λ (j : Job). j.1) same in
+    let one : other ≡ name = cc in rw (number, one) is
+each_one P n name is k other (inr never) = absurd never
 
-pub no_name : (files : Files) (name : Option (List ℕ)) (bytes : List ℕ) → name ≡ None
-    → exported_as files name bytes ≡ files
-no_name files name bytes none = grind arith
+-- of one that has no file
+pub each_none : (P : ℕ → List ℕ → Type 0) (job : Job) → job.1 ≡ None → Each P (job ∷ [])
+each_none P job none number name (inl same) =
+    let bad : ◌≡◌ {A = Option (List ℕ)} (Some name) None = ap (λ (j : Job). j.1) same ∙ none in absurd (cc)
+each_none P job none number name (inr never) = absurd never
 
--- WHERE IT IS SURE the files are those of the store's texts
-surely : (m : Store) (jobs : List Job) (files now : Files) → ExportedAs true m jobs files now
-    → now ≡ exported m files jobs
-surely m [] files now is = is
-surely m (job ∷ jobs) files now is =
-    surely m jobs (exported_as files job.1 is.0) now is.2
-    ∙ ap (λ bytes. exported m (exported_as files job.1 bytes) jobs) (is.1.same refl)
-
-pub surely_all : {T E : Type 0} (result : Result T E) (holds : Files → Type 0) (m : Store) (jobs : List Job)
-    (files : Files) → OnOk result (ExportsAs true holds m jobs files) → OnOk result (holds (exported m files jobs))
-surely_all (Err e) holds m jobs files is = tt
-surely_all (Ok t) holds m jobs files is = subst holds (surely m jobs files is.now is.are) is.held
-
-pub surely_some : (holds : Files → Type 0) (m : Store) (jobs : List Job) (files : Files)
-    → ExportsSomeAs true holds m jobs files → ExportsSome holds m jobs files
-surely_some holds m jobs files is = record {
-  count = is.count;
-  held = subst holds (surely m (take is.count jobs) files is.some.now is.some.are) is.some.held;
-}
-
--- WHETHER A FILE DIFFERS is decided by the lengths of files, which are those of the store's texts
-abbrev AsLong : Files → Files → Type 0
-AsLong files now = (name : List ℕ) → option_map length (files name) ≡ option_map length (now name)
-
-new_long : (there there' : Option (List ℕ)) (files now : Files) (name bytes bytes' : List ℕ)
-    → option_map length there ≡ option_map length there' → length bytes ≡ length bytes' → AsLong files now
-    → AsLong (new_file there files name bytes) (new_file there' now name bytes')
-new_long there there' files now name bytes bytes' same size long = λ other. grind (arith, long other)
-
-as_long : (files now : Files) (job : Option (List ℕ)) (bytes bytes' : List ℕ) → length bytes ≡ length bytes'
-    → AsLong files now → AsLong (exported_as files job bytes) (exported_as now job bytes')
-as_long files now None bytes bytes' size long = long
-as_long files now (Some name) bytes bytes' size long =
-    new_long (files name) (now name) files now name bytes bytes' (long name) size long
-
-all_long : (sure : Bool) (m : Store) (files before now : Files) (jobs : List Job) → AsLong files before
-    → ExportedAs sure m jobs before now → AsLong (exported m files jobs) now
-all_long sure m files before now [] long is = subst (λ after. AsLong files after) (sym is) long
-all_long sure m files before now (job ∷ jobs) long is =
-    all_long sure m (exported_one m files job) (exported_as before job.1 is.0) now jobs
-    (as_long files before job.1 (text_at m (upload_of m job.0)) is.0 (sym is.1.size) long) is.2
-
-there_long : (there there' : Option (List ℕ)) (text : List ℕ) → option_map length there ≡ option_map length there'
-    → differs_from there text ≡ differs_from there' text
-there_long there there' text long = grind arith
-
-one_long : (files now : Files) (job : Option (List ℕ)) (text : List ℕ) → AsLong files now
-    → differs_as files job text ≡ differs_as now job text
-one_long files now job text long = grind (arith, there_long)
-
-differ_last : (m : Store) (files : Files) (jobs : List Job) (job : Job)
-    → some_differ m files (jobs ++ job ∷ []) ≡ (some_differ m files jobs || differs_one m (exported m files jobs) job)
-differ_last m files [] job = or-false (differs_one m files job)
-differ_last m files (first ∷ jobs) job =
-    ap (λ (b : Bool). differs_one m files first || b) (differ_last m (exported_one m files first) jobs job)
-    ∙ sym (or_assoc (differs_one m files first) (some_differ m (exported_one m files first) jobs)
-    (differs_one m (exported m files (first ∷ jobs)) job))
-
-pub differ_more : (sure : Bool) (m : Store) (files now : Files) (jobs : List code.Job) (i : ℕ) (job : code.Job)
-    → i < length jobs → job ≡ get_or jobs i job → ExportedAs sure m (map job_shown (take i jobs)) files now
-    → (some_differ m files (map job_shown (take i jobs)) || differs_one m now (job_shown job))
-    ≡ some_differ m files (map job_shown (take (i + 1) jobs))
-differ_more sure m files now jobs i job lt same is =
-    let done : List Job = map job_shown (take i jobs) in
-    let it : Job = job_shown job in
-    ap (λ (b : Bool). some_differ m files done || b) (sym (one_long (exported m files done) now it.1
-    (text_at m (upload_of m it.0)) (all_long sure m files files now done (λ name. refl) is)))
-    ∙ (sym (differ_last m files done it) ∙ ap (λ js. some_differ m files js) (jobs_more jobs i job lt same))
-
--- WHAT AN EXPORT LEAVES
+-- WHAT STAYS
 
 new_preserves : (there : Option (List ℕ)) (files : Files) (name text : List ℕ) → files name ≡ there
     → PreservesFiles files (new_file there files name text)
@@ -168,101 +95,273 @@ as_preserves : (files : Files) (name : Option (List ℕ)) (text : List ℕ)
 as_preserves files None text = λ other held here. here
 as_preserves files (Some name) text = new_preserves (files name) files name text refl
 
-pub exported_preserves : (m : Store) (files : Files) (jobs : List Job) → PreservesFiles files (exported m files jobs)
+exported_preserves : (m : Store) (files : Files) (jobs : List Job) → PreservesFiles files (exported m files jobs)
 exported_preserves m files [] = λ other held here. here
 exported_preserves m files (job ∷ jobs) = λ other held here.
     exported_preserves m (exported_one m files job) jobs other held
     (as_preserves files job.1 (text_at m (upload_of m job.0)) other held here)
 
--- a new file holds its text
+preserved : (sure : Bool) (m : Store) (before now : Files) (jobs : List Job) → ExportedAs sure m jobs before now
+    → PreservesFiles before now
+preserved sure m before now [] is = λ name bytes here. ap (λ (files : Files). files name) is ∙ here
+preserved sure m before now (job ∷ jobs) is = λ name bytes here.
+    preserved sure m (exported_as before job.1 is.0) now jobs is.2 name bytes
+    (as_preserves before job.1 is.0 name bytes here)
+
+there_still : (sure : Bool) (m : Store) (mid now : Files) (jobs : List Job) → PreservesFiles mid now
+    → AllThere sure m jobs mid → AllThere sure m jobs now
+there_still sure m mid now jobs preserves there number name is =
+    let it = there number name is in (it.0, preserves name it.0 it.1, it.2)
+
+neither : (a b : Bool) → (a || b) ≡ false → (a ≡ false) × (b ≡ false)
+neither a b is = (grind arith, grind arith)
+
+pub last_more : (lasting lasting' : List ℕ → Type 0) (jobs : List code.Job) (i : ℕ) (job : code.Job) (a b : Bool)
+    → i < length jobs → job ≡ get_or jobs i job → ((name : List ℕ) → lasting name → lasting' name)
+    → (a ≡ false → AllLast lasting (map job_shown (take i jobs)))
+    → (b ≡ false → AllLast lasting' (job_shown job ∷ [])) → (a || b) ≡ false
+    → AllLast lasting' (map job_shown (take (i + 1) jobs))
+last_more lasting lasting' jobs i job a b lt is still each one none =
+    let both = neither a b none in
+    each_more (λ number name. lasting' name) jobs i job lt is
+    (λ number name among. still name (each both.0 number name among)) (one both.1)
+
+-- AN EXPORT THAT CAME SO FAR
+module _ (sure : Bool) (holds : Files → Type 0) (m : Store) (files : Files) (jobs : List code.Job) (i : ℕ) where
+  some_held : (now : Files) → holds now → ExportedAs sure m (map job_shown (take i jobs)) files now
+      → ExportsSomeAs sure holds m (map job_shown jobs) files
+  some_held now held are = record {
+    count = i;
+    some = record {
+      now = now;
+      held = held;
+      are = subst (λ js. ExportedAs sure m js files now) (sym (take-map job_shown i jobs)) are;
+      there = λ never. absurd (cc);
+    };
+  }
+
+  pub as_some : (differs : Bool) → ExportsAs sure differs holds m (map job_shown (take i jobs)) files
+      → ExportsSomeAs sure holds m (map job_shown jobs) files
+  as_some differs is = some_held is.now is.held is.are
+
+module _ (sure differs : Bool) (was holds : Files → Type 0) (m : Store) (files : Files) (jobs : List code.Job) (i : ℕ)
+    (job : code.Job) (lt : i < length jobs) (same : job ≡ get_or jobs i job)
+    (is : ExportsAs sure differs was m (map job_shown (take i jobs)) files) where
+  pub as_more : (other : Bool) → ExportsAs sure other holds m (job_shown job ∷ []) is.now
+      → ExportsAs sure (differs || other) holds m (map job_shown (take (i + 1) jobs)) files
+  as_more other one = record {
+    now = one.now;
+    held = one.held;
+    are = subst (λ js. ExportedAs sure m js files one.now) (jobs_more jobs i job lt same)
+        (as_last sure m files is.now one.now (map job_shown (take i jobs)) (job_shown job) is.are one.are);
+    there = λ none.
+        let both = neither differs other none in
+        each_more
+        (λ number name. (bytes : List ℕ) × (one.now name ≡ Some bytes) × AreOf sure bytes
+        (text_at m (upload_of m number))) jobs i job lt same
+        (there_still sure m is.now one.now (map job_shown (take i jobs))
+        (preserved sure m is.now one.now (job_shown job ∷ []) one.are) (is.there both.0)) (one.there both.1);
+  }
+
+  -- that was broken off in one
+  pub as_either : ExportsOneAs sure holds m (job_shown job) is.now
+      → ExportsSomeAs sure holds m (map job_shown jobs) files
+  as_either (inl held) = some_held sure holds m files jobs i is.now held is.are
+  as_either (inr one) = as_some sure holds m files jobs (i + 1) (differs || true) (as_more true one)
+
+-- ONE JOB: where its text is to be written and where not
+module _ (sure : Bool) (holds : Files → Type 0) (m : Store) (files : Files) where
+  left : (differs : Bool) (job : Job) → ((bytes : List ℕ) → exported_as files job.1 bytes ≡ files) → holds files
+      → (differs ≡ false → AllThere sure m (job ∷ []) files) → ExportsAs sure differs holds m (job ∷ []) files
+  left differs job same held there =
+      let text = text_at m (upload_of m job.0) in
+      record { now = files; held = held; are = (text, are_same sure text, sym (same text)); there = there }
+
+  -- it has no file
+  pub as_none : (job : Job) → job.1 ≡ None → holds files → ExportsAs sure false holds m (job ∷ []) files
+  as_none job none held =
+      left false job (λ bytes. ap (λ name. exported_as files name bytes) none) held (λ _. each_none _ job none)
+
+  -- its file was there
+  pub as_there : (n : ℕ) (name bytes : List ℕ) (differs : Bool) → files name ≡ Some bytes
+      → (differs ≡ false → AreOf sure bytes (text_at m (upload_of m n))) → holds files
+      → ExportsAs sure differs holds m ((n, Some name) ∷ []) files
+  as_there n name bytes differs here are held =
+      left differs (n, Some name) (λ text. ap (λ there. new_file there files name text) here) held
+      (λ none. each_one _ n name (bytes, here, are none))
+
+  -- it was written
+  pub as_new : (n : ℕ) (name bytes : List ℕ) → files name ≡ None → AreOf sure bytes (text_at m (upload_of m n))
+      → holds (new_file None files name bytes) → ExportsAs sure false holds m ((n, Some name) ∷ []) files
+  as_new n name bytes none are held =
+      record {
+        now = new_file None files name bytes;
+        held = held;
+        are = (bytes, are, ap (λ there. new_file there files name bytes) (sym none));
+        there = λ _. each_one _ n name (bytes, new_here files name bytes, are);
+      }
+    where
+      new_here : (files : Files) (name text : List ℕ) → new_file None files name text name ≡ Some text
+      new_here files name text = grind (arith, bytes_eq-Decides name name)
+
+  pub as_ended : (n : ℕ) (name bytes : List ℕ) → AreOf sure bytes (text_at m (upload_of m n))
+      → HoldsEither holds files (exported_as files (Some name) bytes) → ExportsOneAs sure holds m (n, Some name) files
+  as_ended n name bytes are (inl held) = inl held
+  as_ended n name bytes are (inr held) = inr (record {
+    now = exported_as files (Some name) bytes;
+    held = held;
+    are = (bytes, are, refl);
+    there = λ never. absurd (cc);
+  })
+
+  -- that was there, and was compared
+  pub as_found : {E : Type 0} (result : Result Outcome E) (n : ℕ) (shown : Option (List ℕ)) (name bytes : List ℕ)
+      → shown ≡ Some name → files name ≡ Some bytes → holds files
+      → IfOk result (λ outcome. IsText sure bytes (text_at m (upload_of m n)) (not (is_other outcome)))
+      → IfOk result (λ outcome. ExportsAs sure (is_other outcome) holds m ((n, shown) ∷ []) files)
+  as_found (Err e) n shown name bytes named here held is = tt
+  as_found (Ok outcome) n shown name bytes named here held is =
+      rw named (as_there n name bytes (is_other outcome) here (λ same. is.yes (ap not same)) held)
+
+-- the file that has so many bytes
+pub some_length : (there : Option (List ℕ)) (len : ℕ) → Some len ≡ option_map length there
+    → (bytes : List ℕ) × (there ≡ Some bytes) × (len ≡ length bytes)
+some_length None len is = absurd (cc)
+some_length (Some bytes) len is = (bytes, refl, cc)
+
+-- whether it is another
+not_not : (a b : Bool) → not a ≡ b → a ≡ not b
+not_not true b is = ap not is
+not_not false b is = ap not is
+
+pub found_differs : {E : Type 0} (result : Result Outcome E) (m : Store) (files : Files) (n : ℕ)
+    (shown : Option (List ℕ)) (name bytes : List ℕ) → shown ≡ Some name → files name ≡ Some bytes
+    → IfOk result (λ outcome. IsText true bytes (text_at m (upload_of m n)) (not (is_other outcome)))
+    → IfOk result (λ outcome. is_other outcome ≡ differs_one m files (n, shown))
+found_differs (Err e) m files n shown name bytes named here is = tt
+found_differs (Ok outcome) m files n shown name bytes named here is =
+    let text = text_at m (upload_of m n) in
+    rw named (not_not (is_other outcome) (bytes_eq bytes text) (is.no refl)
+    ∙ ap (λ there. differs_from there text) (sym here))
+
+-- whether or not one differs
+pub any_one : {sure : Bool} {holds : Files → Type 0} {m : Store} {job : Job} {files : Files} (differs : Bool)
+    → ExportsAs sure differs holds m (job ∷ []) files → ExportsAs sure true holds m (job ∷ []) files
+any_one differs is = record {
+  now = is.now;
+  held = is.held;
+  are = is.are;
+  there = λ never. absurd (cc);
+}
+
+-- WHERE IT IS SURE the files are those of the store's texts
+surely : (m : Store) (jobs : List Job) (files now : Files) → ExportedAs true m jobs files now
+    → now ≡ exported m files jobs
+surely m [] files now is = is
+surely m (job ∷ jobs) files now is =
+    surely m jobs (exported_as files job.1 is.0) now is.2
+    ∙ ap (λ bytes. exported m (exported_as files job.1 bytes) jobs) (is.1.same refl)
+
+pub surely_all : {E : Type 0} (result : Result ExportTally E) (holds : Files → Type 0) (m : Store) (jobs : List Job)
+    (files : Files) → IfOk result (λ done. ExportsAs true done.differs holds m jobs files)
+    → OnOk result (holds (exported m files jobs))
+surely_all (Err e) holds m jobs files is = tt
+surely_all (Ok done) holds m jobs files is = subst holds (surely m jobs files is.now is.are) is.held
+
+pub surely_some : (holds : Files → Type 0) (m : Store) (jobs : List Job) (files : Files)
+    → ExportsSomeAs true holds m jobs files → ExportsSome holds m jobs files
+surely_some holds m jobs files is = record {
+  count = is.count;
+  held = subst holds (surely m (take is.count jobs) files is.some.now is.some.are) is.some.held;
+}
+
+-- and if none differs, each has its text
+pub surely_each : {E : Type 0} (result : Result ExportTally E) (holds : Files → Type 0) (lasting : List ℕ → Type 0)
+    (m : Store) (jobs : List Job) (files : Files)
+    → IfOk result (λ done. ExportsAs true done.differs holds m jobs files)
+    → IfOk result (λ done. done.differs ≡ false → AllLast lasting jobs)
+    → IfOk result (λ done. done.differs ≡ false → HoldsEach holds lasting m jobs)
+surely_each (Err e) holds lasting m jobs files is lasts = tt
+surely_each (Ok done) holds lasting m jobs files is lasts = λ none. record {
+  now = is.now;
+  held = is.held;
+  texts = λ number name job. let it = is.there none number name job in it.1 ∙ ap (λ b. Some b) (it.2.same refl);
+  lasts = lasts none;
+}
+
+-- where it isn't asked whether one differs
+pub any_differs : {E : Type 0} (result : Result ExportTally E) (sure : Bool) (holds : Files → Type 0) (m : Store)
+    (jobs : List Job) (files : Files) → IfOk result (λ done. ExportsAs sure done.differs holds m jobs files)
+    → OnOk result (ExportsAs sure true holds m jobs files)
+any_differs (Err e) sure holds m jobs files is = tt
+any_differs (Ok done) sure holds m jobs files is = record {
+  now = is.now;
+  held = is.held;
+  are = is.are;
+  there = λ never. absurd (cc);
+}
+
+-- WHETHER A FILE DIFFERS
+differ_last : (m : Store) (files : Files) (jobs : List Job) (job : Job)
+    → some_differ m files (jobs ++ job ∷ []) ≡ (some_differ m files jobs || differs_one m (exported m files jobs) job)
+differ_last m files [] job = or-false (differs_one m files job)
+differ_last m files (first ∷ jobs) job =
+    ap (λ (b : Bool). differs_one m files first || b) (differ_last m (exported_one m files first) jobs job)
+    ∙ sym (or_assoc (differs_one m files first) (some_differ m (exported_one m files first) jobs)
+    (differs_one m (exported m files (first ∷ jobs)) job))
+
+pub differ_more : (m : Store) (files now : Files) (jobs : List code.Job) (i : ℕ) (job : code.Job)
+    → i < length jobs → job ≡ get_or jobs i job → ExportedAs true m (map job_shown (take i jobs)) files now
+    → (some_differ m files (map job_shown (take i jobs)) || differs_one m now (job_shown job))
+    ≡ some_differ m files (map job_shown (take (i + 1) jobs))
+differ_more m files now jobs i job lt same is =
+    let done : List Job = map job_shown (take i jobs) in
+    let it : Job = job_shown job in
+    ap (λ (f : Files). some_differ m files done || differs_one m f it) (surely m done files now is)
+    ∙ (sym (differ_last m files done it) ∙ ap (λ js. some_differ m files js) (jobs_more jobs i job lt same))
+
+-- WHAT AN EXPORT LEAVES
+
 new_here : (there : Option (List ℕ)) (files : Files) (name text : List ℕ) → there ≡ None
     → new_file there files name text name ≡ Some text
 new_here there files name text none = grind (arith, bytes_eq-Decides name name)
 
--- and a file of another name stays
-new_other : (there : Option (List ℕ)) (files : Files) (other name text : List ℕ) → bytes_eq other name ≡ false
+-- a file of another name stays
+new_other : (there : Option (List ℕ)) (files : Files) (other name text : List ℕ) → (other ≡ name → ⊥)
     → new_file there files other text name ≡ files name
-new_other there files other name text differs = grind (arith, bytes_eq-Decides name other, bytes_eq-Decides other name)
-
-as_other : (files : Files) (job : Option (List ℕ)) (name text : List ℕ) → is_name job name ≡ false
-    → exported_as files job text name ≡ files name
-as_other files None name text differs = refl
-as_other files (Some other) name text differs = new_other (files other) files other name text differs
-
-neither : (a b : Bool) → (a || b) ≡ false → (a ≡ false) × (b ≡ false)
-neither a b differs = (grind arith, grind arith)
-
-exported_other : (m : Store) (files : Files) (jobs : List Job) (name : List ℕ) → is_used jobs name ≡ false
-    → exported m files jobs name ≡ files name
-exported_other m files [] name differs = refl
-exported_other m files (job ∷ jobs) name differs =
-    let both = neither (is_name job.1 name) (is_used jobs name) differs in
-    exported_other m (exported_one m files job) jobs name both.1
-    ∙ as_other files job.1 name (text_at m (upload_of m job.0)) both.0
-
-job_of : (jobs : List Job) (job it : Job) → IsJob it (jobs ++ job ∷ []) → IsJob it jobs ⊎ (it ≡ job)
-job_of [] job it (inl same) = inr same
-job_of [] job it (inr never) = absurd never
-job_of (first ∷ jobs) job it (inl same) = inl (inl same)
-job_of (first ∷ jobs) job it (inr later) = elim (job_of jobs job it later) [
-  | inl among ↦ inl (inr among)
-  | inr same ↦ inr same
+new_other (Some bytes) files other name text differs = refl
+new_other None files other name text differs = elim (true_or_false (bytes_eq name other)) [
+  | inl same ↦ absurd (differs (sym ((bytes_eq-Decides name other).0 same)))
+  | inr unlike ↦ ap (λ (b : Bool). if b then Some text else files name) unlike
 ]
 
-exported_last : (m : Store) (files : Files) (jobs : List Job) (job : Job)
-    → exported m files (jobs ++ job ∷ []) ≡ exported_one m (exported m files jobs) job
-exported_last m files [] job = refl
-exported_last m files (first ∷ jobs) job = exported_last m (exported_one m files first) jobs job
+as_other : (files : Files) (job : Option (List ℕ)) (name text : List ℕ)
+    → ((other : List ℕ) → job ≡ Some other → other ≡ name → ⊥) → exported_as files job text name ≡ files name
+as_other files None name text differs = refl
+as_other files (Some other) name text differs =
+    new_other (files other) files other name text (λ same. differs other refl same)
 
--- one job more, of a name that is new
-texts_more : (m : Store) (files : Files) (jobs : List Job) (job : Job)
-    → ((name : List ℕ) → job.1 ≡ Some name → is_used jobs name ≡ false)
+holds_texts : (m : Store) (files : Files) (jobs : List Job) → Apart jobs
     → HoldsTexts m jobs files (exported m files jobs)
-    → HoldsTexts m (jobs ++ job ∷ []) files (exported m files (jobs ++ job ∷ []))
-texts_more m files jobs job new texts number name is none =
+holds_texts m files [] apart number name is none = absurd is
+holds_texts m files (job ∷ jobs) apart number name (inl same) none =
     let text = text_at m (upload_of m number) in
-    let mid : Files = exported m files jobs in
-    ap (λ (now : Files). now name) (exported_last m files jobs job)
-    ∙ elim (job_of jobs job (number, Some name) is) [
-      | inl among ↦ as_preserves mid job.1 (text_at m (upload_of m job.0)) name text (texts number name among none)
-      | inr same ↦
-          let unused = new name (ap (λ (j : Job). j.1) (sym same)) in
-          rw (← same) (new_here (mid name) mid name text (exported_other m files jobs name unused ∙ none))
-    ]
+    exported_preserves m (exported_one m files job) jobs name text
+    (rw (← same) (new_here (files name) files name text none))
+holds_texts m files (job ∷ jobs) apart number name (inr later) none =
+    holds_texts m (exported_one m files job) jobs apart.1 number name later
+    (as_other files job.1 name (text_at m (upload_of m job.0))
+    (λ other mine. apart.0 (number, Some name) other name later mine refl) ∙ none)
 
-if_fits : (write : Bool) (n k : ℕ) (name : List ℕ) → FitsName n k (Some name)
-    → FitsName n k (if write then Some name else None)
-if_fits true n k name fits = fits
-if_fits false n k name fits = tt
-
-if_unused : (write : Bool) (jobs : List Job) (name other : List ℕ) → is_used jobs name ≡ false
-    → (if write then Some name else None) ≡ Some other → is_used jobs other ≡ false
-if_unused write jobs name other unused same = grind arith
-
-texts_from : (all : Bool) (m : Store) (files : Files) (jobs : List Job) (n : ℕ) (xs : List (ℕ × Upload)) → Rises n xs
-    → AllFit n jobs → HoldsTexts m jobs files (exported m files jobs)
-    → HoldsTexts m (jobs_from all jobs xs) files (exported m files (jobs_from all jobs xs))
-texts_from all m files jobs n [] rises fits texts = texts
-texts_from all m files jobs n (x ∷ xs) rises fits texts =
-    let write = all || is_complete x.1 in
-    let name = file_name jobs x.0 x.1.metadata in
-    let job : Job = (x.0, if write then Some name else None) in
-    let fit = all_more n x.0 jobs rises.0 fits in
-    let new = new_name jobs x.0 (given_name x.1.metadata) rises.1 fit in
-    texts_from all m files (jobs ++ job ∷ []) (x.0 + 1) xs rises.2
-    (all_last (x.0 + 1) jobs job (all_more x.0 (x.0 + 1) jobs (omega arith) fit)
-    (if_fits write (x.0 + 1) x.0 name new.1))
-    (texts_more m files jobs job (λ other same. if_unused write jobs name other new.0 same) texts)
-
-pub exports : {T E : Type 0} (result : Result T E) (holds : Files → Type 0) (all : Bool) (m : Store) (files : Files)
-    → Rises 0 m.uploads → OnOk result (holds (exported m files (jobs_of all m)))
-    → OnOk result (Exports holds m (jobs_of all m) files)
-exports (Err e) holds all m files rises held = tt
-exports (Ok t) holds all m files rises held = record {
-  now = exported m files (jobs_of all m);
+pub exports : {T E : Type 0} (result : Result T E) (holds : Files → Type 0) (m : Store) (jobs : List Job)
+    (files : Files) → Apart jobs → OnOk result (holds (exported m files jobs))
+    → OnOk result (Exports holds m jobs files)
+exports (Err e) holds m jobs files apart held = tt
+exports (Ok t) holds m jobs files apart held = record {
+  now = exported m files jobs;
   held = held;
-  preserves = exported_preserves m files (jobs_of all m);
-  texts = texts_from all m files [] 0 m.uploads rises tt (λ number name never none. absurd never);
+  preserves = exported_preserves m files jobs;
+  texts = holds_texts m files jobs apart;
 }
 
 -- each file is there still after both

@@ -48,6 +48,9 @@ module _ {D : Type 0} (holds : Disks D → Type 0) (disks : Disks D) (path : Lis
   pub others_put : (x y : Option D) → holds (with_disk (with_disk disks path x) path y) → LeavesOthers holds disks path
   others_put x y held = record { there = y; held = rw (with_twice disks path x y) at held }
 
+  pub others_again : (x : Option D) → LeavesOthers holds (with_disk disks path x) path → LeavesOthers holds disks path
+  others_again x left = others_put x left.there left.held
+
   -- where nothing was done
   pub leaves_same : (d : D) (P : D → Type 0) → disks path ≡ Some d → holds disks → P d → Leaves holds disks path P
   leaves_same d P is held so = record {

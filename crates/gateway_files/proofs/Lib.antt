@@ -7,9 +7,11 @@ mod Deletions
 mod Lasting
 mod Utf8
 mod Pieces
+mod Compared
 mod Planned
 mod Named
 mod Entries
 mod Exported
+mod Blank
 mod Held
 mod Indexing

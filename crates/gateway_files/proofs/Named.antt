@@ -1,119 +1,80 @@
 -- No two files of an export have one name.
-use Rattle.std.proofs.Common.{◌≡◌, ◌∙◌, ◌⊎◌, ap, arith, eq-eqb, inl, inr, refl, subst, sym, ℕ, ◌+◌, ◌%◌, ◌^◌, ◌<◌, ◌≤◌}
-use Rattle.std.proofs.Common.{Bool, true, false, ◌&&◌, ◌||◌, List, [], ◌∷◌, ◌++◌, append_assoc, if◌then◌else◌, length}
-use Rattle.std.proofs.Common.{Option, Some, None}
-use Rattle.std.specs.Prelude.{codes, decimal, not, nat_le, ◌==◌}
-use Rattle.std.specs.List.{list_all}
+use Rattle.std.proofs.Common.{◌≡◌, ◌∙◌, ◌⊎◌, ap, arith, eq-eqb, inl, inr, subst, sym, ℕ, ◌+◌, ◌%◌, ◌^◌, ◌<◌, ◌≤◌}
+use Rattle.std.proofs.Common.{refl, Bool, true, false, ◌&&◌, ◌||◌, List, [], ◌∷◌, ◌++◌, append_assoc, append-nil}
+use Rattle.std.proofs.Common.{if◌then◌else◌, length, map, Option, Some, None}
+use Rattle.std.specs.Prelude.{decimal, nat_le, ◌==◌}
 use Rattle.std.specs.Str.Parse.{digits_value}
-use Rattle.std.proofs.lemmas.Bool.{ne_eqb}
 use Rattle.std.proofs.lemmas.Fmt.{decimal_by_steps, decimal_is_IsNumeral}
-use Rattle.std.proofs.lemmas.List.{append_cancel_right}
 use Rattle.spool_disk.specs.declared.disk.Disk.{Ghosts}
 use Rattle.spool_image.specs.LeftOnly.{IsSpool}
-use Rattle.common.specs.Splits.{before}
-use Rattle.tus_request.proofs.FieldLemmas.{bytes_eq_other}
 use Rattle.tus_request.proofs.LineLemmas.{true_or_false}
 use Rattle.upload_rules.specs.Slots.{IsRising}
-use Rattle.upload_rules.specs.Store.{Store, Upload, find}
-use Rattle.gateway_files.specs.Naming.{is_clean, is_digit, is_numbered, is_safe_name}
-use Rattle.gateway_files.specs.Planning.{Job, chosen, is_name, is_used, number_name}
+use Rattle.upload_rules.specs.Store.{Store, Upload, find, is_complete}
+use Rattle.gateway_files.specs.Exporting.{IsJob}
+use Rattle.gateway_files.specs.Naming.{given_name, is_safe_name}
+use Rattle.gateway_files.specs.Planning.{Job, chosen, job_of, long_name, number_name}
 use Rattle.gateway_files.proofs.Above.{numbers, rising_rest}
 
--- THE NAME BY A NUMBER
+-- THE NUMBER THAT A NAME BEGINS WITH
 
-digit_step : (d : ℕ) → d < 10 → (rest : List ℕ)
-    → list_all is_digit (before 46 ((48 + d) ∷ rest)) ≡ list_all is_digit (before 46 rest)
-digit_step d lt rest =
-    let other : ((48 + d) == 46) ≡ false = ne_eqb (48 + d) 46 (λ e. omega (arith, e)) in
+abbrev is_digit : ℕ → Bool
+is_digit b = nat_le 48 b && nat_le b 57
+
+-- the digits at the start
+abbrev lead : List ℕ → List ℕ
+lead [] = []
+lead (b ∷ bs) = if is_digit b then b ∷ lead bs else []
+
+lead_step : (d : ℕ) → d < 10 → (rest : List ℕ) → lead ((48 + d) ∷ rest) ≡ (48 + d) ∷ lead rest
+lead_step d lt rest =
     let digit : is_digit (48 + d) ≡ true = grind (arith, lt) in
-    ap (λ (b : Bool). list_all is_digit (if b then [] else (48 + d) ∷ before 46 rest)) other
-    ∙ ap (λ (b : Bool). b && list_all is_digit (before 46 rest)) digit
+    ap (λ (b : Bool). if b then (48 + d) ∷ lead rest else []) digit
 
-abbrev Digits : ℕ → List ℕ → Type 0
-Digits n ds = (rest : List ℕ) → list_all is_digit (before 46 (ds ++ rest)) ≡ list_all is_digit (before 46 rest)
+abbrev Leads : ℕ → List ℕ → Type 0
+Leads n ds = (rest : List ℕ) → lead (ds ++ rest) ≡ ds ++ lead rest
 
-digits_more : (n : ℕ) (ds : List ℕ) (d : ℕ) → d < 10 → Digits n ds → Digits n (ds ++ (48 + d) ∷ [])
-digits_more n ds d lt is = λ rest.
-    ap (λ xs. list_all is_digit (before 46 xs)) (append_assoc ds ((48 + d) ∷ []) rest)
-    ∙ (is ((48 + d) ∷ rest) ∙ digit_step d lt rest)
+leads_more : (n : ℕ) (ds : List ℕ) (d : ℕ) → d < 10 → Leads n ds → Leads n (ds ++ (48 + d) ∷ [])
+leads_more n ds d lt is = λ rest.
+    ap (λ xs. lead xs) (append_assoc ds ((48 + d) ∷ []) rest)
+    ∙ (is ((48 + d) ∷ rest)
+    ∙ (ap (λ xs. ds ++ xs) (lead_step d lt rest) ∙ sym (append_assoc ds ((48 + d) ∷ []) (lead rest))))
 
-numbered : (n : ℕ) → n < 10 ^ 18 → is_numbered (number_name n) ≡ true
-numbered n fits =
-    decimal_by_steps Digits (λ k lt rest. digit_step k lt rest)
-    (λ k ds le is. digits_more k ds (k % 10) (omega arith) is) n (omega (arith, fits)) (codes ".txt")
+-- no digit comes after it
+named : (n c : ℕ) (rest : List ℕ) → n < 10 ^ 18 → is_digit c ≡ false → lead (decimal n ++ (c ∷ rest)) ≡ decimal n
+named n c rest fits other =
+    decimal_by_steps Leads (λ k lt rest. lead_step k lt rest)
+    (λ k ds le is. leads_more k ds (k % 10) (omega arith) is) n (omega (arith, fits)) (c ∷ rest)
+    ∙ (ap (λ (b : Bool). decimal n ++ (if b then c ∷ lead rest else [])) other ∙ append-nil (decimal n))
 
-barred : (a b c : Bool) → b ≡ true → (a && not b && c) ≡ false
-barred a b c is = grind arith
-
--- it is no safe name
-unsafe_number : (n : ℕ) → n < 10 ^ 18 → is_safe_name (number_name n) ≡ false
-unsafe_number n fits =
-    let name = number_name n in
-    barred (nat_le (length name) 255) (is_numbered name) (is_clean 0 name) (numbered n fits)
-
--- and that of no other number
-number_one : (k n : ℕ) → k < 10 ^ 18 → n < 10 ^ 18 → number_name k ≡ number_name n → k ≡ n
+number_one : (k n : ℕ) → k < 10 ^ 18 → n < 10 ^ 18 → decimal k ≡ decimal n → k ≡ n
 number_one k n fits fits' same =
     sym (decimal_is_IsNumeral k (omega (arith, fits))).1
-    ∙ (ap (λ ds. digits_value 10 ds) (append_cancel_right (decimal k) (decimal n) (codes ".txt") same)
-    ∙ (decimal_is_IsNumeral n (omega (arith, fits'))).1)
+    ∙ (ap (λ ds. digits_value 10 ds) same ∙ (decimal_is_IsNumeral n (omega (arith, fits'))).1)
 
--- WHAT NAMES THERE ARE
+either_leads : (b : Bool) (x y ds : List ℕ) → lead x ≡ ds → lead y ≡ ds → lead (if b then x else y) ≡ ds
+either_leads true x y ds one other = one
+either_leads false x y ds one other = other
 
--- a safe name, or the one by a number below this one
-abbrev pub FitsName : ℕ → ℕ → Option (List ℕ) → Type 0
-FitsName n k None = Unit {0}
-FitsName n k (Some name) = (is_safe_name name ≡ true) ⊎ ((k < n) × (k < 10 ^ 18) × (name ≡ number_name k))
+by_number : (n : ℕ) → n < 10 ^ 18 → lead (number_name n) ≡ decimal n
+by_number n fits = named n 46 (116 ∷ 120 ∷ 116 ∷ []) fits refl
 
-abbrev pub AllFit : ℕ → List Job → Type 0
-AllFit n [] = Unit {0}
-AllFit n (job ∷ jobs) = FitsName n job.0 job.1 × AllFit n jobs
+chosen_leads : (takes : List ℕ → Bool) (n : ℕ) (given : Option (List ℕ)) → n < 10 ^ 18
+    → lead (chosen takes n given) ≡ decimal n
+chosen_leads takes n None fits = by_number n fits
+chosen_leads takes n (Some name) fits =
+    either_leads (is_safe_name name && (nat_le (length (long_name n name)) 255 && takes (long_name n name)))
+    (long_name n name) (number_name n) (decimal n) (named n 45 name fits refl) (by_number n fits)
 
-fits_more : (n m k : ℕ) (name : Option (List ℕ)) → n ≤ m → FitsName n k name → FitsName m k name
-fits_more n m k None le fits = tt
-fits_more n m k (Some name) le (inl safe) = inl safe
-fits_more n m k (Some name) le (inr fits) = inr (let lt = fits.0 in omega (arith, lt, le), fits.1, fits.2)
+if_some : (b : Bool) (x name : List ℕ) → (if b then Some x else None) ≡ Some name → x ≡ name
+if_some true x name is = cc
+if_some false x name is = absurd (cc)
 
-pub all_more : (n m : ℕ) (jobs : List Job) → n ≤ m → AllFit n jobs → AllFit m jobs
-all_more n m [] le fits = tt
-all_more n m (job ∷ jobs) le fits = (fits_more n m job.0 job.1 le fits.0, all_more n m jobs le fits.1)
-
-pub all_last : (n : ℕ) (jobs : List Job) (job : Job) → AllFit n jobs → FitsName n job.0 job.1
-    → AllFit n (jobs ++ job ∷ [])
-all_last n [] job fits new = (new, tt)
-all_last n (first ∷ jobs) job fits new = (fits.0, all_last n jobs job fits.1 new)
-
-not_named : (n k : ℕ) (name : Option (List ℕ)) → n < 10 ^ 18 → FitsName n k name → is_name name (number_name n) ≡ false
-not_named n k None fits is = refl
-not_named n k (Some name) fits (inl safe) =
-    bytes_eq_other name (number_name n) (λ same.
-    let bad : false ≡ true =
-    sym (unsafe_number n fits) ∙ subst (λ x. is_safe_name x ≡ true) same safe in absurd (cc))
-not_named n k (Some name) fits (inr is) =
-    bytes_eq_other name (number_name n) (λ same.
-    let one = number_one k n is.1 fits (sym is.2 ∙ same) in
-    let lt = is.0 in absurd (omega (arith, one, lt)))
-
-not_used : (n : ℕ) (jobs : List Job) → n < 10 ^ 18 → AllFit n jobs → is_used jobs (number_name n) ≡ false
-not_used n [] fits is = refl
-not_used n (job ∷ jobs) fits is =
-    ap (λ (b : Bool). b || is_used jobs (number_name n)) (not_named n job.0 job.1 fits is.0)
-    ∙ not_used n jobs fits is.1
-
-both_true : (a b : Bool) → (a && not b) ≡ true → (a ≡ true) × (b ≡ false)
-both_true a b is = (grind arith, grind arith)
-
--- the name that is chosen is new
-pub new_name : (jobs : List Job) (n : ℕ) (given : Option (List ℕ)) → n < 10 ^ 18 → AllFit n jobs
-    → (is_used jobs (chosen jobs n given) ≡ false) × FitsName (n + 1) n (Some (chosen jobs n given))
-new_name jobs n None fits is = (not_used n jobs fits is, inr (omega arith, fits, refl))
-new_name jobs n (Some name) fits is = go (is_safe_name name && not (is_used jobs name)) refl
-  where
-    go : (b : Bool) → (is_safe_name name && not (is_used jobs name)) ≡ b
-        → (is_used jobs (if b then name else number_name n) ≡ false)
-        × FitsName (n + 1) n (Some (if b then name else number_name n))
-    go true e = let both = both_true (is_safe_name name) (is_used jobs name) e in (both.1, inl both.0)
-    go false e = (not_used n jobs fits is, inr (omega arith, fits, refl))
+job_leads : (takes : List ℕ → Bool) (all : Bool) (x : ℕ × Upload) (name : List ℕ) → x.0 < 10 ^ 18
+    → (job_of takes all x).1 ≡ Some name → lead name ≡ decimal x.0
+job_leads takes all x name fits is =
+    let file = chosen takes x.0 (given_name x.1.metadata) in
+    subst (λ z. lead z ≡ decimal x.0) (if_some (all || is_complete x.1) file name is)
+    (chosen_leads takes x.0 (given_name x.1.metadata) fits)
 
 -- NUMBERS
 
@@ -155,3 +116,34 @@ spool_rises disk d n m is =
     let below = (shows.valid.records slot.slot slot.used slot.there).below in
     let number = slot.number in
     let most = shows.valid.next_most in omega (arith, below, number, most))
+
+-- NO FILE OF ONE JOB IS THAT OF A LATER ONE
+abbrev pub Apart : List Job → Type 0
+Apart [] = Unit {0}
+Apart (job ∷ jobs) =
+    ((it : Job) (other name : List ℕ) → IsJob it jobs → job.1 ≡ Some other → it.1 ≡ Some name → other ≡ name → ⊥)
+    × Apart jobs
+
+-- the number that the name of a later one begins with
+later : (takes : List ℕ → Bool) (all : Bool) (n : ℕ) (xs : List (ℕ × Upload)) → Rises n xs → (it : Job)
+    → IsJob it (map (job_of takes all) xs) → (name : List ℕ) → it.1 ≡ Some name
+    → (k : ℕ) × (n ≤ k) × (k < 10 ^ 18) × (lead name ≡ decimal k)
+later takes all n [] rises it is name named = absurd is
+later takes all n (x ∷ xs) rises it (inl same) name named =
+    (x.0, rises.0, rises.1, job_leads takes all x name rises.1 (ap (λ (j : Job). j.1) (sym same) ∙ named))
+later takes all n (x ∷ xs) rises it (inr among) name named =
+    let found = later takes all (x.0 + 1) xs rises.2 it among name named in
+    let le = found.1 in
+    let first = rises.0 in (found.0, omega (arith, le, first), found.2, found.3)
+
+pub apart : (takes : List ℕ → Bool) (all : Bool) (n : ℕ) (xs : List (ℕ × Upload)) → Rises n xs
+    → Apart (map (job_of takes all) xs)
+apart takes all n [] rises = tt
+apart takes all n (x ∷ xs) rises = (
+  λ it other name among mine named same.
+      let found = later takes all (x.0 + 1) xs rises.2 it among name named in
+      let one = number_one x.0 found.0 rises.1 found.2
+      (sym (job_leads takes all x other rises.1 mine) ∙ (ap (λ z. lead z) same ∙ found.3)) in
+      let le = found.1 in omega (arith, one, le),
+  apart takes all (x.0 + 1) xs rises.2,
+)

@@ -8,7 +8,7 @@ use Rattle.upload_rules.specs.Store.{Store}
 use Rattle.gateway_files.specs.Changing.{LimitsToAll}
 use Rattle.gateway_files.specs.Copies.{AppendsOf, AreOf}
 
-take_on : (n m : ℕ) (xs : List ℕ) → take n xs ++ take m (drop n xs) ≡ take (n + m) xs
+pub take_on : (n m : ℕ) (xs : List ℕ) → take n xs ++ take m (drop n xs) ≡ take (n + m) xs
 take_on n m xs =
     ap (λ ys. ys ++ take m (drop n xs)) (sym (take-take n (n + m) xs (omega arith)))
     ∙ (ap (λ ys. take n (take (n + m) xs) ++ ys) (sym (drop-take n m xs)) ∙ take-append-drop n (take (n + m) xs))
@@ -17,7 +17,7 @@ take_on n m xs =
 pub are_same : (sure : Bool) (text : List ℕ) → AreOf sure text text
 are_same sure text = record { size = refl; same = λ e. refl }
 
-are_both : (sure : Bool) (xs' ys' xs ys : List ℕ) → AreOf sure xs' xs → AreOf sure ys' ys
+pub are_both : (sure : Bool) (xs' ys' xs ys : List ℕ) → AreOf sure xs' xs → AreOf sure ys' ys
     → AreOf sure (xs' ++ ys') (xs ++ ys)
 are_both sure xs' ys' xs ys a b = record {
   size = length-append xs' ys'

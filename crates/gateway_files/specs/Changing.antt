@@ -18,6 +18,10 @@ pub record LimitsToAll (moment moment' : ℕ) (left_only left_only' : Option ℕ
       → AreAllAmong stores ms
       → left_only' blocks t ms
 
+-- what isn't the disk's: out of memory, or refused by a writer or a folder
+abbrev pub IsStreamFault : Fault → Type 0
+IsStreamFault f = (f ≡ Stop NoMemory) ⊎ (f ≡ Io)
+
 -- why uploads aren't changed: out of memory, or refused by the writer or the disk
 abbrev pub IsChangeFault : Fault → Type 0
 IsChangeFault f = (f ≡ Stop NoMemory) ⊎ (f ≡ Io) ⊎ (f ≡ Stop DiskFault)

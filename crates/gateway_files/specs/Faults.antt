@@ -33,10 +33,10 @@ numbered_refusal_of faults.BadLabel = Some (28, codes "BadLabel")
 numbered_refusal_of (faults.Script line) = Some (32, codes "Script")
 numbered_refusal_of faults.Io = Some (33, codes "Io")
 numbered_refusal_of faults.AlreadyNew = Some (35, codes "AlreadyNew")
-numbered_refusal_of faults.FileThere = Some (36, codes "FileThere")
 numbered_refusal_of faults.FileDiffers = Some (37, codes "FileDiffers")
 numbered_refusal_of faults.InUse = Some (38, codes "InUse")
 numbered_refusal_of faults.CannotOpen = Some (39, codes "CannotOpen")
+numbered_refusal_of faults.NotEmpty = Some (40, codes "NotEmpty")
 
 -- a number and a name, as the code gives them
 abbrev pub row : ℕ × Bor (List ℕ) → ℕ × List ℕ

@@ -27,3 +27,7 @@ pub record HoldsAll (holds : Files → Type 0) (files : Files) : Type 0 where
   pub now : Files
   pub held : holds now
   pub preserves : PreservesFiles files now
+
+-- what outlasts a crash still does
+abbrev pub StillLast : (List ℕ → Type 0) → (List ℕ → Type 0) → Type 0
+StillLast lasting lasting' = (name : List ℕ) → lasting name → lasting' name

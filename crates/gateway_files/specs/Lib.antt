@@ -12,6 +12,7 @@ pub mod Naming
 pub mod Planning
 pub mod Folders
 pub mod SpoolFiles
+pub mod Blanks
 pub mod Upgrading
 pub mod Listed
 pub mod Copies

@@ -29,10 +29,10 @@ spaced (b ∷ text) = 32 ∷ b ∷ text
 abbrev pub to_show : Bool → List ℕ → List ℕ
 to_show long metadata = if long then metadata else []
 
--- the file name that the metadata gives, where no byte of it is barred
+-- the file name that the metadata gives, where no character of it is barred
 abbrev pub shown_name : Option (List ℕ) → List ℕ
 shown_name None = []
-shown_name (Some name) = if is_clean 0 name then codes " (filename: " ++ (name ++ codes ")") else []
+shown_name (Some name) = if is_clean name then codes " (filename: " ++ (name ++ codes ")") else []
 
 -- the number, how many bytes were accepted and declared, the length of the text, both encodings, the mode, the metadata
 -- that is shown, the file name that it gives, and LF

@@ -1,8 +1,8 @@
 -- File names that the metadata of uploads gives.
 use Rattle.std.specs.Prelude.{ℕ, Bool, true, false, not, ◌&&◌, ◌||◌, ◌==◌, List, [], ◌∷◌, codes, bytes_eq}
-use Rattle.std.specs.Prelude.{length, nat_le, nat_lt, if◌then◌else◌, Option, Some, None}
+use Rattle.std.specs.Prelude.{nat_le, nat_lt, if◌then◌else◌, Option, Some, None}
 use Rattle.std.specs.List.{find, list_all}
-use Rattle.std.specs.Str.{is_utf8}
+use Rattle.std.specs.Str.{chars, is_utf8}
 use Rattle.common.specs.Splits.{before, rest_after}
 use Rattle.tus_request.specs.Texts.{parts, skipped}
 use Rattle.tus_request.specs.Value.{value_of}
@@ -29,23 +29,26 @@ name_in (Some part) = text_in (value_of (before 32 (rest_after 32 (pair part))))
 abbrev pub given_name : List ℕ → Option (List ℕ)
 given_name metadata = name_in (find is_named (parts metadata))
 
--- of ASCII a control character or a path separator, `/` or `\`; of the others U+0080 to U+009F, after C2
-abbrev pub is_barred : ℕ → ℕ → Bool
-is_barred last b = nat_lt b 32 || b == 127 || b == 47 || b == 92 || last == 0xC2 && nat_lt b 0xA0
+-- a control character, a path separator, `/` or `\`, or one that turns the text after it round
+abbrev pub is_barred : ℕ → Bool
+is_barred c =
+    nat_lt c 32 || nat_le 127 c && nat_le c 159 || c == 47 || c == 92 || nat_le 0x202A c && nat_le c 0x202E
+    || nat_le 0x2066 c && nat_le c 0x2069
 
--- none of these is among the bytes after this one
-abbrev pub is_clean : ℕ → List ℕ → Bool
-is_clean last [] = true
-is_clean last (b ∷ bytes) = if is_barred last b then false else is_clean b bytes
+-- no character of a text is
+abbrev pub is_clean : List ℕ → Bool
+is_clean name = list_all (λ c. not (is_barred c)) (chars name)
 
--- what is before the first dot is a number
-abbrev pub is_digit : ℕ → Bool
-is_digit b = nat_le 48 b && nat_le b 57
+-- a dot, which hides a file, or a hyphen, as the options of commands have it, is first
+abbrev pub begins_with_sign : List ℕ → Bool
+begins_with_sign [] = false
+begins_with_sign (b ∷ name) = b == 45 || b == 46
 
-abbrev pub is_numbered : List ℕ → Bool
-is_numbered name = list_all is_digit (before 46 name)
+-- a blank, or a `*`
+abbrev pub is_filler : ℕ → Bool
+is_filler b = b == 32 || b == 42
 
--- A NAME FOR A FILE: of at most 255 bytes, none of which is barred. It doesn't begin with a dot, and it isn't one that
--- an upload has by its number
+-- A NAME FOR A FILE: no character of it is barred, it begins with neither a dot nor a hyphen, and it has more than
+-- blanks and `*`
 abbrev pub is_safe_name : List ℕ → Bool
-is_safe_name name = nat_le (length name) 255 && not (is_numbered name) && is_clean 0 name
+is_safe_name name = not (begins_with_sign name) && not (list_all is_filler name) && is_clean name

@@ -8,6 +8,10 @@ use std::net::SocketAddr;
 pub enum Task<'a> {
     /// Making, lengthening or locking the spool at this path.
     MakeSpool(&'a str),
+    /// Making a new spool at this path, for which there is no room. What there was of it is removed.
+    FitNewSpool(&'a str),
+    /// Making a spool in the file at this path, for which there is no room.
+    FitSpool(&'a str),
     /// Opening or locking the spool at this path.
     OpenSpool(&'a str),
     /// Reading, writing or syncing the spool at this path.
@@ -32,6 +36,11 @@ impl fmt::Display for Task<'_> {
     fn fmt<W: fmt::Write>(&self, f: &mut fmt::Formatter<W>) -> fmt::Result {
         match self {
             Task::MakeSpool(path) => write!(f, "cannot make the spool {path}"),
+            Task::FitNewSpool(path) => write!(
+                f,
+                "no room for the spool {path}, and what there was of it is removed again"
+            ),
+            Task::FitSpool(path) => write!(f, "no room for the spool {path}"),
             Task::OpenSpool(path) => write!(f, "cannot open the spool {path}"),
             Task::UseSpool(path) => write!(f, "cannot read or write the spool {path}"),
             Task::FindFolder(path) => write!(f, "cannot look into the folder {path}"),
@@ -60,6 +69,8 @@ pub enum Advice<'a> {
     AlreadyNew(&'a str),
     /// The file at this path is a spool already.
     AlreadySpool(&'a str),
+    /// The file at this path is no spool, and has a byte other than zero.
+    NotEmpty(&'a str),
     /// Another process has the spool at this path open.
     InUse(&'a str),
     /// The number of blocks is out of range.
@@ -88,11 +99,20 @@ impl fmt::Display for Advice<'_> {
                 f,
                 "{path} is a spool, and stays as it is: take another path, or remove it yourself"
             ),
+            Advice::NotEmpty(path) => {
+                write!(
+                    f,
+                    "{path} isn't empty, and no spool: take another path, or --overwrite if nobody needs it. "
+                )?;
+                f.write_str(
+                    "An interrupted format leaves such a file; a damaged spool is one too: see docs/FORMAT.md",
+                )
+            }
             Advice::InUse(path) => write!(f, "{path} is in use: stop the gateway that serves it"),
             Advice::Blocks => f.write_str("the number of blocks is 16 to 65536"),
             Advice::Differs(folder) => write!(
                 f,
-                "{folder} has a file that isn't as long as its upload's text: look at it before you delete the upload"
+                "{folder} has a file that isn't its upload's text, which is in no file: look before you delete the upload"
             ),
             Advice::Text(advice) => write!(f, "{advice}"),
         }

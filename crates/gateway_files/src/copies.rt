@@ -16,7 +16,7 @@ use std::io::Write;
 use upload_rules::{UploadError, Uploads};
 
 // How many bytes are read at once: a block of a text.
-const PIECE: usize = PAGE;
+pub(crate) const PIECE: usize = PAGE;
 
 /// Writes the text of an upload, all that there is of it so far: nothing where no upload has the number.
 pub fn copy_text<W: Write, U: Uploads>(
@@ -104,8 +104,13 @@ fn copy_piece<W: Write, U: Uploads>(
     Ok(at + count)
 }
 
-// Reads as many bytes of a text as the piece has, where there are so many.
-fn read_at<U: Uploads>(uploads: &mut U, number: u64, at: u64, piece: &mut [u8]) -> Result<(), Fault>
+/// Reads as many bytes of a text as the piece has. Refused with `Io` where there are fewer.
+pub(crate) fn read_at<U: Uploads>(
+    uploads: &mut U,
+    number: u64,
+    at: u64,
+    piece: &mut [u8],
+) -> Result<(), Fault>
     ensures read { (sure : Bool) (w : World) → U.represents uploads.old sure w
         → at + length piece.old ≤ length (text_at w.store (upload_of w.store number))
         → OnOk result (AreOf sure piece.new
@@ -120,8 +125,8 @@ fn read_at<U: Uploads>(uploads: &mut U, number: u64, at: u64, piece: &mut [u8]) 
     ensures reads { MoreReads (U.reads uploads.old) (U.reads uploads.new) }
 {
     match uploads.read_text(number, at, piece) {
-        // What no upload has is no text.
-        Ok(_) | Err(UploadError::Refused(_)) => Ok(()),
+        Ok(count) if count == piece.len() => Ok(()),
+        Ok(_) | Err(UploadError::Refused(_)) => Err(Fault::Io),
         Err(UploadError::Stop(stop)) => Err(Fault::Stop(stop)),
     }
 }

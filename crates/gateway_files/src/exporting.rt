@@ -1,6 +1,7 @@
 //! The texts of a spool's uploads, written into files.
 
 ghost use Rattle.std.specs.Prelude.{◌≡◌, [], ◌∷◌, ℕ, Bool, Err, IfErr, IfOk, IsErrOf, IsOk, OnOk, ◌||◌, false, map};
+ghost use Rattle.std.specs.Prelude.{true};
 ghost use Rattle.std.specs.Io.KnownBytes.{Appends};
 ghost use Rattle.common.specs.Given.{MoreReads};
 ghost use Rattle.common.specs.declared.stop.Stop.{Stop};
@@ -12,9 +13,9 @@ ghost use Rattle.spool_image.specs.LeftOnly.{AllShow, IsSpool};
 ghost use Rattle.spool_image.specs.Opening.{OpeningReadsBy};
 ghost use Rattle.gateway_files.specs.declared.faults.Fault.{Fault};
 ghost use Rattle.gateway_files.specs.Changing.{IsChangeResult, IsChangeFault};
-ghost use Rattle.gateway_files.specs.Exporting.{Exports, ExportsAs, ExportsSome, ExportsSomeAs, exported, is_other};
-ghost use Rattle.gateway_files.specs.Exporting.{some_differ, summary_line};
-ghost use Rattle.gateway_files.specs.Folders.{Files, HoldsAll};
+ghost use Rattle.gateway_files.specs.Exporting.{AllLast, Exports, ExportsAs, ExportsSome, ExportsSomeAs, HoldsEach};
+ghost use Rattle.gateway_files.specs.Exporting.{exported, is_other, some_differ, summary_line};
+ghost use Rattle.gateway_files.specs.Folders.{Files, HoldsAll, StillLast};
 ghost use Rattle.gateway_files.specs.Leaving.{LeavesOne};
 ghost use Rattle.gateway_files.specs.Lines.{IsInOrder};
 ghost use Rattle.gateway_files.specs.Listing.{AnswersAs, ListRefusedFor, RefusesListAs};
@@ -36,8 +37,8 @@ use upload_rules::Uploads;
 
 /// Writes the text of each complete upload of a spool, or of each upload, into a file of its own in a folder, and
 /// prints a line for each upload. A file gets its name once it is whole. A file that was there before stays as it is,
-/// and the others are still written. At the end the call is refused then: with `FileDiffers` if such a file hasn't the
-/// length of its text, and else with `FileThere`.
+/// and the others are still written. If such a file isn't its upload's text, byte for byte, the call is refused at the
+/// end, with `FileDiffers`.
 pub fn export_file<'a>(
     rt: &'a HostRuntime,
     alloc: Global,
@@ -52,7 +53,6 @@ pub fn export_file<'a>(
         (Ok(done), _) if done.differs => {
             Err(Failure::advised(Fault::FileDiffers, Advice::Differs(folder)))
         }
-        (Ok(done), _) if done.there => Err(Failure::from(Fault::FileThere)),
         (Ok(_), _) => Ok(()),
         (Err(Fault::Io), Some(error)) => {
             Err(Failure::new(Fault::Io, Task::WriteInto(folder), error))
@@ -74,19 +74,25 @@ pub fn export_on<D: Disk + Drop, F: Folder, W: Write>(
     // The folder holds each text that is to be written, exactly, in a file of its name, where there was none. What it
     // held before stays, also where it is refused.
     ensures files { (n : ℕ) (m : Store) → IsSpool D.Disk disk n m → (files : Files) → F.holds folder.old files
-        → OnOk result.1 (F.holds folder.new (exported m files (jobs_of all m))) }
+        → OnOk result.1 (F.holds folder.new (exported m files (jobs_of (F.takes folder.old) all m))) }
     ensures texts { (n : ℕ) (m : Store) → IsSpool D.Disk disk n m → (files : Files) → F.holds folder.old files
-        → OnOk result.1 (Exports (F.holds folder.new) m (jobs_of all m) files) }
+        → OnOk result.1 (Exports (F.holds folder.new) m (jobs_of (F.takes folder.old) all m) files) }
     ensures preserves { (files : Files) → F.holds folder.old files → HoldsAll (F.holds folder.new) files }
+    ensures still { StillLast (F.lasting folder.old) (F.lasting folder.new) }
+
+    // If no file differs, every text is in its file, byte for byte, and lasts: written now, or compared and synced.
+    ensures each { (n : ℕ) (m : Store) → IsSpool D.Disk disk n m → (files : Files) → F.holds folder.old files
+        → IfOk result.1 (λ done. done.differs ≡ false
+        → HoldsEach (F.holds folder.new) (F.lasting folder.new) m (jobs_of (F.takes folder.old) all m)) }
 
     // However it ends, no file of an upload's name has a part of a text: the folder holds what it does after some of
     // the uploads.
     ensures whole { (n : ℕ) (m : Store) → IsSpool D.Disk disk n m → (files : Files) → F.holds folder.old files
-        → ExportsSome (F.holds folder.new) m (jobs_of all m) files }
+        → ExportsSome (F.holds folder.new) m (jobs_of (F.takes folder.old) all m) files }
 
-    // `differs` is whether a file that was there has another length than its upload's text.
+    // `differs` is whether a file that was there isn't its upload's text.
     ensures differs { (n : ℕ) (m : Store) → IsSpool D.Disk disk n m → (files : Files) → F.holds folder.old files
-        → IfOk result.1 (λ done. done.differs ≡ some_differ m files (jobs_of all m)) }
+        → IfOk result.1 (λ done. done.differs ≡ some_differ m files (jobs_of (F.takes folder.old) all m)) }
 
     // The disk shows the same uploads still, and a crash at any moment of it leaves them.
     ensures shows { (n : ℕ) (m : Store) → IsSpool D.Disk disk n m → IsOk result.1 → AllShow D.Disk result.0 n m }
@@ -97,8 +103,8 @@ pub fn export_on<D: Disk + Drop, F: Folder, W: Write>(
 
     // On any disk it answers by what the opening's reads gave: for the uploads of the view that they encode.
     ensures given { OpeningReadsBy (D.reads disk) (D.reads result.0) (AnswersAs
-        (λ m. (files : Files) → F.holds folder.old files → ExportsAs false (F.holds folder.new) m (jobs_of all m) files)
-        (D.size disk) result.1) }
+        (λ m. (files : Files) → F.holds folder.old files → ExportsAs false true (F.holds folder.new) m
+        (jobs_of (F.takes folder.old) all m) files) (D.size disk) result.1) }
 
     // Each refusal has its reason, and each reason is answered so, unless memory or the disk refuses it.
     ensures refused { D.honest disk → IfErr result.1 (ListRefusedFor (D.size disk) (D.current disk)) }
@@ -130,20 +136,26 @@ pub fn export_uploads<W: Write, F: Folder, U: Uploads>(
     all: bool,
 ) -> Result<ExportTally, Fault>
     // On any disk, for the uploads that they represent: the folder holds a file of each text that is to be written,
-    // where there was none of its name. It has as many bytes as the text, and is the text if that is sure.
+    // where there was none of its name. It has as many bytes as the text, and is the text if that is sure; so is each
+    // file that was there, unless one differs.
     ensures files { (sure : Bool) (w : World) → U.represents uploads.old sure w → IsInOrder w.store → (files : Files)
-        → F.holds folder.old files
-        → OnOk result (ExportsAs sure (F.holds folder.new) w.store (jobs_of all w.store) files) }
+        → F.holds folder.old files → IfOk result (λ done. ExportsAs sure done.differs (F.holds folder.new) w.store
+        (jobs_of (F.takes folder.old) all w.store) files) }
 
     // However it ends, the folder holds what it does after some of the uploads, and each file that was there.
     ensures whole { (sure : Bool) (w : World) → U.represents uploads.old sure w → IsInOrder w.store → (files : Files)
-        → F.holds folder.old files → ExportsSomeAs sure (F.holds folder.new) w.store (jobs_of all w.store) files }
+        → F.holds folder.old files
+        → ExportsSomeAs sure (F.holds folder.new) w.store (jobs_of (F.takes folder.old) all w.store) files }
     ensures preserves { (files : Files) → F.holds folder.old files → HoldsAll (F.holds folder.new) files }
 
-    // `differs` is whether a file that was there has another length than its upload's text.
-    ensures differs { (sure : Bool) (w : World) → U.represents uploads.old sure w → IsInOrder w.store → (files : Files)
+    // `differs` is whether a file that was there isn't its upload's text. If none is, all their files last.
+    ensures differs { (w : World) → U.represents uploads.old true w → IsInOrder w.store → (files : Files)
         → F.holds folder.old files
-        → IfOk result (λ done. done.differs ≡ some_differ w.store files (jobs_of all w.store)) }
+        → IfOk result (λ done. done.differs ≡ some_differ w.store files (jobs_of (F.takes folder.old) all w.store)) }
+    ensures settled { (sure : Bool) (w : World) → U.represents uploads.old sure w → IsInOrder w.store
+        → (files : Files) → F.holds folder.old files → IfOk result (λ done. done.differs ≡ false
+        → AllLast (F.lasting folder.new) (jobs_of (F.takes folder.old) all w.store)) }
+    ensures still { StillLast (F.lasting folder.old) (F.lasting folder.new) }
 
     // The uploads stay as they are, and whatever a crash may leave.
     ensures represents { (sure : Bool) (w : World) → U.represents uploads.old sure w
@@ -155,7 +167,7 @@ pub fn export_uploads<W: Write, F: Folder, U: Uploads>(
         (U.failures uploads.new) }
     ensures reads { MoreReads (U.reads uploads.old) (U.reads uploads.new) }
 {
-    let jobs = plan(alloc, uploads, all)?;
+    let jobs = plan(alloc, uploads, folder, all)?;
     let done = do_jobs(writer, folder, uploads, &jobs)?;
     report_done(writer, done, jobs.len())?;
     Ok(done)
@@ -166,9 +178,9 @@ pub fn export_uploads<W: Write, F: Folder, U: Uploads>(
 pub struct ExportTally {
     /// How many texts were written.
     pub exported: u64,
-    /// A file was there.
-    pub there: bool,
-    /// A file that was there has another length than its upload's text.
+    /// How many were in their files already.
+    pub there: u64,
+    /// A file that was there isn't its upload's text.
     pub differs: bool,
 }
 
@@ -180,14 +192,16 @@ fn do_jobs<W: Write, F: Folder, U: Uploads>(
     jobs: &[Job],
 ) -> Result<ExportTally, Fault>
     ensures files { (sure : Bool) (w : World) → U.represents uploads.old sure w → (files : Files)
-        → F.holds folder.old files
-        → OnOk result (ExportsAs sure (F.holds folder.new) w.store (map job_shown jobs.now) files) }
+        → F.holds folder.old files → IfOk result (λ done. ExportsAs sure done.differs (F.holds folder.new) w.store
+        (map job_shown jobs.now) files) }
     ensures whole { (sure : Bool) (w : World) → U.represents uploads.old sure w → (files : Files)
         → F.holds folder.old files
         → ExportsSomeAs sure (F.holds folder.new) w.store (map job_shown jobs.now) files }
-    ensures differs { (sure : Bool) (w : World) → U.represents uploads.old sure w → (files : Files)
-        → F.holds folder.old files
+    ensures differs { (w : World) → U.represents uploads.old true w → (files : Files) → F.holds folder.old files
         → IfOk result (λ done. done.differs ≡ some_differ w.store files (map job_shown jobs.now)) }
+    ensures settled { (files : Files) → F.holds folder.old files → IfOk result (λ done. done.differs ≡ false
+        → AllLast (F.lasting folder.new) (map job_shown jobs.now)) }
+    ensures still { StillLast (F.lasting folder.old) (F.lasting folder.new) }
     ensures preserves { (files : Files) → F.holds folder.old files → HoldsAll (F.holds folder.new) files }
     ensures represents { (sure : Bool) (w : World) → U.represents uploads.old sure w
         → OnOk result (U.represents uploads.new sure w) }
@@ -200,7 +214,7 @@ fn do_jobs<W: Write, F: Folder, U: Uploads>(
 {
     let mut done = ExportTally {
         exported: 0,
-        there: false,
+        there: 0,
         differs: false,
     };
     for job in jobs {
@@ -215,29 +229,36 @@ impl ExportTally {
     fn and(self, outcome: Outcome) -> Self
         ensures { result.differs ≡ (self.differs || is_other outcome.entry) }
     {
-        let exported = match outcome {
-            Outcome::Exported(_) => self.exported.saturating_add(1),
-            _ => self.exported,
-        };
         ExportTally {
-            exported,
-            there: self.there || matches!(outcome, Outcome::There(_) | Outcome::Differs(..)),
-            differs: self.differs || matches!(outcome, Outcome::Differs(..)),
+            exported: self
+                .exported
+                .saturating_add(matches!(outcome, Outcome::Exported(_)) as u64),
+            there: self
+                .there
+                .saturating_add(matches!(outcome, Outcome::There(_)) as u64),
+            differs: self.differs || matches!(outcome, Outcome::Differs(_)),
         }
     }
 }
 
-// Prints how many texts were written, of how many uploads, and whether a file has another length than its text.
+// Prints how many texts were written, of how many uploads, how many were there, and whether a file isn't its text.
 fn report_done<W: Write>(writer: &mut W, done: ExportTally, uploads: usize) -> io::Result<()>
     ensures { OnOk result (Appends (W.contents writer.old) (W.contents writer.new)
-        (summary_line done.exported uploads done.differs)) }
+        (summary_line done.exported uploads done.there done.differs)) }
 {
-    let exported = done.exported;
-    if done.differs {
+    let ExportTally {
+        exported,
+        there,
+        differs,
+    } = done;
+    if differs {
         return writeln!(
             writer,
-            "exported {exported} of {uploads} uploads; a file that was there hasn't the length of its text"
+            "exported {exported} of {uploads} uploads, {there} there; a file that was there isn't the text of its upload"
         );
     }
-    writeln!(writer, "exported {exported} of {uploads} uploads")
+    writeln!(
+        writer,
+        "exported {exported} of {uploads} uploads, {there} there"
+    )
 }

@@ -34,14 +34,14 @@ pub enum Fault {
     Script(u64),
     /// A reader, a writer or a file failed.
     Io,
-    /// A file that is to be made is there already.
-    FileThere,
-    /// Such a file has another length than the text that it is to have.
+    /// A file that was there isn't the text that it is to have.
     FileDiffers,
     /// Another process has the spool's file open.
     InUse,
     /// The spool's file can't be opened or made: it or its folder isn't there, or is a folder, or rights are missing.
     CannotOpen,
+    /// The file that is to become a spool has bytes, and is none.
+    NotEmpty,
     /// A number that no upload has.
     NoSuch,
     /// A label or a mode that isn't known, or an encoding whose index files aren't there.
@@ -115,10 +115,10 @@ impl Fault {
             Fault::Script(_) => (32, "Script"),
             Fault::Io => (33, "Io"),
             Fault::AlreadyNew => (35, "AlreadyNew"),
-            Fault::FileThere => (36, "FileThere"),
             Fault::FileDiffers => (37, "FileDiffers"),
             Fault::InUse => (38, "InUse"),
             Fault::CannotOpen => (39, "CannotOpen"),
+            Fault::NotEmpty => (40, "NotEmpty"),
         })
     }
 

@@ -1,7 +1,8 @@
 //! Folders that texts are written into.
 
-ghost use Rattle.std.specs.Prelude.{◌≡◌, ℕ, List, [], None, Some, IfOk, OnErr, OnOk, length, option_map};
-ghost use Rattle.gateway_files.specs.Folders.{Files, HoldsAll, HoldsEither, new_file, with_file};
+ghost use Rattle.std.specs.Prelude.{◌≡◌, ℕ, Bool, List, [], None, Some, IfOk, OnErr, OnOk, bytes_eq, drop, length};
+ghost use Rattle.std.specs.Prelude.{option_map, take, true};
+ghost use Rattle.gateway_files.specs.Folders.{Files, HoldsAll, HoldsEither, StillLast, new_file, with_file};
 
 use crate::advice::Task;
 use crate::failures::Failure;
@@ -10,6 +11,7 @@ use crate::streams::Noted;
 use std::alloc::Global;
 use std::fs::{self, File, TryLockError};
 use std::io::{self, ErrorKind, Write};
+use std::os::unix::fs::FileExt;
 
 /// A folder that texts are written into, each into a new file, which gets its name once it is whole.
 pub trait Folder {
@@ -19,30 +21,62 @@ pub trait Folder {
     /// The folder holds these files.
     ghost holds: { Self → Files → Type 0 };
 
+    /// A file may have this name there.
+    ghost takes: { Self → List ℕ → Bool };
+
+    /// The file of this name outlasts a crash, with what it holds.
+    ghost lasting: { Self → List ℕ → Type 0 };
+
+    /// Whether a file may have this name there, as the file system answers.
+    fn may_take(&self, name: &str) -> io::Result<bool>
+        ensures takes { (files : Files) → holds self.now files
+            → IfOk result (λ taken. taken ≡ takes self.now name.now) };
+
+    /// Whether there is something of this name, as far as it can be seen: only what is printed depends on it.
+    fn is_there(&self, name: &str) -> bool;
+
     /// How many bytes the file of this name has. `None` where there is none.
     fn len_of(&mut self, name: &str) -> io::Result<Option<u64>>
         ensures len { (files : Files) → holds self.old files
             → IfOk result (λ len. len ≡ option_map length (files name.now)) }
-        ensures preserves { (files : Files) → holds self.old files → holds self.new files };
+        ensures preserves { (files : Files) → holds self.old files → holds self.new files }
+        ensures still { StillLast (lasting self.old) (lasting self.new) };
+
+    /// Whether the file of this name has these bytes from `at` on.
+    fn has_at(&mut self, name: &str, at: u64, piece: &[u8]) -> io::Result<bool>
+        ensures same { (files : Files) (bytes : List ℕ) → holds self.old files → files name.now ≡ Some bytes
+            → IfOk result (λ same. same ≡ bytes_eq (take (length piece.now) (drop at bytes)) piece.now) }
+        ensures preserves { (files : Files) → holds self.old files → holds self.new files }
+        ensures still { StillLast (lasting self.old) (lasting self.new) };
+
+    /// Makes the file of this name last, and its name.
+    fn settle(&mut self, name: &str) -> io::Result<()>
+        ensures settled { (files : Files) → holds self.old files → OnOk result (lasting self.new name.now) }
+        ensures preserves { (files : Files) → holds self.old files → holds self.new files }
+        ensures still { StillLast (lasting self.old) (lasting self.new) };
 
     /// Begins a file. The folder holds what it held.
     fn begin(&mut self) -> io::Result<Self::File>
         ensures empty { (files : Files) → holds self.old files
             → IfOk result (λ file. Self.File.contents file ≡ Some []) }
-        ensures preserves { (files : Files) → holds self.old files → holds self.new files };
+        ensures preserves { (files : Files) → holds self.old files → holds self.new files }
+        ensures still { StillLast (lasting self.old) (lasting self.new) };
 
     /// Ends a file: it has this name, and what was written to it lasts from then on. It fails where a file has the name
     /// already, which stays as it is. Where it fails for another reason, the folder may have the whole file or none.
     fn end(&mut self, file: Self::File, name: &str) -> io::Result<()>
         ensures ended { (files : Files) (bytes : List ℕ) → holds self.old files → Self.File.contents file ≡ Some bytes
             → OnOk result ((files name.now ≡ None) × holds self.new (with_file files name.now bytes)) }
+        ensures settled { (files : Files) → holds self.old files → OnOk result (lasting self.new name.now) }
         ensures failed { (files : Files) (bytes : List ℕ) → holds self.old files → Self.File.contents file ≡ Some bytes
             → OnErr result (HoldsEither (holds self.new) files (new_file (files name.now) files name.now bytes)) }
-        ensures preserves { (files : Files) → holds self.old files → HoldsAll (holds self.new) files };
+        ensures preserves { (files : Files) → holds self.old files → HoldsAll (holds self.new) files }
+        ensures still { StillLast (lasting self.old) (lasting self.new) };
 
     /// Gives a file up, of which nothing stays. The folder holds what it held.
     fn give_up(&mut self, file: Self::File)
-        ensures preserves { (files : Files) → holds self.old files → holds self.new files };
+        ensures preserves { (files : Files) → holds self.old files → holds self.new files }
+        ensures still { StillLast (lasting self.old) (lasting self.new) };
 }
 
 // The name of the file that is being written. It begins with a dot, as the name of no upload's file does.
@@ -126,20 +160,48 @@ impl<'a> FileFolder<'a> {
         let part = self.path_of(PART)?;
         let path = self.path_of(name)?;
         fs::hard_link(self.rt, part.as_str(), path.as_str())?;
-        fs::remove_file(self.rt, part.as_str())?;
+        let settled = self.keep_name(part.as_str());
+        if settled.is_err() {
+            // What fails has no name: the next run writes it again.
+            let taken_back = fs::remove_file(self.rt, path.as_str());
+            drop(taken_back);
+        }
+        settled
+    }
+
+    // Takes the other name of a file away that has its own, which lasts then.
+    fn keep_name(&self, part: &str) -> io::Result<()> {
+        fs::remove_file(self.rt, part)?;
         self.folder.sync_all()
     }
 
-    // The length of the file of this name. A folder, or a link to nowhere, has no byte of a text.
+    // Whether a file has these bytes from `at` on.
+    fn compare(&self, name: &str, at: u64, piece: &[u8]) -> io::Result<bool> {
+        let file = File::open(self.rt, self.path_of(name)?.as_str())?;
+        let mut there = vec![in self.alloc; 0; piece.len()]?;
+        match file.read_exact_at(&mut there, at) {
+            Ok(()) => Ok(there.as_slice() == piece),
+            Err(error) if error.kind() == ErrorKind::UnexpectedEof => Ok(false),
+            Err(error) => Err(error),
+        }
+    }
+
+    // Syncs a file that is there, and the folder.
+    fn sync_file(&self, name: &str) -> io::Result<()> {
+        File::open(self.rt, self.path_of(name)?.as_str())?.sync_all()?;
+        self.folder.sync_all()
+    }
+
+    // The length of the file of this name. What is no file, as a folder or a link to nowhere, is longer than any text.
     fn find_len(&self, name: &str) -> io::Result<Option<u64>> {
         let path = self.path_of(name)?;
         match fs::metadata(self.rt, path.as_str()) {
             Ok(found) if found.is_file() => return Ok(Some(found.len())),
-            Ok(_) => return Ok(Some(0)),
+            Ok(_) => return Ok(Some(u64::MAX)),
             Err(_) => {}
         }
         match fs::symlink_metadata(self.rt, path.as_str()) {
-            Ok(_) => Ok(Some(0)),
+            Ok(_) => Ok(Some(u64::MAX)),
             Err(error) if error.kind() == ErrorKind::NotFound => Ok(None),
             Err(error) => Err(error),
         }
@@ -152,10 +214,44 @@ impl Folder for FileFolder<'_> {
     // of no files it is known
     ghost holds = { λ folder files. ⊥ };
 
+    ghost takes = { λ folder name. true };
+
+    ghost lasting = { λ folder name. ⊥ };
+
+    fn may_take(&self, name: &str) -> io::Result<bool> {
+        let path = self.path_of(name)?;
+        match fs::symlink_metadata(self.rt, path.as_str()) {
+            Err(error) => Ok(!matches!(
+                error.kind(),
+                ErrorKind::InvalidFilename | ErrorKind::InvalidInput
+            )),
+            Ok(_) => Ok(true),
+        }
+    }
+
+    fn is_there(&self, name: &str) -> bool {
+        match self.path_of(name) {
+            Ok(path) => fs::symlink_metadata(self.rt, path.as_str()).is_ok(),
+            Err(_) => true,
+        }
+    }
+
     fn len_of(&mut self, name: &str) -> io::Result<Option<u64>> {
         let len = self.find_len(name);
         self.error = len.err();
         len
+    }
+
+    fn has_at(&mut self, name: &str, at: u64, piece: &[u8]) -> io::Result<bool> {
+        let same = self.compare(name, at, piece);
+        self.error = same.err();
+        same
+    }
+
+    fn settle(&mut self, name: &str) -> io::Result<()> {
+        let settled = self.sync_file(name);
+        self.error = settled.err();
+        settled
     }
 
     fn begin(&mut self) -> io::Result<Noted<File>> {

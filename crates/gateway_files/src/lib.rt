@@ -2,6 +2,8 @@
 #![tactic(auto)]
 
 mod advice;
+mod blanks;
+mod comparing;
 mod copies;
 mod deleting;
 mod exporting;
@@ -27,13 +29,14 @@ mod upgrading;
 mod upload_lines;
 
 pub use advice::{Advice, Task, TextAdvice};
+pub use blanks::is_blank;
 pub use copies::copy_text;
 pub use deleting::{delete_file, delete_on, delete_uploads};
 pub use exporting::{ExportTally, export_file, export_on, export_uploads};
 pub use failures::{Failure, ended};
 pub use faults::Fault;
 pub use folders::{FileFolder, Folder};
-pub use formatting::{Formatted, format_file, format_in, format_on};
+pub use formatting::{Formatted, Made, format_file, format_in, format_on};
 pub use incomplete::{delete_incomplete_file, incomplete_numbers, incomplete_on};
 pub use index_files::{
     IndexFile, IndexFiles, Readable, entries_of, read_indexes_from, standard_entries,
@@ -45,7 +48,8 @@ pub use losses::Tally;
 pub use naming::{given_name, is_safe_name};
 pub use planning::{Job, plan};
 pub use reports::{
-    report_formatted, report_open, report_read, report_served, report_up, report_upgraded,
+    report_formatted, report_longer, report_open, report_read, report_served, report_up,
+    report_upgraded,
 };
 pub use spool_files::{SpoolFiles, SystemFiles, open_in, open_spool, refused_in, refused_spool};
 pub use streams::Noted;

@@ -1,18 +1,15 @@
 //! File names that the metadata of uploads gives.
 ghost use Rattle.std.specs.Prelude.{◌≡◌, IfOk, Some, option_map, string_bytes};
-ghost use Rattle.std.specs.List.{find};
+ghost use Rattle.std.specs.List.{find, list_all};
 ghost use Rattle.tus_request.specs.Texts.{parts};
 ghost use Rattle.tus_request.specs.Value.{value_of};
-ghost use Rattle.gateway_files.specs.Naming.{given_name, is_barred, is_clean, is_digit, is_named, is_numbered};
+ghost use Rattle.gateway_files.specs.Naming.{begins_with_sign, given_name, is_barred, is_clean, is_filler, is_named};
 ghost use Rattle.gateway_files.specs.Naming.{is_safe_name, pair, text_in};
 
 use base64::DecodeAllocError;
 use base64::engine::general_purpose::STANDARD;
 use common::{after, prefix};
 use std::alloc::{AllocError, Global};
-
-// The most bytes of a name.
-const LONGEST: usize = 255;
 
 /// The name that the metadata of an upload gives, where it gives one in UTF-8.
 pub fn given_name(alloc: Global, metadata: &[u8]) -> Result<Option<String>, AllocError>
@@ -73,46 +70,52 @@ fn text_of(bytes: Vec<u8>) -> Option<String>
     }
 }
 
-/// Whether a file may have the name: at most 255 bytes, no control character and no path separator, no dot at the
-/// start, and no number before the first dot, since uploads have these.
+/// Whether a file's name may end so, after its upload's number: it has no control character, no path separator and no
+/// character that turns text round, doesn't begin with a dot or a hyphen, and has more than blanks and `*`.
 pub fn is_safe_name(name: &str) -> bool
     ensures { result ≡ is_safe_name name.now }
 {
-    name.len() <= LONGEST && !is_numbered(name.as_bytes()) && is_clean(name.as_bytes())
+    !begins_with_sign(name.as_bytes()) && !is_filling(name.as_bytes()) && is_clean(name)
 }
 
-// Whether nothing but digits is before the first dot.
-fn is_numbered(name: &[u8]) -> bool
-    ensures { result ≡ is_numbered name.now }
+// Whether a dot or a hyphen is first.
+fn begins_with_sign(name: &[u8]) -> bool
+    ensures { result ≡ begins_with_sign name.now }
 {
-    prefix(name, b'.').iter().all(|b| is_digit(*b))
-}
-
-fn is_digit(byte: u8) -> bool
-    ensures { result ≡ is_digit byte }
-{
-    byte >= b'0' && byte <= b'9'
-}
-
-/// Whether no byte is barred.
-pub(crate) fn is_clean(name: &[u8]) -> bool
-    ensures { result ≡ is_clean 0 name.now }
-{
-    let mut last = 0;
-    let mut rest = name;
-    while let Some((first, more)) = rest.split_first() {
-        if is_barred(last, *first) {
-            return false;
-        }
-        last = *first;
-        rest = more;
+    match name.split_first() {
+        Some((first, _)) => *first == b'-' || *first == b'.',
+        None => false,
     }
-    true
 }
 
-// Whether a byte is a control character or a path separator, after this one.
-fn is_barred(last: u8, byte: u8) -> bool
-    ensures { result ≡ is_barred last byte }
+// Whether there is nothing but blanks and `*`.
+fn is_filling(name: &[u8]) -> bool
+    ensures { result ≡ list_all is_filler name.now }
 {
-    byte < 0x20 || byte == 0x7F || byte == b'/' || byte == b'\\' || last == 0xC2 && byte < 0xA0
+    name.iter().all(|b| is_filler(*b))
+}
+
+fn is_filler(byte: u8) -> bool
+    ensures { result ≡ is_filler byte }
+{
+    byte == b' ' || byte == b'*'
+}
+
+/// Whether no character is barred.
+pub(crate) fn is_clean(name: &str) -> bool
+    ensures { result ≡ is_clean name.now }
+{
+    name.chars().all(|c| !is_barred(c as u32))
+}
+
+// Whether a character is a control character, a path separator, or one that turns the text after it round.
+fn is_barred(c: u32) -> bool
+    ensures { result ≡ is_barred c }
+{
+    c < 0x20
+        || c >= 0x7F && c <= 0x9F
+        || c == 0x2F
+        || c == 0x5C
+        || c >= 0x202A && c <= 0x202E
+        || c >= 0x2066 && c <= 0x2069
 }

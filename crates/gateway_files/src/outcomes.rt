@@ -1,7 +1,7 @@
 //! The export of one upload's text, and what became of it.
 
-ghost use Rattle.std.specs.Prelude.{◌≡◌, [], ◌∷◌, Bool, IfErr, IfOk, IsErrOf, None, OnErr, OnOk, Some, ◌==◌, length};
-ghost use Rattle.std.specs.Prelude.{not};
+ghost use Rattle.std.specs.Prelude.{◌≡◌, [], ◌∷◌, ℕ, List, Bool, IfErr, IfOk, IsErrOf, OnErr, OnOk, Some, length};
+ghost use Rattle.std.specs.Prelude.{false, not, true};
 ghost use Rattle.std.specs.Io.KnownBytes.{Appends};
 ghost use Rattle.common.specs.Given.{MoreReads};
 ghost use Rattle.common.specs.declared.stop.Stop.{Stop};
@@ -11,10 +11,12 @@ ghost use Rattle.upload_rules.specs.Store.{upload_of};
 ghost use Rattle.upload_rules.specs.World.{World};
 ghost use Rattle.gateway_files.specs.declared.faults.Fault.{Fault};
 ghost use Rattle.gateway_files.specs.Changing.{IsChangeFault};
-ghost use Rattle.gateway_files.specs.Exporting.{ExportsAs, ExportsOneAs, differs_one, is_other, outcome_line};
-ghost use Rattle.gateway_files.specs.Folders.{Files, HoldsAll};
+ghost use Rattle.gateway_files.specs.Exporting.{AllLast, ExportsAs, ExportsOneAs, IsText, differs_one, is_other};
+ghost use Rattle.gateway_files.specs.Exporting.{outcome_line};
+ghost use Rattle.gateway_files.specs.Folders.{Files, HoldsAll, StillLast};
 ghost use Rattle.gateway_files.specs.Planning.{job_shown};
 
+use crate::comparing::is_text;
 use crate::copies::copy_text;
 use crate::faults::Fault;
 use crate::folders::Folder;
@@ -27,10 +29,10 @@ use upload_rules::Uploads;
 pub(crate) enum Outcome<'j> {
     /// Its text was written into this file.
     Exported(&'j str),
-    /// There is such a file, as long as the text.
+    /// It is in this file already, which was synced.
     There(&'j str),
-    /// There is such a file, of so many bytes where the text has so many others.
-    Differs(&'j str, u64, u64),
+    /// There is such a file, which isn't the text.
+    Differs(&'j str),
     /// Its text couldn't be written into this file.
     Failed(&'j str),
     /// It isn't complete, and only complete ones were to be written.
@@ -46,13 +48,16 @@ pub(crate) fn do_job<'j, W: Write, F: Folder, U: Uploads>(
 ) -> Result<Outcome<'j>, Fault>
     ensures files { (sure : Bool) (w : World) → U.represents uploads.old sure w → (files : Files)
         → F.holds folder.old files
-        → OnOk result (ExportsAs sure (F.holds folder.new) w.store (job_shown job.now ∷ []) files) }
+        → IfOk result (λ outcome. ExportsAs sure (is_other outcome) (F.holds folder.new) w.store
+        (job_shown job.now ∷ []) files) }
     ensures failed { (sure : Bool) (w : World) → U.represents uploads.old sure w → (files : Files)
         → F.holds folder.old files
         → OnErr result (ExportsOneAs sure (F.holds folder.new) w.store (job_shown job.now) files) }
-    ensures differs { (sure : Bool) (w : World) → U.represents uploads.old sure w → (files : Files)
-        → F.holds folder.old files
+    ensures differs { (w : World) → U.represents uploads.old true w → (files : Files) → F.holds folder.old files
         → IfOk result (λ outcome. is_other outcome ≡ differs_one w.store files (job_shown job.now)) }
+    ensures settled { (files : Files) → F.holds folder.old files → IfOk result (λ outcome. is_other outcome ≡ false
+        → AllLast (F.lasting folder.new) (job_shown job.now ∷ [])) }
+    ensures still { StillLast (F.lasting folder.old) (F.lasting folder.new) }
     ensures preserves { (files : Files) → F.holds folder.old files → HoldsAll (F.holds folder.new) files }
     ensures represents { (sure : Bool) (w : World) → U.represents uploads.old sure w
         → OnOk result (U.represents uploads.new sure w) }
@@ -69,9 +74,11 @@ pub(crate) fn do_job<'j, W: Write, F: Folder, U: Uploads>(
             Ok(outcome)
         }
         (Err(fault), Some(name)) => {
-            // if this can't be written either, only the program's end reports the fault
-            let reported = report_outcome(writer, job.number, Outcome::Failed(name.as_str()));
-            drop(reported);
+            // A file that has its name is whole. If this can't be written, only the program's end reports the fault.
+            if !folder.is_there(name.as_str()) {
+                let failed = Outcome::Failed(name.as_str());
+                drop(report_outcome(writer, job.number, failed));
+            }
             Err(fault)
         }
         (Err(fault), None) => Err(fault),
@@ -86,13 +93,16 @@ fn export_job<'j, F: Folder, U: Uploads>(
 ) -> Result<Outcome<'j>, Fault>
     ensures files { (sure : Bool) (w : World) → U.represents uploads.old sure w → (files : Files)
         → F.holds folder.old files
-        → OnOk result (ExportsAs sure (F.holds folder.new) w.store (job_shown job.now ∷ []) files) }
+        → IfOk result (λ outcome. ExportsAs sure (is_other outcome) (F.holds folder.new) w.store
+        (job_shown job.now ∷ []) files) }
     ensures failed { (sure : Bool) (w : World) → U.represents uploads.old sure w → (files : Files)
         → F.holds folder.old files
         → OnErr result (ExportsOneAs sure (F.holds folder.new) w.store (job_shown job.now) files) }
-    ensures differs { (sure : Bool) (w : World) → U.represents uploads.old sure w → (files : Files)
-        → F.holds folder.old files
+    ensures differs { (w : World) → U.represents uploads.old true w → (files : Files) → F.holds folder.old files
         → IfOk result (λ outcome. is_other outcome ≡ differs_one w.store files (job_shown job.now)) }
+    ensures settled { (files : Files) → F.holds folder.old files → IfOk result (λ outcome. is_other outcome ≡ false
+        → AllLast (F.lasting folder.new) (job_shown job.now ∷ [])) }
+    ensures still { StillLast (F.lasting folder.old) (F.lasting folder.new) }
     ensures preserves { (files : Files) → F.holds folder.old files → HoldsAll (F.holds folder.new) files }
     ensures represents { (sure : Bool) (w : World) → U.represents uploads.old sure w
         → OnOk result (U.represents uploads.new sure w) }
@@ -107,26 +117,42 @@ fn export_job<'j, F: Folder, U: Uploads>(
         return Ok(Outcome::Incomplete);
     };
     if let Some(len) = folder.len_of(name.as_str())? {
-        return Ok(found(uploads, job.number, name.as_str(), len));
+        return found(folder, uploads, job.number, name.as_str(), len);
     }
     write_text(folder, uploads, job.number, name.as_str())?;
     Ok(Outcome::Exported(name.as_str()))
 }
 
-// What there is of an upload's text: a file of this name and of so many bytes.
-fn found<'j, U: Uploads>(uploads: &U, number: u64, name: &'j str, len: u64) -> Outcome<'j>
-    ensures { (sure : Bool) (w : World) → U.represents uploads.now sure w
-        → is_other result ≡ not (len == length (text_at w.store (upload_of w.store number))) }
+// What there is of an upload's text: a file of this name and of so many bytes. If it is the text, it is made to last.
+fn found<'j, F: Folder, U: Uploads>(
+    folder: &mut F,
+    uploads: &mut U,
+    number: u64,
+    name: &'j str,
+    len: u64,
+) -> Result<Outcome<'j>, Fault>
+    ensures same { (sure : Bool) (w : World) → U.represents uploads.old sure w → (files : Files) (bytes : List ℕ)
+        → F.holds folder.old files → files name.now ≡ Some bytes → len ≡ length bytes
+        → IfOk result (λ outcome. IsText sure bytes (text_at w.store (upload_of w.store number))
+        (not (is_other outcome))) }
+    ensures settled { (files : Files) → F.holds folder.old files
+        → IfOk result (λ outcome. is_other outcome ≡ false → F.lasting folder.new name.now) }
+    ensures still { StillLast (F.lasting folder.old) (F.lasting folder.new) }
+    ensures preserves { (files : Files) → F.holds folder.old files → F.holds folder.new files }
+    ensures represents { (sure : Bool) (w : World) → U.represents uploads.old sure w
+        → OnOk result (U.represents uploads.new sure w) }
+    ensures crash { Quiet (U.moment uploads.old) (U.moment uploads.new) (U.left_only uploads.old)
+        (U.left_only uploads.new) }
+    ensures refused { IfErr result IsChangeFault }
+    ensures counts { Counts (IsErrOf result (Fault.Stop Stop.DiskFault)) (U.failures uploads.old)
+        (U.failures uploads.new) }
+    ensures reads { MoreReads (U.reads uploads.old) (U.reads uploads.new) }
 {
-    let text = match uploads.record(number) {
-        Some(record) => record.text_len,
-        None => 0,
-    };
-    if len == text {
-        Outcome::There(name)
-    } else {
-        Outcome::Differs(name, len, text)
+    if !is_text(folder, uploads, number, name, len)? {
+        return Ok(Outcome::Differs(name));
     }
+    folder.settle(name)?;
+    Ok(Outcome::There(name))
 }
 
 // Writes a text into a new file, which then has the name.
@@ -137,11 +163,13 @@ fn write_text<F: Folder, U: Uploads>(
     name: &str,
 ) -> Result<(), Fault>
     ensures files { (sure : Bool) (w : World) → U.represents uploads.old sure w → (files : Files)
-        → F.holds folder.old files → OnOk result ((files name.now ≡ None)
-        × ExportsAs sure (F.holds folder.new) w.store ((number, Some name.now) ∷ []) files) }
+        → F.holds folder.old files
+        → OnOk result (ExportsAs sure false (F.holds folder.new) w.store ((number, Some name.now) ∷ []) files) }
     ensures failed { (sure : Bool) (w : World) → U.represents uploads.old sure w → (files : Files)
         → F.holds folder.old files
         → OnErr result (ExportsOneAs sure (F.holds folder.new) w.store (number, Some name.now) files) }
+    ensures settled { (files : Files) → F.holds folder.old files → OnOk result (F.lasting folder.new name.now) }
+    ensures still { StillLast (F.lasting folder.old) (F.lasting folder.new) }
     ensures preserves { (files : Files) → F.holds folder.old files → HoldsAll (F.holds folder.new) files }
     ensures represents { (sure : Bool) (w : World) → U.represents uploads.old sure w
         → OnOk result (U.represents uploads.new sure w) }
@@ -173,9 +201,7 @@ fn report_outcome<W: Write>(writer: &mut W, number: u64, outcome: Outcome) -> io
     match outcome {
         Outcome::Exported(name) => writeln!(writer, "exported {number} {name}"),
         Outcome::There(name) => writeln!(writer, "there {number} {name}"),
-        Outcome::Differs(name, len, text) => {
-            writeln!(writer, "there {number} {name}, {len} of {text} bytes")
-        }
+        Outcome::Differs(name) => writeln!(writer, "differs {number} {name}"),
         Outcome::Failed(name) => writeln!(writer, "failed {number} {name}"),
         Outcome::Incomplete => writeln!(writer, "incomplete {number}"),
     }

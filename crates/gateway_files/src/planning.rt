@@ -1,13 +1,21 @@
 //! Which texts are to be written, and the names of their files.
-ghost use Rattle.std.specs.Prelude.{◌≡◌, IfOk, OnOk, map, option_map, string_bytes, Bool};
+ghost use Rattle.std.specs.Prelude.{◌≡◌, IfErr, IfOk, OnOk, Bool, ◌∷◌, ◌++◌, [], map, option_map, string_bytes};
 ghost use Rattle.upload_rules.specs.Lengths.{is_length};
 ghost use Rattle.upload_rules.specs.World.{World};
+ghost use Rattle.gateway_files.specs.Changing.{IsStreamFault};
+ghost use Rattle.gateway_files.specs.Folders.{Files};
 ghost use Rattle.gateway_files.specs.Lines.{IsInOrder};
-ghost use Rattle.gateway_files.specs.Planning.{file_name, is_name, is_used, job_shown, jobs_of, with_job};
+ghost use Rattle.gateway_files.specs.Planning.{file_name, job_for, job_shown, jobs_of, name_or};
 
+use crate::faults::Fault;
+use crate::folders::Folder;
 use crate::naming::{given_name, is_safe_name};
+use common::Stop;
 use std::alloc::{AllocError, Global};
 use upload_rules::{Record, Uploads, is_length};
+
+// The most bytes of a file's name.
+const LONGEST: usize = 255;
 
 /// An upload, and the name of its file. `None` where its text isn't written.
 #[derive(Drop)]
@@ -18,24 +26,22 @@ pub struct Job {
     pub name: Option<String>,
 }
 
-impl Job {
-    // Whether its file has the name.
-    fn is_name(&self, name: &str) -> bool
-        ensures { result ≡ is_name (option_map string_bytes self.now.name) name.now }
-    {
-        match &self.name {
-            Some(other) => other.as_str() == name,
-            None => false,
-        }
-    }
-}
-
-/// All uploads by number. The text of one is written where it is complete, or where all are. Its file has the name that
-/// its metadata gives, where that is safe and no other file has it, and else its number.
-pub fn plan<U: Uploads>(alloc: Global, uploads: &U, all: bool) -> Result<Vec<Job>, AllocError>
+/// All uploads by number. The text of one is written where it is complete, or where all are. Its file has its number, a
+/// hyphen and the name that its metadata gives, where that is safe and the folder takes it, and else its number and
+/// `.txt`.
+///
+/// Refused with `NoMemory`, or with `Io` by the folder.
+pub fn plan<U: Uploads, F: Folder>(
+    alloc: Global,
+    uploads: &U,
+    folder: &F,
+    all: bool,
+) -> Result<Vec<Job>, Fault>
     // On any disk: for the uploads that they represent.
-    ensures { (sure : Bool) (w : World) → U.represents uploads.now sure w → IsInOrder w.store
-        → IfOk result (λ jobs. map job_shown jobs.items ≡ jobs_of all w.store) }
+    ensures jobs { (sure : Bool) (w : World) → U.represents uploads.now sure w → IsInOrder w.store → (files : Files)
+        → F.holds folder.now files
+        → IfOk result (λ jobs. map job_shown jobs.items ≡ jobs_of (F.takes folder.now) all w.store) }
+    ensures refused { IfErr result IsStreamFault }
 {
     let mut jobs = Vec::new(alloc);
     let mut number = 0;
@@ -43,48 +49,81 @@ pub fn plan<U: Uploads>(alloc: Global, uploads: &U, all: bool) -> Result<Vec<Job
         let Some(record) = uploads.record_after(number) else {
             return Ok(jobs);
         };
-        push_job(alloc, &mut jobs, record, all)?;
+        push_job(alloc, &mut jobs, folder, record, all)?;
         number = record.number;
     }
     // No memory holds so many jobs.
-    Err(AllocError)
+    Err(Fault::Stop(Stop::NoMemory))
 }
 
 // Adds the job of an upload.
-fn push_job(
+fn push_job<F: Folder>(
     alloc: Global,
     jobs: &mut Vec<Job>,
+    folder: &F,
     record: &Record,
     all: bool,
-) -> Result<(), AllocError>
-    ensures { OnOk result (map job_shown jobs.new.items ≡ with_job all (map job_shown jobs.old.items) record.now.number
-        (is_length record.now.declared record.now.accepted) record.now.metadata.bytes.items) }
+) -> Result<(), Fault>
+    ensures job { (files : Files) → F.holds folder.now files
+        → OnOk result (map job_shown jobs.new.items ≡ map job_shown jobs.old.items
+        ++ job_for (F.takes folder.now) all record.now.number (is_length record.now.declared record.now.accepted)
+        record.now.metadata.bytes.items ∷ []) }
+    ensures refused { IfErr result IsStreamFault }
 {
     let name = if all || is_length(record.declared, record.accepted) {
-        Some(file_name(alloc, jobs, record.number, record.metadata.as_str())?)
+        Some(file_name(alloc, folder, record.number, record.metadata.as_str())?)
     } else {
         None
     };
     let number = record.number;
-    jobs.push(Job { number, name })?;
-    Ok(())
-}
-
-// The name of an upload's file, after those of other uploads.
-fn file_name(alloc: Global, jobs: &[Job], number: u64, metadata: &str) -> Result<String, AllocError>
-    ensures { IfOk result (λ name. string_bytes name ≡ file_name (map job_shown jobs.now) number metadata.now) }
-{
-    if let Some(name) = given_name(alloc, metadata.as_bytes())? {
-        if is_safe_name(&name) && !is_used(jobs, &name) {
-            return Ok(name);
-        }
+    match jobs.push(Job { number, name }) {
+        Ok(()) => Ok(()),
+        Err(full) => Err(AllocError::from(full).into()),
     }
-    format!(in alloc; "{number}.txt")
 }
 
-// Whether a file has the name.
-fn is_used(jobs: &[Job], name: &str) -> bool
-    ensures { result ≡ is_used (map job_shown jobs.now) name.now }
+// The name of an upload's file.
+fn file_name<F: Folder>(
+    alloc: Global,
+    folder: &F,
+    number: u64,
+    metadata: &str,
+) -> Result<String, Fault>
+    ensures name { (files : Files) → F.holds folder.now files
+        → IfOk result (λ name. string_bytes name ≡ file_name (F.takes folder.now) number metadata.now) }
+    ensures refused { IfErr result IsStreamFault }
 {
-    jobs.iter().any(|job| job.is_name(name))
+    match long_name(alloc, folder, number, metadata)? {
+        Some(name) => Ok(name),
+        None => Ok(format!(in alloc; "{number}.txt")?),
+    }
+}
+
+// The name by an upload's number and a name that its metadata gives, where a file may have it.
+fn long_name<F: Folder>(
+    alloc: Global,
+    folder: &F,
+    number: u64,
+    metadata: &str,
+) -> Result<Option<String>, Fault>
+    ensures name { (files : Files) → F.holds folder.now files
+        → IfOk result (λ name. name_or (option_map string_bytes name) number
+        ≡ file_name (F.takes folder.now) number metadata.now) }
+    ensures refused { IfErr result IsStreamFault }
+{
+    let Some(given) = given_name(alloc, metadata.as_bytes())? else {
+        return Ok(None);
+    };
+    if !is_safe_name(&given) {
+        return Ok(None);
+    }
+    let name = format!(in alloc; "{number}-{given}")?;
+    if name.len() > LONGEST {
+        return Ok(None);
+    }
+    if folder.may_take(&name)? {
+        Ok(Some(name))
+    } else {
+        Ok(None)
+    }
 }

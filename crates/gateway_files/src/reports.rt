@@ -2,7 +2,7 @@
 ghost use Rattle.std.specs.Prelude.{◌≡◌, OnOk, count_by};
 ghost use Rattle.std.specs.Io.KnownBytes.{Appends};
 ghost use Rattle.gateway_files.specs.Reports.{formatted_line, free_line, is_read, losses_line, losses_line_of};
-ghost use Rattle.gateway_files.specs.Reports.{open_line};
+ghost use Rattle.gateway_files.specs.Reports.{longer_line, open_line};
 ghost use Rattle.gateway_files.specs.Reports.{read_lines, served_line, up_line, upgraded_line};
 
 use crate::index_files::IndexFile;
@@ -15,6 +15,16 @@ pub fn report_formatted<W: Write>(writer: &mut W, blocks: u32, pages: u32) -> io
     ensures { OnOk result (Appends (W.contents writer.old) (W.contents writer.new) (formatted_line blocks pages)) }
 {
     writeln!(writer, "formatted {blocks} blocks, {pages} pages")
+}
+
+/// Prints that the file of a spool that was made is longer than the spool, since it was so long before.
+pub fn report_longer<W: Write>(writer: &mut W, spool: &str, len: u64) -> io::Result<()>
+    ensures { OnOk result (Appends (W.contents writer.old) (W.contents writer.new) (longer_line spool.now len)) }
+{
+    writeln!(
+        writer,
+        "{spool} has {len} bytes, as before: more than the spool, which is at its start"
+    )
 }
 
 /// Prints which index files were read, and which of them aren't whole.

@@ -12,7 +12,7 @@ use crate::failures::Failure;
 use crate::faults::Fault;
 use spool_disk::{Disk, FileDisk};
 use spool_image::is_spool;
-use std::io;
+use std::{fs, io};
 
 /// Files that spools are in, opened by their paths. One that is open is out until it is closed.
 pub trait SpoolFiles {
@@ -42,6 +42,11 @@ pub trait SpoolFiles {
     fn close(&mut self, path: &str, disk: Self::File)
         ensures closed { (disks : Disks Self.File) → holds self.old disks
             → holds self.new (with_disk disks path.now (Some disk)) };
+
+    /// Removes the file at this path. The others stay.
+    fn remove(&mut self, path: &str) -> io::Result<()>
+        ensures others { (disks : Disks Self.File) → holds self.old disks
+            → LeavesOthers (holds self.new) disks path.now };
 
     /// Why a call of an open file failed last. `None` where none did.
     fn error_of(&self, disk: &Self::File) -> Option<io::Error>;
@@ -79,6 +84,10 @@ impl SpoolFiles for SystemFiles<'_> {
 
     fn close(&mut self, _path: &str, disk: FileDisk) {
         drop(disk);
+    }
+
+    fn remove(&mut self, path: &str) -> io::Result<()> {
+        fs::remove_file(self.rt, path)
     }
 
     fn error_of(&self, disk: &FileDisk) -> Option<io::Error> {

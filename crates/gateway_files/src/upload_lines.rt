@@ -106,7 +106,7 @@ impl fmt::Display for Named {
 
     fn fmt<W: fmt::Write>(&self, f: &mut fmt::Formatter<W>) -> fmt::Result {
         match &self.0 {
-            Some(name) if is_clean(name.as_bytes()) => write!(f, " (filename: {name})"),
+            Some(name) if is_clean(name) => write!(f, " (filename: {name})"),
             _ => Ok(()),
         }
     }

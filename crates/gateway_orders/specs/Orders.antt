@@ -12,8 +12,9 @@ use Rattle.gateway_orders.specs.declared.orders.Order.TheVariants as orders
 
 -- the order is the one that belongs to the command of this name with these arguments
 abbrev pub IsOrder : Text → List Row → Order → Type 0
-IsOrder name given (Format spool blocks indexes) = (name ≡ codes "format") × HasArgument given (codes "SPOOL") spool.now
-    × HasNumber 32 given (codes "blocks") blocks × HasArgument given (codes "indexes") indexes.now
+IsOrder name given (Format spool blocks indexes overwrite) = (name ≡ codes "format")
+    × HasArgument given (codes "SPOOL") spool.now × HasNumber 32 given (codes "blocks") blocks
+    × HasArgument given (codes "indexes") indexes.now × HasFlag given (codes "overwrite") overwrite
 IsOrder name given (Script spool) = (name ≡ codes "script") × HasArgument given (codes "SPOOL") spool.now
 IsOrder name given (Serve service) = (name ≡ codes "serve") × HasArgument given (codes "SPOOL") service.spool.now
     × HasNumber 16 given (codes "port") service.port

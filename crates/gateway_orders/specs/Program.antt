@@ -77,7 +77,8 @@ shape_for described = shape_named described.name.now (map rule_for described.tak
 
 abbrev pub shapes : List Shape
 shapes = shape_named (codes "format")
-    (word_rule (codes "SPOOL") ∷ u32_rule (codes "blocks") ∷ text_rule (codes "indexes") ∷ [])
+    (word_rule (codes "SPOOL") ∷ u32_rule (codes "blocks") ∷ text_rule (codes "indexes")
+    ∷ flag_rule (codes "overwrite") ∷ [])
     ∷ shape_named (codes "up")
     (word_rule (codes "SPOOL") ∷ default_rule (codes "127.0.0.1:8080") (codes "listen") ∷ flag_rule (codes "quiet")
     ∷ flag_rule (codes "log") ∷ [])

@@ -107,7 +107,7 @@ static COMMANDS: [Described; 9] = [
             Given {
                 name: "SPOOL",
                 with: With::Word,
-                help: "The file to be made. One that is there and is no spool is overwritten",
+                help: "The file to be made. One that is there may have nothing but zeros",
             },
             Given {
                 name: "blocks",
@@ -115,6 +115,11 @@ static COMMANDS: [Described; 9] = [
                 help: "How many blocks of 4,096 bytes there are for texts: 16 to 65536",
             },
             INDEXES,
+            Given {
+                name: "overwrite",
+                with: With::Nothing,
+                help: "Overwrites a file that is no spool, whatever it has",
+            },
         ],
     },
     UP,

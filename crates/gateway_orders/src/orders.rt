@@ -14,11 +14,13 @@ use std::net::SocketAddr;
 /// What a command line asks for.
 #[derive(Debug, Drop)]
 pub enum Order<'a> {
-    /// Makes a spool at this path with this many text blocks and the index files of this folder.
+    /// Makes a spool at this path with this many text blocks and the index files of this folder. A file that is there,
+    /// is no spool and has a byte other than zero is refused, unless `overwrite` is given.
     Format {
         spool: &'a str,
         blocks: u32,
         indexes: &'a str,
+        overwrite: bool,
     },
     /// Runs standard input as a script over the spool at this path, or over a fresh one in memory for `-`.
     Script {
@@ -130,6 +132,7 @@ fn format_order<'a>(given: &ArgMatches<'a>) -> Option<Order<'a>>
         spool: given.get_str("SPOOL")?,
         blocks: given.get_one::<u32>("blocks")?,
         indexes: given.get_str("indexes")?,
+        overwrite: given.get_flag("overwrite"),
     })
 }
 

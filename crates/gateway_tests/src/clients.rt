@@ -180,8 +180,8 @@ pub(crate) fn served(
         clients,
         ended: _,
     } = serve_on(
-        alloc,
         clock,
+        alloc,
         &mut acceptor,
         gateway,
         MOST_OPEN as u64 + 2,

@@ -86,7 +86,7 @@ fn spool_is_made_used_listed_and_upgraded(rt: HostRuntime) {
     fs::create_dir(&rt, FOLDER).expect(&rt, "a folder");
     fs::write(&rt, JIS0208, "0\t3000\n").expect(&rt, "a file");
     fs::write(&rt, JIS0212, "# two\n108\t02D8\n").expect(&rt, "a file");
-    let made = format_file(&rt, alloc, SPOOL, 16, FOLDER).expect(&rt, "a spool");
+    let made = format_file(&rt, alloc, SPOOL, 16, FOLDER, false).expect(&rt, "a spool");
     let mut lines = Vec::new(alloc);
     report_formatted(&mut lines, 16, made.pages).expect(&rt, "a line");
     report_read(&mut lines, made.files.as_slice()).expect(&rt, "lines");
@@ -122,18 +122,23 @@ fn spool_stays_as_it_is(rt: HostRuntime) {
     let _ = fs::remove_dir_all(&rt, AGAIN);
     fs::create_dir(&rt, AGAIN).expect(&rt, "a folder");
     fs::write(&rt, "gateway_again_test/spool", "no spool").expect(&rt, "a file");
-    let made = format_file(&rt, alloc, "gateway_again_test/spool", 16, AGAIN).expect(
+    let foreign = format_file(&rt, alloc, "gateway_again_test/spool", 16, AGAIN, false).map(drop);
+    let last_line = "refused: 40 NotEmpty\n\
+    gateway_again_test/spool isn't empty, and no spool: take another path, or --overwrite if nobody needs it. \
+    An interrupted format leaves such a file; a damaged spool is one too: see docs/FORMAT.md";
+    fails(&rt, alloc, foreign, 2, last_line);
+    let made = format_file(&rt, alloc, "gateway_again_test/spool", 16, AGAIN, true).expect(
         &rt, "a spool",
     );
-    assert_eq!(rt; made.pages, 557);
+    assert_eq!(rt; (made.pages, made.longer), (557, None));
     let before = fs::read(&rt, "gateway_again_test/spool").expect(&rt, "its bytes");
-    let again = format_file(&rt, alloc, "gateway_again_test/spool", 32, AGAIN).map(drop);
+    let again = format_file(&rt, alloc, "gateway_again_test/spool", 32, AGAIN, true).map(drop);
     let last_line = "refused: 13 AlreadySpool\n\
     gateway_again_test/spool is a spool, and stays as it is: take another path, or remove it yourself";
     fails(&rt, alloc, again, 2, last_line);
     let index = "gateway_again_test/index-jis0212.txt";
     fs::write(&rt, index, "0\t3000\n8836\t3000\n").expect(&rt, "a file");
-    let unread = format_file(&rt, alloc, "gateway_again_test/other", 16, AGAIN).map(drop);
+    let unread = format_file(&rt, alloc, "gateway_again_test/other", 16, AGAIN, false).map(drop);
     fails(
         &rt,
         alloc,
@@ -154,7 +159,15 @@ fn failure_says_what_the_system_said(rt: HostRuntime) {
     let last_line = "refused: 39 CannotOpen\n\
     cannot open the spool no_such_folder/spool: No such file or directory (os error 2)";
     fails(&rt, alloc, lost, 2, last_line);
-    let unmade = format_file(&rt, alloc, "gateway_unmade_test", 16, "no_such_folder").map(drop);
+    let unmade = format_file(
+        &rt,
+        alloc,
+        "gateway_unmade_test",
+        16,
+        "no_such_folder",
+        false,
+    )
+    .map(drop);
     let last_line = "refused: 33 Io\n\
     cannot look into the folder no_such_folder: No such file or directory (os error 2)";
     fails(&rt, alloc, unmade, 2, last_line);

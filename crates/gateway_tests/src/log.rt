@@ -214,8 +214,8 @@ fn logged(rt: &impl Abort, alloc: Global, talk: &[Passes], size: usize) -> Vec<u
     let sends: Cell<&'static [u8]> = Cell::new(b"");
     let clock = Millis { now: Cell::new(0) };
     let log = Log::new(
-        alloc,
         &clock,
+        alloc,
         Paper {
             alloc,
             written: &written,
@@ -263,8 +263,8 @@ fn stock_is_shown_in_the_line_of_a_minute(rt: HostRuntime) {
     let sends: Cell<&'static [u8]> = Cell::new(b"");
     let clock = Millis { now: Cell::new(0) };
     let log = Log::new(
-        alloc,
         &clock,
+        alloc,
         Paper {
             alloc,
             written: &written,

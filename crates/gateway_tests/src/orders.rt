@@ -6,10 +6,14 @@ use std::process::Abort;
 
 /// Command lines, and what each one parses to: an order, a call for help, or a usage error. The errors have a word too
 /// few, a word too many, or one that isn't valid.
-static LINES: [(&str, &str); 52] = [
+static LINES: [(&str, &str); 53] = [
     (
         "gateway format new --blocks 16 --indexes idx",
-        r#"Format { spool: "new", blocks: 16, indexes: "idx" }"#,
+        r#"Format { spool: "new", blocks: 16, indexes: "idx", overwrite: false }"#,
+    ),
+    (
+        "gateway format new --blocks 16 --indexes idx --overwrite",
+        r#"Format { spool: "new", blocks: 16, indexes: "idx", overwrite: true }"#,
     ),
     ("gateway script -", r#"Script { spool: "-" }"#),
     (

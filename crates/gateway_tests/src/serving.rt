@@ -99,7 +99,7 @@ fn served<R: Abort + Clock, D: Disk + Drop>(
         served,
         clients: _,
         ended: _,
-    } = serve_on(alloc, rt, &mut acceptor, gateway, connections, 1000);
+    } = serve_on(rt, alloc, &mut acceptor, gateway, connections, 1000);
     (gateway.into_disk(), served.is_ok())
 }
 

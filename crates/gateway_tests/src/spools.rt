@@ -21,13 +21,9 @@ pub(crate) fn ran_between<D: Disk, R: Read, W: Write>(
     writer: &mut W,
     disk: D,
 ) -> (D, Option<RunFault>) {
-    let spool = match Spool::open(alloc, disk) {
-        Ok(spool) => spool,
-        Err((disk, fault)) => return (disk, Some(RunFault::Open(fault))),
-    };
-    match run(alloc, reader, writer, spool) {
+    match run(alloc, reader, writer, disk) {
         Ok(disk) => (disk, None),
-        Err((disk, fault)) => (disk, Some(RunFault::from(fault))),
+        Err((disk, fault)) => (disk, Some(fault)),
     }
 }
 

@@ -1,9 +1,9 @@
-use Rattle.std.proofs.Common.{◌≡◌, map, take, Bool}
+use Rattle.std.proofs.Common.{◌≡◌, map, take, Bool, true, false}
 use Rattle.common.specs.Given.{MoreReads}
 use Rattle.upload_rules.specs.Answers.{Quiet}
 use Rattle.upload_rules.specs.World.{World}
-use Rattle.gateway_files.specs.Exporting.{ExportsAs, some_differ}
-use Rattle.gateway_files.specs.Folders.{Files, HoldsAll}
+use Rattle.gateway_files.specs.Exporting.{AllLast, ExportsAs, some_differ}
+use Rattle.gateway_files.specs.Folders.{Files, HoldsAll, StillLast}
 use Rattle.gateway_files.specs.Planning.{job_shown}
 use Rattle.gateway_files.proofs.exporting.do_jobs.Given as goal
 
@@ -15,7 +15,12 @@ invariant-loop-job g l =
     × ((sure : Bool) (w : World) → g.U.Uploads.represents l.fn.uploads sure w → g.U.Uploads.represents l.uploads sure w)
     × ((sure : Bool) (w : World) → g.U.Uploads.represents l.fn.uploads sure w → (files : Files)
     → g.F.Folder.holds l.fn.folder files
-    → ExportsAs sure (g.F.Folder.holds l.folder) w.store (map job_shown (take l.job-index l.jobs)) files
-    × (some_differ w.store files (map job_shown (take l.job-index l.jobs)) ≡ l.done.differs))
+    → ExportsAs sure l.done.differs (g.F.Folder.holds l.folder) w.store (map job_shown (take l.job-index l.jobs)) files)
+    × ((w : World) → g.U.Uploads.represents l.fn.uploads true w → (files : Files)
+    → g.F.Folder.holds l.fn.folder files
+    → some_differ w.store files (map job_shown (take l.job-index l.jobs)) ≡ l.done.differs)
+    × ((files : Files) → g.F.Folder.holds l.fn.folder files → l.done.differs ≡ false
+    → AllLast (g.F.Folder.lasting l.folder) (map job_shown (take l.job-index l.jobs)))
+    × StillLast (g.F.Folder.lasting l.fn.folder) (g.F.Folder.lasting l.folder)
     × ((files : Files) → g.F.Folder.holds l.fn.folder files → HoldsAll (g.F.Folder.holds l.folder) files)
     × MoreReads (g.U.Uploads.reads l.fn.uploads) (g.U.Uploads.reads l.uploads)

@@ -5,9 +5,9 @@ use Rattle.spool_image.specs.Spool.{disk_of, block_count_of}
 use Rattle.spool_image.specs.contracts.spool.SpoolUploads.TheImpl.Laws.{durable-law}
 use Rattle.upload_rules.specs.World.{at_rest}
 use Rattle.gateway_files.specs.Planning.{jobs_of}
-use Rattle.gateway_files.proofs.Exported.{exports, surely_all, surely_some}
+use Rattle.gateway_files.proofs.Exported.{any_differs, exports, surely_all, surely_each, surely_some}
 use Rattle.gateway_files.proofs.InOrder.{in_order, shown_in_order}
-use Rattle.gateway_files.proofs.Named.{spool_rises}
+use Rattle.gateway_files.proofs.Named.{apart, spool_rises}
 use Rattle.gateway_files.proofs.Lasting.{all_show, lasts_over, when_ok}
 use Rattle.gateway_files.proofs.Pieces.{quiet_limits}
 use Rattle.gateway_files.proofs.Refusals.{change_refused, done_by, is_damaged, ok_each, other_version, unopened}
@@ -16,24 +16,37 @@ use Rattle.gateway_files.proofs.exporting.export_on.Goals as goal
 pub returns-in-Ok-clause-files : goal.returns-in-Ok-clause-files
 returns-in-Ok-clause-files g c n m is files held =
     surely_all c.export_uploads-exported.result (g.F.Folder.holds c.export_uploads-exported.new.folder) m
-    (jobs_of c.args.all m) files
+    (jobs_of (g.F.Folder.takes c.args.folder.now) c.args.all m) files
     (c.export_uploads-exported.ensures.files true (at_rest m (Some n)) (c.in-Ok.ensures.represents n m is)
     (in_order g.D.Disk c.args.disk n m is) files held)
 
 pub returns-in-Ok-clause-texts : goal.returns-in-Ok-clause-texts
 returns-in-Ok-clause-texts g c n m is files held =
-    exports c.export_uploads-exported.result (g.F.Folder.holds c.export_uploads-exported.new.folder) c.args.all m files
-    (spool_rises g.D.Disk c.args.disk n m is) (returns-in-Ok-clause-files g c n m is files held)
+    let takes = g.F.Folder.takes c.args.folder.now in
+    exports c.export_uploads-exported.result (g.F.Folder.holds c.export_uploads-exported.new.folder) m
+    (jobs_of takes c.args.all m) files (apart takes c.args.all 0 m.uploads (spool_rises g.D.Disk c.args.disk n m is))
+    (returns-in-Ok-clause-files g c n m is files held)
+
+pub returns-in-Ok-clause-each : goal.returns-in-Ok-clause-each
+returns-in-Ok-clause-each g c n m is files held =
+    let represents = c.in-Ok.ensures.represents n m is in
+    let order = in_order g.D.Disk c.args.disk n m is in
+    surely_each c.export_uploads-exported.result (g.F.Folder.holds c.export_uploads-exported.new.folder)
+    (g.F.Folder.lasting c.export_uploads-exported.new.folder) m
+    (jobs_of (g.F.Folder.takes c.args.folder.now) c.args.all m) files
+    (c.export_uploads-exported.ensures.files true (at_rest m (Some n)) represents order files held)
+    (c.export_uploads-exported.ensures.settled true (at_rest m (Some n)) represents order files held)
 
 pub returns-in-Ok-clause-whole : goal.returns-in-Ok-clause-whole
 returns-in-Ok-clause-whole g c n m is files held =
-    surely_some (g.F.Folder.holds c.export_uploads-exported.new.folder) m (jobs_of c.args.all m) files
+    surely_some (g.F.Folder.holds c.export_uploads-exported.new.folder) m
+    (jobs_of (g.F.Folder.takes c.args.folder.now) c.args.all m) files
     (c.export_uploads-exported.ensures.whole true (at_rest m (Some n)) (c.in-Ok.ensures.represents n m is)
     (in_order g.D.Disk c.args.disk n m is) files held)
 
 pub returns-in-Ok-clause-differs : goal.returns-in-Ok-clause-differs
 returns-in-Ok-clause-differs g c n m is =
-    c.export_uploads-exported.ensures.differs true (at_rest m (Some n)) (c.in-Ok.ensures.represents n m is)
+    c.export_uploads-exported.ensures.differs (at_rest m (Some n)) (c.in-Ok.ensures.represents n m is)
     (in_order g.D.Disk c.args.disk n m is)
 
 pub returns-in-Ok-clause-version : goal.returns-in-Ok-clause-version
@@ -83,8 +96,10 @@ returns-in-Ok-clause-given g c =
         done =
             done_by _ before after _ _ done.result (λ v m shows has_view. ok_each _ done.result (λ files.
             ok_each _ done.result (λ held.
-            done.ensures.files false (at_rest m (Some v.blocks)) (c.in-Ok.ensures.represents_view v m shows has_view)
-            (shown_in_order v m shows) files held))) is.memory;
+            any_differs done.result false (g.F.Folder.holds done.new.folder) m
+            (jobs_of (g.F.Folder.takes c.args.folder.now) c.args.all m) files
+            (done.ensures.files false (at_rest m (Some v.blocks)) (c.in-Ok.ensures.represents_view v m shows has_view)
+            (shown_in_order v m shows) files held)))) is.memory;
       });
       others = grew_on done.ensures.reads (grew_none (ap g.D.Disk.reads c.into_disk.ensures.same));
     }
