@@ -3,15 +3,21 @@
 
     python3 tests/clients/exports.py [--program PATH] [--indexes DIR] [--seed N]
 
-A spool has uploads of some pieces each, one of them with a name that a file in the folder has already, and one whose
-file has a part of its text, as an older program left it. A small C library, made in a temporary folder and loaded
-before the C library, counts the calls that write, sync, link and remove files. At each of them in turn the export is
-killed (before the call, in the midst of a write, or after the call), or the call fails as on a full disk. Afterwards
-each file of an upload's name is absent, or whole, or as it was before; what was told as exported is there; where the
-call failed nothing else is left; and the next run, without the library, writes what isn't there yet, leaves nothing of
-the ended one, tells of the file that has a part alone that it isn't as long as its text, and ends with status 4. In a
-run that isn't ended each file is written, synced, linked and its first name removed, and then the folder is synced, as
-it is once before. Where the folder can't be locked, a file that is being written stays, and the export is refused.
+A spool has uploads of some pieces each, one of them in its file already, and one whose file has a part of its text. A
+small C library, made in a temporary folder and loaded before the C library, counts the calls that write, sync, link and
+remove files. At each of them in turn the export is killed (before the call, in the midst of a write, or after the
+call), or the call fails as on a full disk. Afterwards each file of an upload's name is absent, or whole, or as it was
+before; what was told as exported is there, and what was told as failed isn't; where the call failed nothing else is
+left; and the next run, without the library, writes what isn't there yet, leaves nothing of the ended one, names the
+file that has a part alone, and ends with status 4. In a run that isn't ended each file is written, synced, linked and
+its first name removed, and then the folder is synced, as it is once before; one that is there is synced, and so is the
+folder. Where the folder can't be locked, a file that is being written stays, and the export is refused.
+
+Then folders that were used before: after a deletion a text of the same name and length goes into a file of its own, so
+do those of two spools unless their files have the same number, and then the other one's is named; two uploads of one
+name keep their files' names from run to run, complete or not; a second run over all has status 0; a name that the
+folder's path leaves no room for is given up for the number alone, and a name with a hyphen first or one that turns text
+round never is a file's.
 The status is 0 where all was so, and there were a hundred ends.
 """
 
@@ -137,9 +143,10 @@ class Case:
         self.program, self.spool, self.into = program, folder / "spool", folder / "texts"
         format_spool(program, self.spool, 128, indexes)
         texts = ["".join(rng.choices("aé語😀\n", k=size)).encode() for size in (0, 5, 1500, 4000, 9000, 12_000)]
-        names = [f"letter {k}.txt" for k in range(len(texts))]
+        given = [f"letter {k}.txt" for k in range(len(texts))]
+        names = [f"{number}-{name}" for number, name in enumerate(given, 1)]
         lines = ["open 1"]
-        for number, (text, name) in enumerate(zip(texts, names), 1):
+        for number, (text, name) in enumerate(zip(texts, given), 1):
             lines += [*post(1, len(text), "utf-8", name), *(patch(1, number, 0, text) if text else [])]
         script = "\n".join(lines).encode() + b"\n"
         done = subprocess.run([program, "script", self.spool], input=script, capture_output=True)
@@ -181,6 +188,8 @@ class Case:
         for line in lines:
             if line.startswith("exported ") and " of " not in line:
                 holds(f"{line}, and it isn't there", line.split(" ", 2)[2] in files)
+            if line.startswith("failed "):
+                holds(f"{line}, and it is there", line.split(" ", 2)[2] not in files)
 
     def check_all(self):
         """The next run does the rest, and says which file isn't whole."""
@@ -188,8 +197,7 @@ class Case:
         same("the status of the next run", status, 4)
         same("its files", self.files(), {**self.texts, **self.before})
         partly = next(name for name, text in self.before.items() if self.texts.get(name, text) != text)
-        differs = f"{partly}, {len(self.before[partly])} of {len(self.texts[partly])} bytes"
-        same("its lines of a part", [line.split(" ", 2)[2] for line in lines if line.endswith(" bytes")], [differs])
+        same("its lines of a part", [line.split(" ", 2)[2] for line in lines if line.startswith("differs ")], [partly])
         holds(f"what it says: {said}", said.startswith("refused: 37 FileDiffers\n"))
 
 
@@ -206,7 +214,6 @@ def try_all(case, library, how):
             if how == "full":
                 same("the status", status, 2)
                 holds(f"what it says: {said}", said.startswith("refused: 33 Io\ncannot write into the folder "))
-                holds(f"its lines: {lines}", not lines or lines[-1].startswith("failed "))
                 holds("a part is left", PART not in case.files())
             case.check(lines)
             case.check_all()
@@ -218,8 +225,10 @@ def try_order(case, library):
     """A run that isn't ended makes its calls in order."""
     case.start()
     _, _, _, calls = case.export(LD_PRELOAD=str(library), NOTED="1")
-    new = len(case.texts.keys() - case.before.keys())
-    holds(f"its calls: {calls}", re.fullmatch("uf(w*sluf){%d}" % new, calls))
+    made = {name: "w*sluf" for name in case.texts} | {
+        name: "sf" if case.texts[name] == text else "" for name, text in case.before.items() if name in case.texts
+    }
+    holds(f"its calls: {calls}", re.fullmatch("uf" + "".join(made[name] for name in case.texts), calls))
 
 
 def try_lockless(case, library):
@@ -235,6 +244,76 @@ def try_lockless(case, library):
     same("the files without locks", case.files(), {**case.texts, **case.before})
 
 
+class Folder:
+    """A folder that is exported into, again and again."""
+
+    def __init__(self, program, folder):
+        self.program, self.folder = program, folder
+        (folder / "idx").mkdir()
+
+    def spool(self, name, *uploads):
+        """A spool of these uploads: each one's text, file name and length."""
+        format_spool(self.program, self.folder / name, 64, self.folder / "idx")
+        self.adds(name, *uploads)
+
+    def adds(self, name, *uploads, first=1):
+        lines = ["open 1"]
+        for number, (text, file, length) in enumerate(uploads, first):
+            lines += [*post(1, length, "utf-8", file), *patch(1, number, 0, text)]
+        self.does("script", name, given="\n".join(lines) + "\n")
+
+    def does(self, *words, given="", status=0):
+        ran = subprocess.run([self.program, *words], input=given, capture_output=True, text=True, cwd=self.folder)
+        same(f"the status of {words}, {ran.stderr!r}", ran.returncode, status)
+        return ran.stdout.splitlines()
+
+    def files(self, into):
+        return {path.name: path.read_bytes() for path in (self.folder / into).iterdir()}
+
+
+def try_used(program, folder):
+    """Folders that were used before."""
+    it = Folder(program, folder)
+    (folder / "out").mkdir()
+    it.spool("week", (b"letter one, A", "letter.txt", 13))
+    it.does("export", "week", "out")
+    it.does("delete", "week", "1")
+    it.adds("week", (b"letter two, B", "letter.txt", 13), first=2)
+    same("a later text", it.does("export", "week", "out")[0], "exported 2 2-letter.txt")
+    same("both texts", it.files("out"), {"1-letter.txt": b"letter one, A", "2-letter.txt": b"letter two, B"})
+    again = it.does("export", "week", "out")
+    same("the run after", again, ["there 2 2-letter.txt", "exported 0 of 1 uploads, 1 there"])
+    it.spool("other", (b"another one,A", "letter.txt", 13), (b"more", "", 4))
+    lines = it.does("export", "other", "out", status=4)
+    same("another spool's lines", lines[:2], ["differs 1 1-letter.txt", "exported 2 2.txt"])
+    same("the file that was there", it.files("out")["1-letter.txt"], b"letter one, A")
+    (folder / "two").mkdir()
+    it.spool("twice", (b"half", "a.txt", 9), (b"whole", "a.txt", 5), (b"-", "-rf", 1), (b"*", "*", 1), (b".", "x\u202ey", 1))
+    it.does("export", "twice", "two")
+    it.does("export", "twice", "two", "--all")
+    wanted = {"1-a.txt": b"half", "2-a.txt": b"whole", "3.txt": b"-", "4.txt": b"*", "5.txt": b"."}
+    same("two of one name, and names that aren't safe", it.files("two"), wanted)
+    return 7
+
+
+def try_long(program, folder):
+    """A name that makes the path too long."""
+    it = Folder(program, folder)
+    it.spool("long", (b"ab", "n" * 250, 2), (b"cd", "b.txt", 2))
+    deep, here = str(folder), os.getcwd()
+    os.chdir(folder)
+    while len(deep) < 3700:
+        os.mkdir("d" * 200)
+        os.chdir("d" * 200)
+        deep += "/" + "d" * 200
+    os.mkdir("e" * (3900 - len(deep)))
+    os.chdir(here)
+    deep += "/" + "e" * (3900 - len(deep))
+    lines = it.does("export", "long", deep)
+    same("a name that is too long there", lines[:2], ["exported 1 1.txt", "exported 2 2-b.txt"])
+    return 1
+
+
 def main():
     given = parser_of(__doc__).parse_args()
     with tempfile.TemporaryDirectory() as folder:
@@ -244,9 +323,12 @@ def main():
         case = Case(given.program, folder, indexes, rng_of(given.seed, "exports"))
         try_order(case, library)
         try_lockless(case, library)
+        (folder / "used").mkdir(), (folder / "long").mkdir()
+        used = try_used(given.program, folder / "used") + try_long(given.program, folder / "long")
         ends = {how: try_all(case, library, how) for how in ("before", "midst", "after", "full")}
     for how, count in ends.items():
         print(f"{how}: {count} ends, 0 wrong")
+    print(f"{used} exports into used folders, 0 wrong")
     holds(f"fewer than {LEAST} ends", sum(ends.values()) >= LEAST)
 
 

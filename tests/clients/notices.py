@@ -26,6 +26,9 @@ COUNTS = {
     "hostile.py": ["--spools", "25", "--heads", "3", "--files", "10"],
     "syncs.py": ["--changes", "20"],
     "power.py": ["--runs", "1", "--changes", "8", "--images", "1", "--places", "30"],
+    "streams.py": [],
+    "exports.py": [],
+    "operators.py": ["--indexes", str(HERE.parent.parent / "bench")],
 }
 
 # What stands for the right program and does nothing wrong.
@@ -65,6 +68,9 @@ WANTED = [
     ("the open gate not synced", "power.py", "an opening ends with status 2|the uploads|the text of"),
     ("the closed gate not synced", "power.py", "an opening ends with status 2|the uploads|the text of"),
     ("the places not synced", "power.py", "an opening ends with status 2|the uploads|the text of"),
+    ("lines printed into the spool", "streams.py", "the spool of list SPOOL >&-"),
+    ("lengths compared alone", "exports.py", "the status of"),
+    ("any file overwritten", "operators.py", "the refusal of"),
 ]
 
 

@@ -8,7 +8,9 @@ within a line, or missing: it says how many entries it read, warns of each file 
 a warning does spoil a text, while one made of whole files doesn't. `text` says how often the text has U+FFFD, for
 random bytes in every encoding; it names the label, the mode or the index file that it was refused for, and the place of
 a character without a code. `list` says what is free, names the texts with U+FFFD and the file names, and `--json` says
-the same as the records in the spool's bytes. `delete --incomplete` prints what it would delete, and deletes exactly
+the same as the records in the spool's bytes. `format` makes a spool of a file that isn't there or has nothing but
+zeros, and of any other that is none only with `--overwrite`; where there is no room it leaves no new file. `delete
+--incomplete` prints what it would delete, and deletes exactly
 that with `--yes`. Each refusal of a command has its status, its line, and a second line that says what to do. While a
 gateway serves a spool each command by hand is told that it is in use, and after it is ended the spool can be had at
 once. The log's line of a minute has what is left in the spool. It takes a minute.
@@ -16,7 +18,9 @@ once. The log's line of a minute has what is left in the spool. It takes a minut
 
 import json
 import re
+import resource
 import shutil
+import signal
 import socket
 import subprocess
 import tempfile
@@ -266,6 +270,61 @@ def try_refusals(program):
     return len(cases)
 
 
+def try_formats(program):
+    """`format` over every kind of file: what stays, what becomes a spool, and how long it is."""
+    folder = program.folder
+    whole, formats = (folder / "whole").read_bytes(), ["--blocks", BLOCKS, "--indexes", "idx"]
+    made, spool, foreign = "made", "refused: 13 AlreadySpool", "refused: 40 NotEmpty"
+    kinds = [("missing", None, made), ("empty", b"", made), ("zeros", bytes(100_000), made)]
+    kinds += [("longer", bytes(len(whole) + 5), made), ("letter", b"hello\n", foreign)]
+    kinds += [("late", bytes(100_000) + b"\1", foreign), ("large", b"a" * (len(whole) + 7), foreign)]
+    kinds += [("broken off", bytes(4096) + whole[4096:], foreign), ("no head", bytes(8) + whole[8:], foreign)]
+    kinds += [("spool", whole, spool), ("cut", whole[:5000], spool)]
+    for name, bytes_, wanted in kinds:
+        path = folder / name
+        if bytes_ is not None:
+            path.write_bytes(bytes_)
+        if wanted != made:
+            advice = "and stays as it is" if wanted == spool else "--overwrite if nobody needs it"
+            program.refuses(2, wanted, advice, "format", name, *formats)
+            same(f"{name} after a refusal", path.read_bytes(), bytes_)
+        if wanted == spool:
+            program.refuses(2, wanted, "and stays as it is", "format", name, *formats, "--overwrite")
+            same(f"{name} after a refusal", path.read_bytes(), bytes_)
+            continue
+        _, said = program.does("format", name, *formats, *([] if wanted == made else ["--overwrite"]))
+        size = max(len(whole), len(bytes_ or b""))
+        same(f"the length of {name}", path.stat().st_size, size)
+        holds(f"what is told of {name}", (f"{name} has {size} bytes, as before" in said) == (size > len(whole)))
+        same(f"the uploads of {name}", program.does("list", name)[0], b"")
+    (folder / "link").symlink_to("letter 2"), (folder / "letter 2").write_bytes(b"mine")
+    program.refuses(2, foreign, "link isn't empty", "format", "link", *formats)
+    same("what a link leads to", (folder / "letter 2").read_bytes(), b"mine")
+    return len(kinds) + 1 + try_no_room(program, formats)
+
+
+def limited():
+    """No file gets longer than 64 KiB, which is told as an error."""
+    signal.signal(signal.SIGXFSZ, signal.SIG_IGN)
+    resource.setrlimit(resource.RLIMIT_FSIZE, (65536, 65536))
+
+
+def try_no_room(program, formats):
+    """Where there is no room a new file is removed again, and one that was there stays."""
+    (program.folder / "there").write_bytes(bytes(10))
+    for name, words, left in [
+        ("small", "no room for the spool small, and what there was of it is removed again: ", False),
+        ("there", "no room for the spool there: ", True),
+    ]:
+        words_ = [program.path, "format", name, *map(str, formats)]
+        ran = subprocess.run(words_, capture_output=True, text=True, cwd=program.folder, preexec_fn=limited)
+        lines = ran.stderr.splitlines()
+        same("the refusal without room", (ran.returncode, lines[0]), (2, "refused: 39 CannotOpen"))
+        holds(f"what is told: {lines}", lines[1].startswith(words))
+        same("whether the file is there", (program.folder / name).exists(), left)
+    return 2
+
+
 def with_byte(whole, at, byte):
     """The spool with another byte at this place of its state page: at 3 its version is, and 2,000 has to be 0."""
     place = Spool(whole).state + at
@@ -327,6 +386,7 @@ def main():
             "uploads listed": try_lists(program),
             "uploads deleted": try_deletions(program),
             "refusals": try_refusals(program),
+            "files that format is given": try_formats(program),
             "commands beside a gateway": try_in_use(program),
             "minute of the log": try_minute(program),
         }

@@ -8,7 +8,7 @@ programs only those that start nothing are run, which make the user and the fold
 the command line of its unit, run directly as the unit's user with its settings, at a port of 127.0.0.1 that is free.
 Uploads are sent by curl in pieces, and their texts compared with Python's codecs: they stay over gateways that are
 ended hard, an upgrade, a removal, a purge, and an installation after it. The logs are as the settings have them, and
-the package's version is that of its commit. What the units forbid is compared with docs/OPERATING.md; that systemd
+the package's version is that of its commit. What the units forbid is compared with docs/PACKAGE.md; that systemd
 forbids it, and starts a gateway again, only a running systemd would show.
 """
 
@@ -214,15 +214,15 @@ def sound(debian):
 
 
 def forbidden(debian):
-    """What each unit lets its gateway do is what docs/OPERATING.md says, line by line: how many lines."""
-    section = (ROOT / "docs/OPERATING.md").read_text().partition("\n## The package\n")[2].partition("\n## ")[0]
+    """What each unit lets its gateway do is what docs/PACKAGE.md says, line by line: how many lines."""
+    section = (ROOT / "docs/PACKAGE.md").read_text().partition("\n## The package\n")[2].partition("\n## ")[0]
     cells = [line.split("|")[1] for line in section.splitlines() if line.startswith("| `")]
     told = sorted(re.findall(r"`([^`]+)`", " ".join(cells)))
     for unit in NAMED.values():
         lines = [it for it in debian.lines_of(unit) if it.partition("=")[0] not in RUNNING]
-        same(f"lines of {unit} that docs/OPERATING.md lacks", sorted(set(lines) - set(told)), [])
-        same(f"lines of docs/OPERATING.md that {unit} lacks", sorted(set(told) - set(lines)), [])
-        same(f"how often {unit} and docs/OPERATING.md have each line", sorted(lines), told)
+        same(f"lines of {unit} that docs/PACKAGE.md lacks", sorted(set(lines) - set(told)), [])
+        same(f"lines of docs/PACKAGE.md that {unit} lacks", sorted(set(told) - set(lines)), [])
+        same(f"how often {unit} and docs/PACKAGE.md have each line", sorted(lines), told)
     return len(told)
 
 

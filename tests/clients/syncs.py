@@ -31,7 +31,7 @@ COMMIT = "T*J+[Ss]O[Ss]P+[Ss]C[Ss]"
 SERVED = f"[Ss](?:{COMMIT}r*R?|T|r)*"
 RECOVERED = "[Ss]P+[Ss]C[Ss]"
 # (`list` opens the spool once more where a text has U+FFFD)
-OPENED = "[Ss]r*(?:[Ss]r*)?"
+OPENED = "[Ss]r*"
 FORMATTED = "LSF[CJIPT]+[Ss]B[Ss]r+"
 
 

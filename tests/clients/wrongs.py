@@ -179,6 +179,46 @@ def tells_a_commit_as_refused(program):
     end(ran.returncode, ran.stdout[:last] + b"! 1 0\n! 1 30\n", ran.stderr)
 
 
+def is_closed(number):
+    try:
+        os.fstat(number)
+        return False
+    except OSError:
+        return True
+
+
+def prints_into_the_spool(program):
+    """What is printed to a closed stream is written over the spool's beginning."""
+    closed = is_closed(1), is_closed(2)
+    ran = program.ran()
+    printed = b"".join(said for said, lost in zip((ran.stdout, ran.stderr), closed) if lost)
+    with open(program.words[1], "r+b") as file:
+        file.write(printed)
+    for number, said, lost in zip((1, 2), (ran.stdout, ran.stderr), closed):
+        if not lost:
+            os.write(number, said)
+    os._exit(ran.returncode)
+
+
+def compares_lengths(program):
+    """A file that is there and as long as its upload's text is told as there, whatever it has."""
+    folder = program.words[2]
+    kept = {name: open(os.path.join(folder, name), "rb").read() for name in os.listdir(folder)}
+    ran = program.ran()
+    lines = []
+    for line in ran.stdout.decode().splitlines(keepends=True):
+        name = line.rstrip("\n").split(" ", 2)[-1]
+        lines.append(line.replace("differs", "there", 1) if name in kept else line)
+    end(0 if ran.returncode == 4 else ran.returncode, "".join(lines).encode(), b"" if ran.returncode == 4 else ran.stderr)
+
+
+def overwrites_files(program):
+    """A file that is no spool is overwritten, whether it was asked for or not."""
+    if "--overwrite" not in program.words:
+        program.words.append("--overwrite")
+    program.go()
+
+
 def is_out_of_reach(program):
     """No library is loaded before the C library."""
     program.env.pop("LD_PRELOAD", None)
@@ -367,6 +407,9 @@ DEEDS = {
     "damage told as a device fault": (tells_damage_as_a_fault, "list"),
     "entries of an index exchanged": (exchanges_entries, "format"),
     "a commit told as out of memory": (tells_a_commit_as_refused, "script"),
+    "lines printed into the spool": (prints_into_the_spool, "list delete upgrade"),
+    "lengths compared alone": (compares_lengths, "export"),
+    "any file overwritten": (overwrites_files, "format"),
     "no library reaches it": (is_out_of_reach, "format serve script list upgrade"),
     "a server that ends by itself": (ends_by_itself, "serve"),
     "a PATCH dropped, its 409 healed": before_sockets(DropsPatches),
