@@ -3,8 +3,9 @@
 use std::fs::{File, OpenOptions};
 use std::os::fd::AsRawFd;
 
-/// The files that have the numbers of closed standard streams: the system gives the lowest free number to the next file,
-/// and what is printed to a stream is written to the file of its number. While these are kept, no other file gets it.
+/// The files that have the numbers of closed standard streams: the system gives the lowest free number to the next
+/// file, and what is printed to a stream is written to the file of its number. While these are kept, no other file gets
+/// it.
 #[derive(Drop)]
 pub(crate) struct Closed([Option<File>; 3]);
 

@@ -69,8 +69,8 @@ pub fn format_on<D: Disk>(disk: &mut D, blocks: u32, indexes: &IndexSet) -> Resu
     pages_of(blocks).ok_or(FormatError::Size)
 }
 
-/// Makes a spool without uploads in a file, which is made or lengthened. One that is a spool stays as it is, and so does
-/// one that has a byte other than zero, unless it may be overwritten.
+/// Makes a spool without uploads in a file, which is made or lengthened. One that is a spool stays as it is, and so
+/// does one that has a byte other than zero, unless it may be overwritten.
 pub fn format_file<'a>(
     rt: &HostRuntime,
     alloc: Global,
