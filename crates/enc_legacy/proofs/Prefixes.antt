@@ -1,5 +1,5 @@
 -- Where ASCII decodes to itself.
-use Rattle.std.proofs.Common.{Bool, inl, inr, ℕ, ◌<◌, ◌≤◌, ◌≡◌, List, [], Some, refl, arith, take, length}
+use Rattle.std.proofs.Common.{ℕ, ◌<◌, ◌≤◌, ◌≡◌, List, [], Some, arith, take, length}
 use Rattle.enc_model.specs.Stream.{Handler, IsCalm}
 use Rattle.enc_model.proofs.Steps.{steps_run}
 use Rattle.lane_kernels.proofs.Prefixes.{lanes_prefix}
@@ -14,7 +14,6 @@ use Rattle.enc_feed.specs.AsciiPrefix.{IsAsciiPrefix}
 use Rattle.enc_model.specs.Japanese.{shift_jis, euc_jp, euc_jp_start, EucJp}
 use Rattle.enc_model.proofs.Calm.{shift_jis_calm, euc_jp_calm}
 use Rattle.enc_feed.proofs.Prefixes.{prefix_ascii}
-use Rattle.enc_legacy.specs.EucJpState.{IsEucJpState}
 use Rattle.enc_legacy.specs.Singles.{single_in}
 use Rattle.enc_legacy.specs.SinglesCalm.{single_in_calm}
 
@@ -73,10 +72,3 @@ single_own t e b l = grind (arith, nat_tests)
 pub single_prefix : (t : Tables) (e : Encoding) (bytes : List ℕ) (n : ℕ) → n ≡ prefix_len is_ascii bytes
     → IsAsciiPrefix (single_in t) e bytes n
 single_prefix t e bytes n h = prefix_ascii (single_in t) (single_in_calm t) e bytes n h (single_own t e)
-
-pub euc_start : (lead : ℕ) (flag : Bool) → IsEucJpState lead flag → lead ≡ 0 → record {
-  lead = lead;
-  flag = flag;
-} ≡ euc_jp_start
-euc_start lead flag (inl p) e = rw (e, p.1) refl
-euc_start lead flag (inr p) e = let l = p.0 in absurd (omega (arith, l, e))

@@ -12,6 +12,11 @@ IsShiftJisLead lead = ((0x81 ≤ lead) × (lead ≤ 0x9F)) ⊎ ((0xE0 ≤ lead) 
 abbrev pub IsShiftJisState : ℕ → Type 0
 IsShiftJisState lead = (lead ≡ 0) ⊎ IsShiftJisLead lead
 
+-- The lead byte that was read, or 0.
+abbrev pub lead_or_zero : Option ℕ → ℕ
+lead_or_zero None = 0
+lead_or_zero (Some lead) = lead
+
 -- Two bytes represent this character in an index with these code points, if the pointers are few.
 abbrev pub IsShiftJisPair : List (Option ℕ) → ℕ → ℕ → ℕ → Type 0
 IsShiftJisPair codes lead b c =

@@ -1,7 +1,7 @@
 //! The EUC-JP decoder.
 
-ghost use Rattle.std.specs.Prelude.{◌≡◌, OnOk, false, true, []};
-ghost use Rattle.enc_legacy.specs.EucJpState.{IsEucJpPair, IsEucJpState};
+ghost use Rattle.std.specs.Prelude.{◌≡◌, ◌↔◌, OnOk, IsTrue, false, true, []};
+ghost use Rattle.enc_legacy.specs.EucJpState.{IsBegun, IsEucJpPair, IsEucJpState, begun_state};
 ghost use Rattle.enc_model.specs.Stream.{steps};
 ghost use Rattle.enc_model.specs.Sink.{Given};
 ghost use Rattle.enc_model.specs.Japanese.{EucJp, euc_jp, euc_jp_start, euc_jp_pair};
@@ -18,20 +18,31 @@ use enc_model::{Answer, Restored, Utf8Char};
 use lane_kernels::{ascii_front, ascii_lanes};
 use std::marker::Model;
 
-/// The EUC-JP decoder (Encoding Standard, section 12.1.1). Its state is the lead byte, or 0, and whether the pair is
-/// one of jis0212.
+/// What was read of a character that isn't complete.
+#[derive(Clone, Copy)]
+pub(crate) enum Begun {
+    /// Nothing.
+    Nothing,
+    /// The byte 8E, before a half-width katakana.
+    HalfWidth,
+    /// The byte 8F, before a pair of jis0212.
+    Jis0212,
+    /// The lead byte of a pair, and whether the pair is one of jis0212.
+    Row(u8, bool),
+}
+
+/// The EUC-JP decoder (Encoding Standard, section 12.1.1). Its state is what has begun.
 #[derive(Drop)]
 pub struct EucJpState {
-    lead: u8,
-    flag: bool,
+    begun: Begun,
 }
 
 impl Model for EucJpState {
     ghost Value = { EucJp };
 
-    ghost view = { λ s. record { lead = s.lead; flag = s.flag } };
+    ghost view = { λ s. begun_state s.begun };
 
-    ghost invariant = { λ s. IsEucJpState s.lead s.flag };
+    ghost invariant = { λ s. IsBegun s.begun };
 }
 
 /// The code point of a lead byte and the byte after it.
@@ -55,8 +66,7 @@ impl EucJpState {
         ensures { result ≡ euc_jp_start }
     {
         EucJpState {
-            lead: 0,
-            flag: false,
+            begun: Begun::Nothing,
         }
     }
 }
@@ -69,28 +79,28 @@ impl Decoder for EucJpState {
     #[inline(always)]
     #[tactic(auto, unfolding(enc_model::specs::Japanese::euc_jp))]
     fn read(&mut self, indexes: &IndexSet, byte: Option<u8>) -> (Answer, Restored) {
-        let (lead, flag) = self.parts();
+        let begun = self.begun;
         *self = Self::new();
         let Some(b) = byte else {
-            return if lead == 0 {
-                (Answer::Finished, Restored::Zero)
-            } else {
-                (Answer::Error, Restored::Zero)
+            return match begun {
+                Begun::Nothing => (Answer::Finished, Restored::Zero),
+                _ => (Answer::Error, Restored::Zero),
             };
         };
-        match (lead, b) {
-            (0, 0..=0x7F) => (Answer::Point(b as char), Restored::Zero),
-            (0, 0x8E | 0x8F | 0xA1..=0xFE) => {
+        match (begun, b) {
+            (Begun::Nothing, 0..=0x7F) => (Answer::Point(b as char), Restored::Zero),
+            (Begun::Nothing, 0x8E | 0x8F | 0xA1..=0xFE) => {
                 *self = Self::in_state(b, false);
                 (Answer::Nothing, Restored::Zero)
             }
-            (0, _) => (Answer::Error, Restored::Zero),
-            (0x8E, 0xA1..=0xDF) => (half_width(b - 0xA1), Restored::Zero),
-            (0x8F, 0xA1..=0xFE) => {
+            (Begun::Nothing, _) => (Answer::Error, Restored::Zero),
+            (Begun::HalfWidth, 0xA1..=0xDF) => (half_width(b - 0xA1), Restored::Zero),
+            (Begun::Jis0212, 0xA1..=0xFE) => {
                 *self = Self::in_state(b, true);
                 (Answer::Nothing, Restored::Zero)
             }
-            _ => pair_answer(euc_jp_char(indexes, flag, lead, b), b),
+            (Begun::HalfWidth | Begun::Jis0212, _) => pair_answer(None, b),
+            (Begun::Row(lead, flag), _) => pair_answer(euc_jp_char(indexes, flag, lead, b), b),
         }
     }
 
@@ -116,7 +126,7 @@ impl PairDecoder for EucJpState {
     #[inline(always)]
     #[tactic(auto, using(enc_feed::proofs::Prefixes::prefix_none, crate::proofs::Prefixes::euc_prefix))]
     fn ascii(&self, _indexes: &IndexSet, bytes: &[u8]) -> usize {
-        if self.lead == 0 {
+        if self.is_at_start() {
             ascii_front(bytes)
         } else {
             0
@@ -126,7 +136,7 @@ impl PairDecoder for EucJpState {
     #[inline(always)]
     #[tactic(auto, using(enc_feed::proofs::Prefixes::prefix_none, crate::proofs::Prefixes::euc_prefix))]
     fn ascii_lanes(&self, _indexes: &IndexSet, bytes: &[u8]) -> usize {
-        if self.lead == 0 {
+        if self.is_at_start() {
             ascii_lanes(bytes)
         } else {
             0
@@ -135,7 +145,7 @@ impl PairDecoder for EucJpState {
 
     #[inline(always)]
     fn ready<'a>(&self, indexes: &'a IndexSet) -> Option<&'a [Option<Utf8Char>]> {
-        if self.lead != 0 {
+        if !self.is_at_start() {
             return None;
         }
         ready_rows(indexes)
@@ -165,7 +175,21 @@ impl EucJpState {
         requires { IsEucJpState lead flag }
         ensures { result ≡ record { lead = lead; flag = flag } }
     {
-        EucJpState { lead, flag }
+        let begun = match lead {
+            0 => Begun::Nothing,
+            0x8E => Begun::HalfWidth,
+            0x8F => Begun::Jis0212,
+            _ => Begun::Row(lead, flag),
+        };
+        EucJpState { begun }
+    }
+
+    /// Whether nothing has begun.
+    #[inline(always)]
+    fn is_at_start(&self) -> bool
+        ensures { IsTrue result ↔ (self.now ≡ euc_jp_start) }
+    {
+        matches!(self.begun, Begun::Nothing)
     }
 
     /// The lead byte, or 0, and whether the pair is one of jis0212.
@@ -174,17 +198,19 @@ impl EucJpState {
         ensures flag { result.1 ≡ self.now.flag }
         ensures valid { IsEucJpState result.0 result.1 }
     {
-        (self.lead, self.flag)
+        match self.begun {
+            Begun::Nothing => (0, false),
+            Begun::HalfWidth => (0x8E, false),
+            Begun::Jis0212 => (0x8F, false),
+            Begun::Row(lead, flag) => (lead, flag),
+        }
     }
 
     /// A copy of the state.
     pub fn copy(&self) -> Self
         ensures { result ≡ self.now }
     {
-        EucJpState {
-            lead: self.lead,
-            flag: self.flag,
-        }
+        EucJpState { begun: self.begun }
     }
 
     /// Decodes a piece into the sink.

@@ -1,7 +1,7 @@
 //! The Shift_JIS decoder.
 
-ghost use Rattle.std.specs.Prelude.{◌≡◌, OnOk, IfSome, true, false, ◌<◌, ◌≤◌, ◌+◌, ℕ, [], Some, None};
-ghost use Rattle.enc_legacy.specs.ShiftJis.{IsShiftJisLead, IsShiftJisPair, IsShiftJisState};
+ghost use Rattle.std.specs.Prelude.{◌≡◌, ◌↔◌, OnOk, IfSome, IsTrue, true, false, ◌<◌, ◌≤◌, ◌+◌, ℕ, [], Some, None};
+ghost use Rattle.enc_legacy.specs.ShiftJis.{IsShiftJisLead, IsShiftJisPair, IsShiftJisState, lead_or_zero};
 ghost use Rattle.enc_model.specs.Index.{Index, code};
 ghost use Rattle.enc_model.specs.Stream.{steps};
 ghost use Rattle.enc_model.specs.Sink.{Given};
@@ -19,18 +19,18 @@ use enc_model::{Answer, Restored, Utf8Char};
 use lane_kernels::{ascii_front, ascii_lanes};
 use std::marker::Model;
 
-/// The Shift_JIS decoder (Encoding Standard, section 12.3.1). Its state is the lead byte, or 0.
+/// The Shift_JIS decoder (Encoding Standard, section 12.3.1). Its state is the lead byte, if one was read.
 #[derive(Drop)]
 pub struct ShiftJisState {
-    lead: u8,
+    lead: Option<u8>,
 }
 
 impl Model for ShiftJisState {
     ghost Value = { ℕ };
 
-    ghost view = { λ s. s.lead };
+    ghost view = { λ s. lead_or_zero s.lead };
 
-    ghost invariant = { λ s. IsShiftJisState s.lead };
+    ghost invariant = { λ s. IfSome s.lead IsShiftJisLead };
 }
 
 /// The pointer of a lead and a trail byte.
@@ -67,16 +67,15 @@ impl Decoder for ShiftJisState {
     #[inline(always)]
     #[tactic(auto, unfolding(enc_model::specs::Japanese::shift_jis))]
     fn read(&mut self, indexes: &IndexSet, byte: Option<u8>) -> (Answer, Restored) {
-        let lead = self.lead();
+        let lead = self.lead;
         *self = Self::new();
         let Some(b) = byte else {
-            return if lead == 0 {
-                (Answer::Finished, Restored::Zero)
-            } else {
-                (Answer::Error, Restored::Zero)
+            return match lead {
+                None => (Answer::Finished, Restored::Zero),
+                Some(_) => (Answer::Error, Restored::Zero),
             };
         };
-        if lead != 0 {
+        if let Some(lead) = lead {
             return pair_answer(shift_jis_char(indexes, lead, b), b);
         }
         match b {
@@ -121,7 +120,7 @@ impl PairDecoder for ShiftJisState {
     #[inline(always)]
     #[tactic(auto, using(enc_feed::proofs::Prefixes::prefix_none, crate::proofs::Prefixes::sjis_prefix))]
     fn ascii(&self, _indexes: &IndexSet, bytes: &[u8]) -> usize {
-        if self.lead == 0 {
+        if self.is_at_start() {
             ascii_front(bytes)
         } else {
             0
@@ -131,7 +130,7 @@ impl PairDecoder for ShiftJisState {
     #[inline(always)]
     #[tactic(auto, using(enc_feed::proofs::Prefixes::prefix_none, crate::proofs::Prefixes::sjis_prefix))]
     fn ascii_lanes(&self, _indexes: &IndexSet, bytes: &[u8]) -> usize {
-        if self.lead == 0 {
+        if self.is_at_start() {
             ascii_lanes(bytes)
         } else {
             0
@@ -140,7 +139,7 @@ impl PairDecoder for ShiftJisState {
 
     #[inline(always)]
     fn ready<'a>(&self, indexes: &'a IndexSet) -> Option<&'a [Option<Utf8Char>]> {
-        if self.lead != 0 {
+        if !self.is_at_start() {
             return None;
         }
         ready_rows(indexes)
@@ -169,7 +168,7 @@ impl ShiftJisState {
     pub fn new() -> Self
         ensures { result ≡ 0 }
     {
-        ShiftJisState { lead: 0 }
+        ShiftJisState { lead: None }
     }
 
     /// A decoder with this lead byte, or with none if it is 0.
@@ -177,7 +176,17 @@ impl ShiftJisState {
         requires { IsShiftJisState lead }
         ensures { result ≡ lead }
     {
-        ShiftJisState { lead }
+        ShiftJisState {
+            lead: if lead == 0 { None } else { Some(lead) },
+        }
+    }
+
+    /// Whether no lead byte was read.
+    #[inline(always)]
+    fn is_at_start(&self) -> bool
+        ensures { IsTrue result ↔ (self.now ≡ 0) }
+    {
+        self.lead.is_none()
     }
 
     /// The lead byte, or 0.
@@ -185,7 +194,7 @@ impl ShiftJisState {
         ensures value { result ≡ self.now }
         ensures valid { IsShiftJisState result }
     {
-        self.lead
+        self.lead.unwrap_or(0)
     }
 
     /// A copy of the state.

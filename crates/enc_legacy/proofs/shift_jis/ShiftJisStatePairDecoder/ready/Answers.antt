@@ -1,4 +1,3 @@
-use Rattle.std.proofs.Common.{sym, ◌∙◌}
 use Rattle.enc_model.specs.Indexes.{tables}
 use Rattle.enc_legacy.proofs.PairPointers.{some_both}
 use Rattle.enc_legacy.proofs.Strides.{sjis_pair_steps}
@@ -9,4 +8,4 @@ returns c =
     let is = c.ready_rows.ensures in
     some_both c.ready_rows.result _ _ _
     (λ r few codes. sjis_pair_steps (tables c.args.indexes.now).jis0208 c.args.self.now r.now
-    (sym c.self.view_is ∙ c.if-self-ne0.false) few codes) is.few is.codes
+    (c.is_at_start.ensures.0 c.if-not-is_at_start.false) few codes) is.few is.codes
