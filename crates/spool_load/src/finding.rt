@@ -21,7 +21,7 @@ ghost use Rattle.spool_pages.specs.declared.version.Version.{Version};
 use crate::reading::read_at;
 use spool_catalog::OpenFault;
 use spool_disk::{Disk, DiskFault};
-use spool_journal::{Layout, PAGE, recover};
+use spool_journal::{Layout, OPEN, PAGE, recover};
 use spool_pages::{Version, blocks_encoded, is_blank_after_fields, state_place, version_and_next};
 
 /// A spool that was found on a disk and recovered.
@@ -155,9 +155,9 @@ fn restore<D: Disk>(disk: &mut D, layout: Layout) -> Result<Found, OpenFault>
     ensures settled { D.honest disk.old → IfOk result
         (λ found. Recovered D.Disk layout disk.old disk.new) }
     ensures lasts { D.honest disk.old → LeavesRead D.Disk layout disk.old disk.new }
-    ensures unwritten { D.honest disk.old → (D.current disk.old PAGE ≡ 165 → ⊥)
+    ensures unwritten { D.honest disk.old → (D.current disk.old PAGE ≡ OPEN → ⊥)
         → Lasts D.Disk disk.old disk.new (IsImage (D.current disk.old) (D.unsynced disk.old)) }
-    ensures same { D.honest disk.old → (D.current disk.old PAGE ≡ 165 → ⊥)
+    ensures same { D.honest disk.old → (D.current disk.old PAGE ≡ OPEN → ⊥)
         → (result ≡ Err (OpenFault.Stop Stop.DiskFault) → ⊥)
         → Preserves (D.current disk.old) (D.current disk.new) (D.unsynced disk.old) (D.unsynced disk.new) }
     ensures given { PartsBy (Between PAGE (PAGE * (3 + journal_pages layout))) (IsOfFound result) (D.reads disk.old)

@@ -27,6 +27,7 @@ use spool_blocks::Blocks;
 use spool_catalog::{Catalog, CatalogRecord, are_rows_valid, are_valid};
 use spool_disk::Disk;
 use spool_journal::{Layout, PAGE};
+use spool_pages::FIRST_ROW_PAGE;
 use std::alloc::Global;
 
 // Checks page 0, and reads the index files.
@@ -60,14 +61,16 @@ fn load_blocks<D: Disk>(
     ensures fits { IfOk result (λ blocks. (b : ℕ) → FitsRow (get_or blocks.rows b None)) }
     ensures reads { OnlyReads D.Disk disk.old disk.new }
     ensures once { ReadsOnce (Between (row_place layout.now 0)
-        (row_place layout.now (ROWS * (journal_pages layout.now - 257)))) (D.reads disk.old) (D.reads disk.new) }
+        (row_place layout.now (ROWS * (journal_pages layout.now - FIRST_ROW_PAGE)))) (D.reads disk.old)
+        (D.reads disk.new) }
     ensures counts { Counts (IsErrOf result (LoadError.Stop Stop.DiskFault)) (D.failures disk.old)
         (D.failures disk.new) }
     ensures decoded { (bytes : ℕ → ℕ) → ReadsGave bytes (D.reads disk.old) (D.reads disk.new)
         → (v : View) → IsValid v → v.blocks ≡ layout.now → Encodes bytes v → slots.now ≡ v.slots
         → Loads result (λ blocks. (blocks.rows ≡ v.rows) × (blocks.reserved ≡ replicate v.blocks false)) }
     ensures valid { (bytes : ℕ → ℕ) → ReadsGave bytes (D.reads disk.old) (D.reads disk.new)
-        → IfOk result (λ blocks. RowsAreAt bytes layout.now (ROWS * (journal_pages layout.now - 257)) blocks.rows) }
+        → IfOk result
+        (λ blocks. RowsAreAt bytes layout.now (ROWS * (journal_pages layout.now - FIRST_ROW_PAGE)) blocks.rows) }
     ensures owners { IfOk result (λ blocks. RowsPass slots.now blocks.rows) }
     ensures reserved { IfOk result (λ blocks. blocks.reserved ≡ replicate layout.now false) }
 {

@@ -16,7 +16,7 @@ use common::{MOST_BLOCKS, ROWS};
 use spool_blocks::Row;
 use spool_disk::Disk;
 use spool_journal::{Layout, PAGE};
-use spool_pages::{Damaged, are_free, row_at, row_pages, rows_place};
+use spool_pages::{Damaged, FIRST_ROW_PAGE, are_free, row_at, row_pages, rows_place};
 use std::alloc::Global;
 
 // Stores a row at its place. `Damaged` if there is no such place and the row isn't free.
@@ -81,7 +81,7 @@ fn load_page<D: Disk>(
     page: u32,
 ) -> Result<(), LoadError>
     requires room { PAGE * all_pages layout.now ≤ D.size disk.old }
-    requires page { 257 + page < journal_pages layout.now }
+    requires page { FIRST_ROW_PAGE + page < journal_pages layout.now }
     requires few { page < 128 }
     requires free { IsFreeFrom (ROWS * page) rows.old }
     ensures reads { OnlyReads D.Disk disk.old disk.new }
@@ -91,7 +91,7 @@ fn load_page<D: Disk>(
         (D.failures disk.new) }
     ensures decoded { (bytes : ℕ → ℕ) → ReadsGave bytes (D.reads disk.old) (D.reads disk.new)
         → (all : List (Option (ℕ × ℕ))) → length all ≡ length rows.old → ((b : ℕ) → FitsRow (get_or all b None))
-        → ((b : ℕ) → b < ROWS * (journal_pages layout.now - 257)
+        → ((b : ℕ) → b < ROWS * (journal_pages layout.now - FIRST_ROW_PAGE)
         → AreAt bytes (row_place layout.now b) 8 (row_bytes (get_or all b None)))
         → IsSameTo (ROWS * page) all rows.old → Loads result (λ done. IsSameTo (ROWS * (page + 1)) all rows.new) }
     ensures valid { (bytes : ℕ → ℕ) → ReadsGave bytes (D.reads disk.old) (D.reads disk.new)
@@ -111,16 +111,17 @@ fn load_pages<D: Disk>(disk: &mut D, layout: &Layout, rows: &mut [Row]) -> Resul
     requires free { IsFreeFrom 0 rows.old }
     ensures reads { OnlyReads D.Disk disk.old disk.new }
     ensures once { ReadsOnce (Between (row_place layout.now 0)
-        (row_place layout.now (ROWS * (journal_pages layout.now - 257)))) (D.reads disk.old) (D.reads disk.new) }
+        (row_place layout.now (ROWS * (journal_pages layout.now - FIRST_ROW_PAGE)))) (D.reads disk.old)
+        (D.reads disk.new) }
     ensures counts { Counts (IsErrOf result (LoadError.Stop Stop.DiskFault)) (D.failures disk.old)
         (D.failures disk.new) }
     ensures decoded { (bytes : ℕ → ℕ) → ReadsGave bytes (D.reads disk.old) (D.reads disk.new)
         → (all : List (Option (ℕ × ℕ))) → length all ≡ length rows.old → ((b : ℕ) → FitsRow (get_or all b None))
-        → ((b : ℕ) → b < ROWS * (journal_pages layout.now - 257)
+        → ((b : ℕ) → b < ROWS * (journal_pages layout.now - FIRST_ROW_PAGE)
         → AreAt bytes (row_place layout.now b) 8 (row_bytes (get_or all b None)))
-        → Loads result (λ done. IsSameTo (ROWS * (journal_pages layout.now - 257)) all rows.new) }
+        → Loads result (λ done. IsSameTo (ROWS * (journal_pages layout.now - FIRST_ROW_PAGE)) all rows.new) }
     ensures valid { (bytes : ℕ → ℕ) → ReadsGave bytes (D.reads disk.old) (D.reads disk.new)
-        → OnOk result (RowsAreAt bytes layout.now (ROWS * (journal_pages layout.now - 257)) rows.new) }
+        → OnOk result (RowsAreAt bytes layout.now (ROWS * (journal_pages layout.now - FIRST_ROW_PAGE)) rows.new) }
 {
     for page in 0..row_pages(layout) {
         load_page(disk, layout, rows, page)?;
@@ -137,17 +138,19 @@ pub(crate) fn load_rows<D: Disk>(
     requires { PAGE * all_pages layout.now ≤ D.size disk.old }
     ensures reads { OnlyReads D.Disk disk.old disk.new }
     ensures once { ReadsOnce (Between (row_place layout.now 0)
-        (row_place layout.now (ROWS * (journal_pages layout.now - 257)))) (D.reads disk.old) (D.reads disk.new) }
+        (row_place layout.now (ROWS * (journal_pages layout.now - FIRST_ROW_PAGE)))) (D.reads disk.old)
+        (D.reads disk.new) }
     ensures counts { Counts (IsErrOf result (LoadError.Stop Stop.DiskFault)) (D.failures disk.old)
         (D.failures disk.new) }
     ensures long { IfOk result (λ rows. length rows.items ≡ layout.now) }
     ensures decoded { (bytes : ℕ → ℕ) → ReadsGave bytes (D.reads disk.old) (D.reads disk.new)
         → (all : List (Option (ℕ × ℕ))) → length all ≡ layout.now → ((b : ℕ) → FitsRow (get_or all b None))
-        → ((b : ℕ) → b < ROWS * (journal_pages layout.now - 257)
+        → ((b : ℕ) → b < ROWS * (journal_pages layout.now - FIRST_ROW_PAGE)
         → AreAt bytes (row_place layout.now b) 8 (row_bytes (get_or all b None)))
         → Loads result (λ rows. rows.items ≡ all) }
     ensures valid { (bytes : ℕ → ℕ) → ReadsGave bytes (D.reads disk.old) (D.reads disk.new)
-        → IfOk result (λ rows. RowsAreAt bytes layout.now (ROWS * (journal_pages layout.now - 257)) rows.items) }
+        → IfOk result
+        (λ rows. RowsAreAt bytes layout.now (ROWS * (journal_pages layout.now - FIRST_ROW_PAGE)) rows.items) }
 {
     let mut rows = vec![in alloc; None; layout.blocks() as usize]?;
     load_pages(disk, layout, &mut rows)?;

@@ -12,10 +12,10 @@ ghost use Rattle.spool_pages.specs.View.{AreAt, first_page, index_place, state_p
 
 use crate::LoadError;
 use common::Stop;
-use enc_index::{AreaError, IndexSet};
+use enc_index::{AREA_SIZE, AreaError, IndexSet};
 use spool_disk::{Disk, DiskFault};
 use spool_journal::{Layout, PAGE};
-use spool_pages::{first_page, index_place};
+use spool_pages::{AREA_PAGES, first_page, index_place};
 use std::alloc::Global;
 
 /// Fills the buffer from a place on.
@@ -58,7 +58,7 @@ fn push_area_page<D: Disk>(
     page: u32,
 ) -> Result<(), LoadError>
     requires room { PAGE * all_pages layout.now ≤ D.size disk.old }
-    requires page { page < 22 }
+    requires page { page < AREA_PAGES }
     ensures reads { OnlyReads D.Disk disk.old disk.new }
     ensures once { ReadsOnce (Between (index_place layout.now + PAGE * page)
         (index_place layout.now + PAGE * (page + 1))) (D.reads disk.old) (D.reads disk.new) }
@@ -83,12 +83,12 @@ fn load_area<D: Disk>(alloc: Global, disk: &mut D, layout: &Layout) -> Result<Ve
         (D.reads disk.old) (D.reads disk.new) }
     ensures counts { Counts (IsErrOf result (LoadError.Stop Stop.DiskFault)) (D.failures disk.old)
         (D.failures disk.new) }
-    ensures long { Loads result (λ area. length area.items ≡ 90112) }
+    ensures long { Loads result (λ area. length area.items ≡ AREA_SIZE) }
     ensures read { (bytes : ℕ → ℕ) → ReadsGave bytes (D.reads disk.old) (D.reads disk.new)
         → IfOk result (λ area. IsReadAt bytes (index_place layout.now) area.items) }
 {
     let mut area = Vec::new(alloc);
-    for page in 0..22u32 {
+    for page in 0..AREA_PAGES {
         push_area_page(disk, layout, &mut area, page)?;
     }
     Ok(area)
@@ -108,7 +108,7 @@ pub(crate) fn load_indexes<D: Disk>(
         (D.failures disk.new) }
     ensures decoded { (bytes : ℕ → ℕ) → ReadsGave bytes (D.reads disk.old) (D.reads disk.new)
         → (x : IndexSet) → IsIndexSet x
-        → ((i : ℕ) → i < 90112 → bytes (index_place layout.now + i) ≡ area_byte x i)
+        → ((i : ℕ) → i < AREA_SIZE → bytes (index_place layout.now + i) ≡ area_byte x i)
         → Loads result (λ set. set ≡ x) }
     ensures set { IfOk result IsIndexSet }
     ensures valid { (bytes : ℕ → ℕ) → ReadsGave bytes (D.reads disk.old) (D.reads disk.new)

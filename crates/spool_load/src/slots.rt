@@ -57,10 +57,10 @@ fn load_slot<D: Disk>(
         (D.failures disk.new) }
     ensures decoded { (bytes : ℕ → ℕ) → ReadsGave bytes (D.reads disk.old) (D.reads disk.new)
         → (decoded : Option SlotRecord) → FitsCatalog decoded
-        → AreAt bytes (slot_place layout.now slot) 2048 (slot_bytes version decoded)
+        → AreAt bytes (slot_place layout.now slot) RECORD (slot_bytes version decoded)
         → Loads result (λ slot_there. slot_there ≡ decoded) }
     ensures are_at { (bytes : ℕ → ℕ) → ReadsGave bytes (D.reads disk.old) (D.reads disk.new)
-        → IfOk result (λ slot_there. AreAt bytes (slot_place layout.now slot) 2048 (slot_bytes version slot_there)) }
+        → IfOk result (λ slot_there. AreAt bytes (slot_place layout.now slot) RECORD (slot_bytes version slot_there)) }
     ensures fits { IfOk result FitsSlotOf }
 {
     let mut bytes = [0; RECORD];
@@ -87,7 +87,7 @@ fn push_slot<D: Disk>(
     ensures long { OnOk result (length slots.new.items ≡ length slots.old.items + 1) }
     ensures decoded { (bytes : ℕ → ℕ) → ReadsGave bytes (D.reads disk.old) (D.reads disk.new)
         → (decoded : List (Option SlotRecord)) → length decoded ≡ SLOTS → FitsCatalog (get_or decoded slot None)
-        → AreAt bytes (slot_place layout.now slot) 2048 (slot_bytes version (get_or decoded slot None))
+        → AreAt bytes (slot_place layout.now slot) RECORD (slot_bytes version (get_or decoded slot None))
         → length slots.old.items ≡ slot → IsPrefixOf decoded slots.old.items
         → Loads result (λ done. IsPrefixOf decoded slots.new.items) }
     ensures valid { (bytes : ℕ → ℕ) → ReadsGave bytes (D.reads disk.old) (D.reads disk.new)
@@ -120,7 +120,7 @@ pub(crate) fn load_slots<D: Disk>(
     ensures decoded { (bytes : ℕ → ℕ) → ReadsGave bytes (D.reads disk.old) (D.reads disk.new)
         → (decoded : List (Option SlotRecord)) → length decoded ≡ SLOTS
         → ((s : ℕ) → FitsCatalog (get_or decoded s None))
-        → ((s : ℕ) → s < SLOTS → AreAt bytes (slot_place layout.now s) 2048
+        → ((s : ℕ) → s < SLOTS → AreAt bytes (slot_place layout.now s) RECORD
         (slot_bytes version (get_or decoded s None)))
         → Loads result (λ slots. slots.items ≡ decoded) }
     ensures valid { (bytes : ℕ → ℕ) → ReadsGave bytes (D.reads disk.old) (D.reads disk.new)

@@ -21,7 +21,9 @@ pub use pages::{
     MAGIC, blank_page, blocks_encoded, first_page, is_blank, is_blank_after_fields, state_page,
     version_and_next,
 };
-pub use places::{index_place, row_pages, rows_place, slot_place, state_place};
+pub use places::{
+    AREA_PAGES, FIRST_ROW_PAGE, index_place, row_pages, rows_place, slot_place, state_place,
+};
 pub use records::{BorrowedRecord, RECORD};
 pub use rests::{resting_images, resting_writes, settled_rests};
 pub use rows::{are_free, row_at, row_page};

@@ -6,15 +6,19 @@ ghost use Rattle.spool_pages.specs.View.{index_place, row_place, slot_place, sta
 
 use crate::RECORD;
 use common::{ROWS, SLOTS};
+use enc_index::AREA_SIZE;
 use spool_blocks::BlockNo;
 use spool_journal::{Layout, PAGE};
 
-/// The first page of the rows, counted from the state page.
-const FIRST_ROW_PAGE: u32 = 1 + SLOTS / 2;
+/// How many pages the index area has.
+pub const AREA_PAGES: u32 = (AREA_SIZE / PAGE) as u32;
+
+/// The first page of the rows, counted from the state page: that page and those of the records come before it.
+pub const FIRST_ROW_PAGE: u32 = 1 + SLOTS / 2;
 
 /// The place of a page of the index area, in bytes.
 pub fn index_place(layout: &Layout, page: u32) -> u64
-    requires { page < 22 }
+    requires { page < AREA_PAGES }
     ensures place { result ≡ index_place layout.now + PAGE * page }
 {
     PAGE as u64 * (layout.index_page() as u64 + page as u64)
@@ -46,7 +50,7 @@ pub fn rows_place(layout: &Layout, page: u32) -> u64
 
 /// How many pages the rows of all blocks take.
 pub fn row_pages(layout: &Layout) -> u32
-    ensures pages { result + 257 ≡ journal_pages layout.now }
+    ensures pages { result + FIRST_ROW_PAGE ≡ journal_pages layout.now }
     ensures few { result ≤ 128 }
 {
     layout.journal() - FIRST_ROW_PAGE

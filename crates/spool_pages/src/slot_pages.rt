@@ -29,8 +29,8 @@ pub(crate) fn record_page(
 ) -> [u8; PAGE]
     requires first { IfSome first (λ r. length r.now.metadata ≤ MOST_METADATA) }
     requires second { IfSome second (λ r. length r.now.metadata ≤ MOST_METADATA) }
-    ensures first { AreAt (byte_of result) 0 2048 (slot_bytes version (option_copied first.entry)) }
-    ensures second { AreAt (byte_of result) 2048 2048 (slot_bytes version (option_copied second.entry)) }
+    ensures first { AreAt (byte_of result) 0 RECORD (slot_bytes version (option_copied first.entry)) }
+    ensures second { AreAt (byte_of result) RECORD RECORD (slot_bytes version (option_copied second.entry)) }
 {
     let mut page = [0; PAGE];
     put(&mut page, 0, &bytes_of(version, first));

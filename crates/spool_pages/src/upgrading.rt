@@ -5,9 +5,9 @@ ghost use Rattle.spool_pages.specs.Changes.{Changes, upgraded};
 ghost use Rattle.spool_pages.specs.View.{View, AreAt, slot_bytes};
 ghost use Rattle.spool_pages.specs.declared.version.Version.TheVariants.{Two};
 
-use crate::places::{record_number, state_number};
+use crate::places::{FIRST_ROW_PAGE, record_number, state_number};
 use crate::slot_pages::record_page;
-use crate::{BorrowedRecord, Version, state_page};
+use crate::{BorrowedRecord, RECORD, Version, state_page};
 use common::{MOST_METADATA, SLOTS};
 use spool_journal::{Layout, PAGE, Pages};
 use std::alloc::{AllocError, Global};
@@ -16,14 +16,14 @@ use std::alloc::{AllocError, Global};
 fn pair_page(slots: &[Option<BorrowedRecord<'_>>], slot: usize) -> [u8; PAGE]
     requires within { slot + 1 < length slots.now }
     requires metadata { (s : ℕ) → IfSome (get_or slots.now s None) (λ r. length r.metadata ≤ MOST_METADATA) }
-    ensures first { AreAt (byte_of result) 0 2048 (slot_bytes Two (get_or slots.now slot None)) }
-    ensures second { AreAt (byte_of result) 2048 2048 (slot_bytes Two (get_or slots.now (slot + 1) None)) }
+    ensures first { AreAt (byte_of result) 0 RECORD (slot_bytes Two (get_or slots.now slot None)) }
+    ensures second { AreAt (byte_of result) RECORD RECORD (slot_bytes Two (get_or slots.now (slot + 1) None)) }
 {
     record_page(Version::Two, slots[slot].as_ref(), slots[slot + 1].as_ref())
 }
 
-/// The 257 pages that upgrade a spool with this next number and these records to version 2: the state page and all
-/// pages of records.
+/// The pages that upgrade a spool with this next number and these records to version 2: all that come before the rows,
+/// the state page and those of records.
 ///
 /// # Errors
 ///
@@ -37,7 +37,7 @@ pub fn pages_of_upgrade(
     requires slots { length slots.now ≡ SLOTS }
     requires metadata { (s : ℕ) → IfSome (get_or slots.now s None) (λ r. length r.metadata ≤ MOST_METADATA) }
     ensures area { IfOk result (λ pages. InArea (journal_pages layout.now) pages) }
-    ensures count { IfOk result (λ pages. length pages ≡ 257) }
+    ensures count { IfOk result (λ pages. length pages ≡ FIRST_ROW_PAGE) }
     ensures changes { (v : View) → v.blocks ≡ layout.now → v.next ≡ next → v.slots ≡ slots.now
         → IfOk result (λ pages. Changes pages v (upgraded v)) }
 {

@@ -1,7 +1,7 @@
 //! Openings of a spool with an open gate: they fail at any call, they are tried again, and the change is recovered.
 
 use crate::images::{byte_at, put};
-use crate::resumes::stops;
+use crate::resumes::{GATE, ROWS, Row, stops};
 use crate::uploads::{calls_of_opening, fresh, has_text, opened, plain};
 use common::Stop;
 use spool_disk::{Crash, Disk, FuseDisk, HiccupDisk, MemoryDisk};
@@ -9,9 +9,6 @@ use spool_image::{OpenFault, Spool};
 use std::alloc::Global;
 use std::process::Abort;
 use upload_rules::Uploads;
-
-/// The address of the gate.
-const GATE: u64 = 4096;
 
 /// The size of the disk in bytes.
 const SIZE: usize = 557 * 4096;
@@ -53,14 +50,6 @@ fn with_open_gate(rt: &impl Abort, alloc: Global) -> Vec<u8> {
     panic!(rt; "the gate isn't opened")
 }
 
-/// How many calls an opening makes until the recovery is done.
-fn calls_of_recovery(rt: &impl Abort, alloc: Global, bytes: &[u8]) -> u64 {
-    let all = calls_of_opening(rt, alloc, disk_of(rt, alloc, bytes));
-    let closed = calls_of_opening(rt, alloc, fresh(rt, alloc));
-    // Three calls come before the recovery: a read of page 0, a sync, and a read of the gate.
-    all.saturating_sub(closed).saturating_add(3)
-}
-
 /// The disk after an opening that it refuses.
 fn refused<D: Disk>(rt: &impl Abort, alloc: Global, disk: D) -> D {
     match Spool::open(alloc, disk) {
@@ -70,6 +59,31 @@ fn refused<D: Disk>(rt: &impl Abort, alloc: Global, disk: D) -> D {
             disk
         }
     }
+}
+
+/// The disk after an opening that stops after `calls` calls, and a crash.
+fn stopped(
+    rt: &impl Abort,
+    alloc: Global,
+    disk: MemoryDisk,
+    calls: u64,
+    kind: Crash,
+) -> MemoryDisk {
+    refused(rt, alloc, FuseDisk::new(disk, calls))
+        .into_inner()
+        .crash(kind)
+}
+
+/// How many calls an opening makes until it has recovered the spool: then a crash leaves the gate closed.
+fn calls_of_recovery(rt: &impl Abort, alloc: Global, bytes: &[u8]) -> u64 {
+    for calls in 0..100u64 {
+        let disk = disk_of(rt, alloc, bytes);
+        let mut left = stopped(rt, alloc, disk, calls, Crash::Old);
+        if byte_at(rt, &mut left, GATE) == 0 {
+            return calls;
+        }
+    }
+    panic!(rt; "the gate isn't closed")
 }
 
 /// Checks that the upload has its five bytes, and that the gate is closed.
@@ -100,36 +114,41 @@ fn each_call_of_a_recovery_fails_once(rt: HostRuntime) {
     }
 }
 
-/// The disk after an opening that stops after `calls` calls, and a crash.
-fn stopped(
-    rt: &impl Abort,
-    alloc: Global,
-    disk: MemoryDisk,
-    calls: u64,
-    kind: Crash,
-) -> MemoryDisk {
-    refused(rt, alloc, FuseDisk::new(disk, calls))
-        .into_inner()
-        .crash(kind)
-}
-
-/// How many calls lie between two stops of a second opening.
-const STRIDE: u64 = 8;
-
-/// Two recoveries in a row stop, with a crash after each, and a third one ends. The first one stops at each call, and
-/// the second one at about every eighth.
+/// Two recoveries in a row stop, with a crash after each, and a third one ends. Each of the two stops at each call.
 #[test]
 fn three_openings_in_a_row(rt: HostRuntime) {
     let bytes = with_open_gate(&rt, rt.alloc());
     let calls = calls_of_recovery(&rt, rt.alloc(), &bytes);
     for first in 0..calls {
-        for turn in 0..calls / STRIDE {
-            let second = turn * STRIDE + first % STRIDE;
+        for second in 0..calls {
             let kind = KINDS[(first % 2 * 2 + second % 2) as usize];
             let disk = disk_of(&rt, rt.alloc(), &bytes);
             let once = stopped(&rt, rt.alloc(), disk, first, kind);
             let twice = stopped(&rt, rt.alloc(), once, second, kind);
             is_home(&rt, rt.alloc(), twice);
+        }
+    }
+}
+
+/// Lets an opening that recovers the piece `bar` stop at each call, and the disk crash. The next opening finds the
+/// piece, and the upload goes on. The kinds of crash take turns over the calls and the pieces.
+fn stop_each(rt: &impl Abort, alloc: Global, row: &Row, bar: usize, opening: u64) {
+    let mut disk = row.at_open_gate(rt, alloc, bar, opening);
+    let bytes = bytes_of(rt, alloc, &mut disk);
+    for calls in 0..calls_of_recovery(rt, alloc, &bytes) {
+        let kind = KINDS[(calls.saturating_add(bar as u64) % 4) as usize];
+        let disk = disk_of(rt, alloc, &bytes);
+        let left = stopped(rt, alloc, disk, calls, kind);
+        row.goes_on_after(rt, alloc, bar, left);
+    }
+}
+
+#[test]
+fn openings_after_each_piece_of_each_row_stop(rt: HostRuntime) {
+    let opening = calls_of_opening(&rt, rt.alloc(), fresh(&rt, rt.alloc()));
+    for row in ROWS {
+        for bar in 0..row.pieces() {
+            stop_each(&rt, rt.alloc(), &row, bar, opening);
         }
     }
 }

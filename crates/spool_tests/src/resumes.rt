@@ -1,6 +1,7 @@
 //! An upload that is cut inside a character goes on after a crash. Its next append stops at any call of the disk, a
 //! crash follows, and after the next opening the upload goes on to the same text and state as an uncut one.
 
+use crate::images::byte_at;
 use crate::uploads::{calls_of_opening, has_text, opened, patched};
 use enc_index::{Index, IndexSet, Kind};
 use enc_model::{Encoding, Mode};
@@ -16,7 +17,7 @@ type Bar<'a> = (&'a [u8], &'a [u8], &'a [u8]);
 
 /// An upload in pieces.
 #[derive(Clone, Copy)]
-struct Row<'a> {
+pub(crate) struct Row<'a> {
     from: Encoding,
     to: Encoding,
     bars: &'a [Bar<'a>],
@@ -24,7 +25,7 @@ struct Row<'a> {
 
 /// The uploads. The state bytes were worked out by hand from FORMAT.md: the source, the output, the mode, the phase,
 /// the encoding in effect and its decoder's state; at 16 the encoder's state.
-const ROWS: [Row; 6] = [
+pub(crate) const ROWS: [Row; 6] = [
     // a byte order mark in three pieces
     Row {
         from: Encoding::Utf8,
@@ -98,6 +99,9 @@ const ROWS: [Row; 6] = [
         ],
     },
 ];
+
+/// The address of the gate.
+pub(crate) const GATE: u64 = 4096;
 
 /// The disk also stops at the last four calls of the opening, which read rows.
 const LAST_CALLS: u64 = 4;
@@ -182,15 +186,66 @@ impl<'a> Row<'a> {
         }
     }
 
-    /// Appends the piece `bar` on a disk that stops after `calls` calls, and lets the disk crash. The next opening
-    /// finds the upload before this piece or after it, and the remaining pieces follow. Returns whether the piece was
-    /// answered.
-    fn resumes(&self, rt: &impl Abort, alloc: Global, bar: usize, calls: u64, kind: Crash) -> bool {
+    /// Makes the upload and appends the pieces before `bar`, and then that piece on a disk that stops after `calls`
+    /// calls. Returns the disk, and whether the piece was answered.
+    fn stops_at(
+        &self,
+        rt: &impl Abort,
+        alloc: Global,
+        bar: usize,
+        calls: u64,
+    ) -> (MemoryDisk, bool) {
         let mut spool = opened(rt, alloc, with_files(rt, alloc));
         self.make(rt, alloc, &mut spool);
         self.go_on(rt, &mut spool, 0, bar);
         let (piece, _, _) = self.bar(rt, bar);
-        let (disk, answered) = stops(alloc, spool.into_disk(), self.offset(bar), piece, calls);
+        stops(alloc, spool.into_disk(), self.offset(bar), piece, calls)
+    }
+
+    /// How many pieces it has.
+    pub(crate) fn pieces(&self) -> usize {
+        self.bars.len()
+    }
+
+    /// A disk on which the append of the piece `bar` stopped once the gate was open, if an opening makes so many calls.
+    /// The piece is in the journal alone: no page was copied to its place.
+    pub(crate) fn at_open_gate(
+        &self,
+        rt: &impl Abort,
+        alloc: Global,
+        bar: usize,
+        opening: u64,
+    ) -> MemoryDisk {
+        for more in 0..MOST {
+            let (disk, _) = self.stops_at(rt, alloc, bar, opening.saturating_add(more));
+            let mut disk = disk.crash(Crash::Old);
+            if byte_at(rt, &mut disk, GATE) == 0xA5 {
+                return disk;
+            }
+        }
+        panic!(rt; "the gate isn't opened")
+    }
+
+    /// Opens the spool on a disk, checks that the piece `bar` is there, and appends the remaining ones.
+    pub(crate) fn goes_on_after(
+        &self,
+        rt: &impl Abort,
+        alloc: Global,
+        bar: usize,
+        disk: MemoryDisk,
+    ) {
+        let mut spool = opened(rt, alloc, disk);
+        let came = bar.saturating_add(1);
+        self.check(rt, &mut spool, came);
+        self.go_on(rt, &mut spool, came, self.bars.len());
+        drop(spool.into_disk());
+    }
+
+    /// Appends the piece `bar` on a disk that stops after `calls` calls, and lets the disk crash. The next opening
+    /// finds the upload before this piece or after it, and the remaining pieces follow. Returns whether the piece was
+    /// answered.
+    fn resumes(&self, rt: &impl Abort, alloc: Global, bar: usize, calls: u64, kind: Crash) -> bool {
+        let (disk, answered) = self.stops_at(rt, alloc, bar, calls);
         let mut spool = opened(rt, alloc, disk.crash(kind));
         let before = spool.record(1).map(|it| it.accepted) == Some(self.offset(bar));
         assert!(rt; !(answered && before));
