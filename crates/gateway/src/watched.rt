@@ -7,7 +7,7 @@ use gateway_files::used_of;
 use gateway_log::{Log, Stock};
 use std::io::Write;
 use std::time::Clock;
-use tus_session::{Answer, SessionError};
+use tus_session::{Answer, At, SessionError};
 use upload_rules::Uploads;
 
 /// A gateway whose calls are its own. After a call the spool is looked at, if the log wants that.
@@ -73,6 +73,10 @@ impl<U: Uploads, T: Clock, W: Write + Drop> Connections for Watched<'_, U, T, W>
 
     fn opened(&mut self, conn: usize) -> Result<(), SessionError> {
         self.gateway.opened(conn)
+    }
+
+    fn at(&self, conn: usize) -> Option<At> {
+        self.gateway.at(conn)
     }
 
     fn came(

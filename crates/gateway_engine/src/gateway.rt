@@ -8,7 +8,7 @@ ghost use Rattle.gateway_engine.specs.Gateways.{GatewayRepresents, store_of, is_
 
 use common::Stop;
 use std::alloc::{AllocError, Global};
-use tus_session::{Answer, Connections, Session, SessionError};
+use tus_session::{Answer, At, Connections, Session, SessionError};
 use upload_rules::Uploads;
 
 /// A session, and the store of uploads that all its calls are given.
@@ -103,6 +103,10 @@ impl<U: Uploads> Connections for Gateway<U> {
     fn opened(&mut self, conn: usize) -> Result<(), SessionError> {
         self.up()?;
         self.session.opened(conn)
+    }
+
+    fn at(&self, conn: usize) -> Option<At> {
+        self.session.at(conn)
     }
 
     fn came(

@@ -4,11 +4,12 @@ ghost use Rattle.common.specs.declared.stop.Stop.{Stop};
 ghost use Rattle.upload_rules.specs.Store.{Store};
 ghost use Rattle.upload_rules.specs.Answers.{Among, Limits, Quiet, Counts};
 ghost use Rattle.tus_session.specs.History.{State, Opened, Came, More, Ended};
+ghost use Rattle.tus_session.specs.At.{at_in};
 ghost use Rattle.tus_session.specs.Turns.{GivesFew};
 ghost use Rattle.tus_session.specs.Connections.{GivesFor, Does, Falls, Unasked, mark_of};
 ghost use Rattle.tus_session.specs.Images.{shown_by};
 
-use crate::{Answer, SessionError};
+use crate::{Answer, At, SessionError};
 
 /// Connections that follow the history of their events.
 ///
@@ -110,6 +111,10 @@ pub trait Connections {
         ensures falls { Falls (down self.old) (down self.new) result }
         ensures unasked { down self.old ≡ true → Unasked (moment self.old) (moment self.new) (left_only self.old)
             (left_only self.new) (failures self.old) (failures self.new) };
+
+    /// What a connection is at, or `None` if it isn't open. Uses neither memory nor the disk.
+    fn at(&self, conn: usize) -> Option<At>
+        ensures { (sure : Bool) (st : State) → represents self.now sure st → result ≡ at_in st conn };
 
     /// If the connections are known to represent a state, each crash image from now on shows its uploads.
     ghost durable: { (core : Self) (st : State) (ms : List Store) → represents core true st → Among st.world.store ms

@@ -8,12 +8,14 @@ ghost use Rattle.tus_session.specs.Results.{Opens, RepliesAs, EndsEvent};
 ghost use Rattle.upload_rules.specs.Store.{Store};
 ghost use Rattle.upload_rules.specs.World.{at_rest};
 ghost use Rattle.upload_rules.specs.Answers.{Limits, Quiet, Counts};
+ghost use Rattle.tus_session.specs.At.{at_in};
 ghost use Rattle.tus_session.specs.Turns.{GivesFew};
 
+use crate::at::link_at;
 use crate::conns::{Awaiting, Link};
 use crate::heads::came_of;
 use crate::turns::{drop_link, end_of, more_of};
-use crate::{Answer, SessionError};
+use crate::{Answer, At, SessionError};
 use std::alloc::{AllocError, Global};
 use std::mem;
 use tus_action::{PIECE, PieceBuffer};
@@ -194,6 +196,16 @@ impl<U: Uploads> Session<U> {
         let link = self.take(conn)?;
         end_of(store, link)?;
         Ok(())
+    }
+
+    /// What a connection is at, or `None` if it isn't open.
+    pub fn at(&self, conn: usize) -> Option<At>
+        ensures { (sure : Bool) (store : U) (st : State)
+            → SessionRepresents U.Uploads sure (links_of self.now) store st
+            → result ≡ at_in st conn }
+    {
+        let link = self.links.get(conn)?.as_ref()?;
+        Some(link_at::<U>(link))
     }
 
     // Takes the connection out and leaves its place closed.
