@@ -21,7 +21,7 @@ impl Messages {
     pub(crate) fn new(alloc: Global) -> Self {
         Messages {
             alloc,
-            line: Line::new(alloc),
+            line: Line::new(),
             head: Head::new(alloc),
             body: 0,
         }
@@ -67,7 +67,7 @@ impl Messages {
         if !is_empty {
             self.head.add(self.line.text());
         }
-        self.line.clear();
+        self.line.begin(self.head.is_begun());
         if !is_empty || !self.head.is_begun() {
             return None;
         }

@@ -24,8 +24,9 @@ pub(crate) struct Client {
 /// The refusal of an unknown label or mode, `BadLabel`.
 const BAD_LABEL: u64 = 28;
 
-/// Writes the line of an exchange that ended at this time: `TIME NUMBER CLIENT METHOD PATH offset=.. length=.. body=..
-/// status=.. refusal=.. metadata=.. in=.. out=.. ms=..`. The metadata is shown if its labels are refused.
+/// Writes the line of an exchange that ended at this time: `TIME NUMBER CLIENT METHOD PATH by=.. offset=.. length=..
+/// body=.. status=.. refusal=.. metadata=.. in=.. out=.. ms=.. number=.. now=.. from=.. to=.. mode=..`. The metadata is
+/// shown if its labels are refused, and so are these.
 pub(crate) fn write_exchange(
     out: &mut Vec<u8>,
     time: Duration,
@@ -38,11 +39,17 @@ pub(crate) fn write_exchange(
     write!(out, " {} {}", client.number, client.address)?;
     write_request(out, &asked.head)?;
     write_reply(out, reply)?;
-    if reply.refusal == Some(BAD_LABEL) {
+    let is_bad_label = reply.refusal == Some(BAD_LABEL);
+    if is_bad_label {
         write!(out, " metadata=")?;
         write_shown(out, asked.head.metadata())?;
     }
-    writeln!(out, " in={} out={} ms={millis}", asked.bytes, reply.bytes)
+    write!(out, " in={} out={} ms={millis}", asked.bytes, reply.bytes)?;
+    write_upload(out, reply)?;
+    if is_bad_label {
+        write_labels(out, &asked.head)?;
+    }
+    writeln!(out)
 }
 
 /// Writes the line of a minute's counts, and how many bodies are under way and what is left in the spool at its end.
@@ -78,10 +85,14 @@ fn write_time(out: &mut Vec<u8>, time: Duration) -> io::Result<()> {
     }
 }
 
-// Writes the request: its method, its path, and its numbers if it has them.
+// Writes the request: its method and its path, with the method of the first line behind them if another one counts, and
+// its numbers if it has them.
 fn write_request(out: &mut Vec<u8>, head: &Head) -> io::Result<()> {
-    write_word(out, head.word(0))?;
-    write_word(out, head.word(1))?;
+    write_word(out, " ", head.method().or(head.word(0)))?;
+    write_word(out, " ", head.word(1))?;
+    if head.method().is_some() {
+        write_word(out, " by=", head.word(0))?;
+    }
     write_number(out, "offset", head.offset)?;
     write_number(out, "length", head.length)?;
     write_number(out, "body", head.body)
@@ -103,6 +114,27 @@ fn write_reply(out: &mut Vec<u8>, reply: &ReplySent) -> io::Result<()> {
     }
 }
 
+// Writes what the reply says of an upload: its number if it is new, and how many bytes it has now, of how many.
+fn write_upload(out: &mut Vec<u8>, reply: &ReplySent) -> io::Result<()> {
+    write_number(out, "number", reply.number)?;
+    write_number(out, "now", reply.offset)?;
+    match (reply.offset, reply.length) {
+        (Some(_), Some(length)) => write!(out, "/{length}"),
+        _ => Ok(()),
+    }
+}
+
+// Writes the labels and the mode that the metadata has, decoded.
+fn write_labels(out: &mut Vec<u8>, head: &Head) -> io::Result<()> {
+    for key in ["from", "to", "mode"] {
+        if let Some(label) = head.value_of(key) {
+            write!(out, " {key}=")?;
+            write_shown(out, &label)?;
+        }
+    }
+    Ok(())
+}
+
 // Writes a number with its name, if there is one.
 fn write_number(out: &mut Vec<u8>, name: &str, number: Option<u64>) -> io::Result<()> {
     match number {
@@ -111,9 +143,9 @@ fn write_number(out: &mut Vec<u8>, name: &str, number: Option<u64>) -> io::Resul
     }
 }
 
-// Writes a blank and a client's word, or a dash without one.
-fn write_word(out: &mut Vec<u8>, word: Option<&[u8]>) -> io::Result<()> {
-    out.push(b' ')?;
+// Writes what stands before a client's word, and the word, or a dash without one.
+fn write_word(out: &mut Vec<u8>, lead: &str, word: Option<&[u8]>) -> io::Result<()> {
+    write!(out, "{lead}")?;
     match word {
         Some(word) if !word.is_empty() => write_shown(out, word),
         _ => write_shown(out, b"-"),

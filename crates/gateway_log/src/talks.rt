@@ -4,7 +4,7 @@ use crate::heads::Head;
 use crate::messages::Messages;
 use std::alloc::Global;
 use std::collections::VecDeque;
-use std::time::{Clock, Duration};
+use std::time::Duration;
 
 /// A request, as far as it came.
 #[derive(Drop)]
@@ -22,6 +22,11 @@ pub(crate) struct ReplySent {
     /// `None` if its head wasn't sent.
     pub(crate) status: Option<u16>,
     pub(crate) refusal: Option<u64>,
+    /// Of the upload that was created.
+    pub(crate) number: Option<u64>,
+    /// How many bytes of the upload are accepted now, and how many it is to have.
+    pub(crate) offset: Option<u64>,
+    pub(crate) length: Option<u64>,
     /// How many of its bytes were sent.
     pub(crate) bytes: u64,
     /// Whether all of it was sent.
@@ -58,6 +63,9 @@ pub(crate) struct Talk {
 const NOTHING: ReplySent = ReplySent {
     status: None,
     refusal: None,
+    number: None,
+    offset: None,
+    length: None,
     bytes: 0,
     whole: false,
 };
@@ -83,15 +91,15 @@ impl Talk {
         self.asks.is_in_body()
     }
 
-    /// Takes received bytes, and returns how many heads they complete.
-    pub(crate) fn came<T: Clock>(&mut self, clock: &T, bytes: &[u8]) -> u64 {
+    /// Takes bytes that were received now, and returns how many heads they complete.
+    pub(crate) fn came(&mut self, now: Duration, bytes: &[u8]) -> u64 {
         let mut heads = 0u64;
         let mut rest = bytes;
         for _ in 0..bytes.len() {
             if rest.is_empty() {
                 break;
             }
-            let (after, head) = self.ask(clock, rest);
+            let (after, head) = self.ask(now, rest);
             heads = heads.saturating_add(u64::from(head));
             rest = after;
         }
@@ -99,15 +107,13 @@ impl Talk {
     }
 
     // Takes received bytes up to the end of a line or of a body. Returns the others, and whether they complete a head.
-    fn ask<'b, T: Clock>(&mut self, clock: &T, bytes: &'b [u8]) -> (&'b [u8], bool) {
+    fn ask<'b>(&mut self, now: Duration, bytes: &'b [u8]) -> (&'b [u8], bool) {
         if self.asks.is_in_body() {
             let (rest, _) = self.asks.pass(bytes);
             self.add_body(bytes.len().saturating_sub(rest.len()));
             return (rest, false);
         }
-        if self.since.is_none() {
-            self.since = clock.monotonic().ok();
-        }
+        self.since = self.since.or(Some(now));
         let (rest, head) = self.asks.pass(bytes);
         self.bytes = plus(self.bytes, bytes.len().saturating_sub(rest.len()));
         let Some(head) = head else {
@@ -164,6 +170,9 @@ impl Talk {
         if status.is_some_and(|status| status >= 200) {
             self.reply.status = status;
             self.reply.refusal = head.refusal;
+            self.reply.number = head.number;
+            self.reply.offset = head.offset;
+            self.reply.length = head.length;
         }
     }
 

@@ -13,7 +13,8 @@ use std::time::{Clock, Duration};
 /// Lines are written once they have this many bytes.
 const FULL: usize = 16_384;
 
-/// Lines are written with the next one after this many seconds, even if no connection can be accepted.
+/// After so many seconds a read or a write of a connection has the log written: while a client waits for a place, none
+/// is accepted.
 const LATEST: u64 = 1;
 
 /// After so many seconds another look at the spool is wanted.
@@ -22,8 +23,9 @@ const LOOK: u64 = 1;
 /// How many seconds pass between two lines of counts.
 const MINUTE: u64 = 60;
 
-/// A log, which the connections of a server share. Its lines are gathered, and written when the server accepts. Out of
-/// memory a line is lost, and if the writer fails, so is what was gathered; neither is reported.
+/// A log, which the connections of a server share. Its lines are gathered, and written when the server accepts, or a
+/// second later when it reads or writes. Out of memory a line is lost, and if the writer fails, so is what was gathered;
+/// neither is reported.
 #[derive(Drop)]
 pub struct Log<'a, T: Clock, W: Write + Drop> {
     alloc: Global,
@@ -33,8 +35,8 @@ pub struct Log<'a, T: Clock, W: Write + Drop> {
     counts: Cell<Counts>,
     /// How many connections there were.
     accepted: Cell<u64>,
-    /// When lines were last written, or there were none to write.
-    written: Cell<Duration>,
+    /// When the log last had a turn, in which it writes what was gathered.
+    turned: Cell<Duration>,
     /// When counts were last gathered.
     counted: Cell<Duration>,
     /// How many bodies are under way.
@@ -55,7 +57,7 @@ impl<'a, T: Clock, W: Write + Drop> Log<'a, T, W> {
             lines: Cell::new(Vec::new(alloc)),
             counts: Cell::new(Counts::NONE),
             accepted: Cell::new(0),
-            written: Cell::new(now),
+            turned: Cell::new(now),
             counted: Cell::new(now),
             bodies: Cell::new(0),
             stock: Cell::new(None),
@@ -71,14 +73,14 @@ impl<'a, T: Clock, W: Write + Drop> Log<'a, T, W> {
 
     /// Whether another look at the spool is wanted: there was none yet, or the latest was a second ago.
     pub fn wants_stock(&self) -> bool {
-        let since = now_of(self.clock).saturating_sub(self.looked.get());
+        let since = self.now().saturating_sub(self.looked.get());
         self.stock.get().is_none() || since.as_secs() >= LOOK
     }
 
     /// Takes what is left in the spool.
     pub fn take_stock(&self, stock: Stock) {
         self.stock.set(Some(stock));
-        self.looked.set(now_of(self.clock));
+        self.looked.set(self.now());
     }
 
     /// The allocator.
@@ -86,9 +88,9 @@ impl<'a, T: Clock, W: Write + Drop> Log<'a, T, W> {
         self.alloc
     }
 
-    /// The clock.
-    pub(crate) fn clock(&self) -> &'a T {
-        self.clock
+    /// The clock's time.
+    pub(crate) fn now(&self) -> Duration {
+        now_of(self.clock)
     }
 
     /// Counts a connection, and returns its client.
@@ -127,31 +129,41 @@ impl<'a, T: Clock, W: Write + Drop> Log<'a, T, W> {
 
     /// Writes what was gathered, and each minute the counts.
     pub(crate) fn turn(&self) {
-        let now = now_of(self.clock);
+        self.turn_at(self.now());
+    }
+
+    /// Does the same if the last time was a second ago. Returns the clock's time.
+    pub(crate) fn turn_if_late(&self) -> Duration {
+        let now = self.now();
+        if now.saturating_sub(self.turned.get()).as_secs() >= LATEST {
+            self.turn_at(now);
+        }
+        now
+    }
+
+    // Writes what was gathered, and each minute the counts, at this time.
+    fn turn_at(&self, now: Duration) {
         if now.saturating_sub(self.counted.get()).as_secs() >= MINUTE {
             self.counted.set(now);
             self.log_counts();
         }
-        self.written.set(now);
+        self.turned.set(now);
         self.write();
     }
 
-    /// Logs an exchange that is over. `opened` is when its connection was accepted.
-    pub(crate) fn log_exchange(&self, client: Client, opened: Duration, exchange: &Exchange) {
+    /// Logs an exchange that took so long.
+    pub(crate) fn log_exchange(&self, client: Client, took: Duration, exchange: &Exchange) {
         self.count_reply(exchange);
-        let now = now_of(self.clock);
-        let since = exchange.asked.since.unwrap_or(opened);
-        let millis = now.saturating_sub(since).as_millis();
+        let millis = took.as_millis();
         let time = self.time();
         let mut lines = self.lines.replace(Vec::new(self.alloc));
         let length = lines.len();
         if write_exchange(&mut lines, time, client, exchange, millis).is_err() {
             lines.truncate(length);
         }
-        let due = lines.len() >= FULL || now.saturating_sub(self.written.get()).as_secs() >= LATEST;
+        let full = lines.len() >= FULL;
         self.lines.set(lines);
-        if due {
-            self.written.set(now);
+        if full {
             self.write();
         }
     }
@@ -203,7 +215,7 @@ impl<'a, T: Clock, W: Write + Drop> Log<'a, T, W> {
     }
 }
 
-/// The clock's reading, or its start if it has none.
-pub(crate) fn now_of<T: Clock>(clock: &T) -> Duration {
+// The clock's time, or its start if it has none.
+fn now_of<T: Clock>(clock: &T) -> Duration {
     clock.monotonic().unwrap_or(Duration::ZERO)
 }
