@@ -9,12 +9,13 @@ ghost use Rattle.gateway.specs.Addresses.{IsLocal};
 ghost use Rattle.gateway_files.specs.Failures.{fault_in};
 ghost use Rattle.gateway_files.specs.Faults.{exit_status_of};
 
+use crate::standard::files_to_open;
 use crate::watched::Watched;
 use common::Stop;
 use gateway_engine::{Connections, Gateway};
 use gateway_files::{
-    Failure, Fault, Survey, Task, open_spool, open_surveyed, refused_spool, report_open,
-    report_served, report_up,
+    Failure, Fault, Survey, Task, open_spool, open_surveyed, refused_spool, report_few,
+    report_open, report_served, report_up,
 };
 use gateway_log::{Log, Logged};
 use gateway_orders::Service;
@@ -23,7 +24,8 @@ use spool_disk::{DiskFault, FileDisk};
 use spool_image::Spool;
 use std::alloc::Global;
 use std::io::{self, IsTerminal, Read, Write};
-use std::net::{Ipv4Addr, OpenListener, SocketAddr, SocketAddrV4, TcpListener};
+use std::net::{Ipv4Addr, OpenListener, OpenStream, SocketAddr, SocketAddrV4, TcpListener};
+use tus_session::MOST_OPEN;
 
 /// Serves the spool in a file at a port of 127.0.0.1, which is printed. At the end the number of connections is printed
 /// on standard error. The disk is handed back, where its spool was opened.
@@ -115,11 +117,13 @@ fn listen_at<'a>(rt: &HostRuntime, address: SocketAddr) -> Result<Bound, Failure
     }
 }
 
-// Asks the system for a listener: that it listens at the address that it was asked for, and nowhere else, is trusted.
+// Asks the system for a listener whose calls don't wait: that it listens at the address that it was asked for, and nowhere else, is trusted.
 fn bind(rt: &HostRuntime, asked: SocketAddr) -> io::Result<Bound>
     ensures { IfOk result (λ bound. bound.asked ≡ asked) }
 {
     let listener = TcpListener::bind(rt, asked)?;
+    // One that waits would serve nobody.
+    listener.set_nonblocking(true)?;
     let address = listener.local_addr()?;
     Ok(Bound {
         listener,
@@ -178,12 +182,22 @@ pub(crate) fn serve_up<'a>(
         Ok(bound) => bound,
         Err(failure) => return (Some(gateway.into_disk()), Err(failure)),
     };
+    warn_of_few(rt, alloc);
     let (gateway, served) = if reporting.has_log(rt) {
         serve_logged(rt, alloc, &bound.listener, gateway, survey.blocks)
     } else {
         serve_on_and_on(rt, alloc, &mut Listening::new(&bound.listener), gateway)
     };
     outcome(served, spool, gateway.into_disk())
+}
+
+// Warns if fewer files may be opened than there may be connections.
+fn warn_of_few(rt: &HostRuntime, alloc: Global) {
+    let files = files_to_open(rt, alloc, MOST_OPEN);
+    if files < MOST_OPEN {
+        // If standard error can't be written, the warning is lost.
+        drop(report_few(&mut rt.stderr(), files));
+    }
 }
 
 // As `open_gateway`, and how much of the spool is in use.
@@ -214,12 +228,8 @@ fn listen_openly<'a>(
     ensures { IfOk result (λ bound. bound.asked ≡ listen) }
 {
     let bound = listen_at(rt, listen)?;
-    // A listener that waits would serve nobody.
-    if let Err(error) = bound.listener.set_nonblocking(true) {
-        return Err(Failure::new(Fault::from(error), Task::Listen(listen), error));
-    }
     let place = bound.address.to_string(alloc)?;
-    if !bound.address.ip().is_loopback() {
+    if !bound.address.ip().to_canonical().is_loopback() {
         // If standard error can't be written, the warning is lost.
         drop(report_open(&mut rt.stderr(), place.as_str()));
     }
@@ -256,7 +266,7 @@ fn serve_on_and_on<A: Acceptor, C: Connections>(
     gateway: C,
 ) -> (C, Result<(), DiskFault>)
 where
-    A::Stream: Read + Write + Drop,
+    A::Stream: Read + Write + OpenStream + Drop,
     ensures counts { Counts (IsErr result.1) (C.failures gateway) (C.failures result.0) }
 {
     let mut gateway = gateway;

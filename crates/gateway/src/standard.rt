@@ -1,5 +1,6 @@
-//! Standard streams that were closed when the program was started.
+//! Standard streams that were closed when the program was started, and how many files it may open.
 
+use std::alloc::Global;
 use std::fs::{File, OpenOptions};
 use std::os::fd::AsRawFd;
 
@@ -21,6 +22,20 @@ impl Closed {
         }
         Closed(files)
     }
+}
+
+/// How many more files the program may open, at most so many.
+pub(crate) fn files_to_open(rt: &HostRuntime, alloc: Global, most: usize) -> usize {
+    let mut files = Vec::new(alloc);
+    for _ in 0..most {
+        let Some(file) = lowest(rt) else {
+            break;
+        };
+        if files.push(file).is_err() {
+            break;
+        }
+    }
+    files.len()
 }
 
 // A file with the lowest number that is free. Where there is no /dev/null, the folder `/` serves, in which nothing can

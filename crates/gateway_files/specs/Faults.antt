@@ -67,20 +67,8 @@ exit_status_of fault = 2
 -- why a file isn't opened or made as a spool, by the system's error
 abbrev pub opening_fault : ErrorKind → Fault
 opening_fault kinds.ResourceBusy = faults.InUse
-opening_fault kinds.NotFound = faults.CannotOpen
-opening_fault kinds.PermissionDenied = faults.CannotOpen
-opening_fault kinds.IsADirectory = faults.CannotOpen
-opening_fault kinds.NotADirectory = faults.CannotOpen
-opening_fault kinds.ReadOnlyFilesystem = faults.CannotOpen
-opening_fault kinds.FilesystemLoop = faults.CannotOpen
-opening_fault kinds.StorageFull = faults.CannotOpen
-opening_fault kinds.QuotaExceeded = faults.CannotOpen
-opening_fault kinds.FileTooLarge = faults.CannotOpen
-opening_fault kinds.ExecutableFileBusy = faults.CannotOpen
-opening_fault kinds.InvalidInput = faults.CannotOpen
-opening_fault kinds.InvalidFilename = faults.CannotOpen
 opening_fault kinds.OutOfMemory = faults.Stop stops.NoMemory
-opening_fault kind = faults.Stop stops.DiskFault
+opening_fault kind = faults.CannotOpen
 
 -- WHAT THE CALLS BELOW REFUSE, as the program's fault
 abbrev pub open_fault : OpenFault → Fault

@@ -69,3 +69,9 @@ up_line spool survey address =
 abbrev pub open_line : List ℕ → List ℕ
 open_line address =
     codes "warning: " ++ (address ++ codes " is open to other machines, and there are no passwords\n")
+
+-- what is printed where so many connections at most can be open
+abbrev pub few_line : ℕ → List ℕ
+few_line connections =
+    codes "warning: as few files may be open (ulimit -n), "
+    ++ (decimal connections ++ codes " of 16 connections can be served at once\n")

@@ -38,7 +38,8 @@ pub enum Fault {
     FileDiffers,
     /// Another process has the spool's file open.
     InUse,
-    /// The spool's file can't be opened or made: it or its folder isn't there, or is a folder, or rights are missing.
+    /// The spool's file can't be opened or made: it or its folder isn't there, or is a folder, rights are missing, or as
+    /// many files are open as may be.
     CannotOpen,
     /// The file that is to become a spool has bytes, and is none.
     NotEmpty,
@@ -77,20 +78,8 @@ impl Fault {
     {
         match kind {
             ErrorKind::ResourceBusy => Fault::InUse,
-            ErrorKind::NotFound
-            | ErrorKind::PermissionDenied
-            | ErrorKind::IsADirectory
-            | ErrorKind::NotADirectory
-            | ErrorKind::ReadOnlyFilesystem
-            | ErrorKind::FilesystemLoop
-            | ErrorKind::StorageFull
-            | ErrorKind::QuotaExceeded
-            | ErrorKind::FileTooLarge
-            | ErrorKind::ExecutableFileBusy
-            | ErrorKind::InvalidInput
-            | ErrorKind::InvalidFilename => Fault::CannotOpen,
             ErrorKind::OutOfMemory => Fault::Stop(Stop::NoMemory),
-            _ => Fault::Stop(Stop::DiskFault),
+            _ => Fault::CannotOpen,
         }
     }
 

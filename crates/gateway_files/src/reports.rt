@@ -2,7 +2,7 @@
 ghost use Rattle.std.specs.Prelude.{◌≡◌, OnOk, count_by};
 ghost use Rattle.std.specs.Io.KnownBytes.{Appends};
 ghost use Rattle.gateway_files.specs.Reports.{formatted_line, free_line, is_read, losses_line, losses_line_of};
-ghost use Rattle.gateway_files.specs.Reports.{longer_line, open_line};
+ghost use Rattle.gateway_files.specs.Reports.{few_line, longer_line, open_line};
 ghost use Rattle.gateway_files.specs.Reports.{read_lines, served_line, up_line, upgraded_line};
 
 use crate::index_files::IndexFile;
@@ -108,5 +108,15 @@ pub fn report_open<W: Write>(writer: &mut W, address: &str) -> io::Result<()>
     writeln!(
         writer,
         "warning: {address} is open to other machines, and there are no passwords"
+    )
+}
+
+/// Warns that so many connections at most can be open at once, since no more files may be open.
+pub fn report_few<W: Write>(writer: &mut W, connections: usize) -> io::Result<()>
+    ensures { OnOk result (Appends (W.contents writer.old) (W.contents writer.new) (few_line connections)) }
+{
+    writeln!(
+        writer,
+        "warning: as few files may be open (ulimit -n), {connections} of 16 connections can be served at once"
     )
 }

@@ -1,6 +1,6 @@
 -- A socket and its connection stay joined.
 use Rattle.std.proofs.Common.{◌≡◌, ◌≤◌, ℕ, length, arith, Bool, true, false, List, [], ◌∷◌, ◌++◌, take, drop, None}
-use Rattle.std.proofs.Common.{Result, Ok, Err, refl, sym, ◌∙◌, ap, append_assoc}
+use Rattle.std.proofs.Common.{Result, Ok, Err, inl, inr, refl, sym, ◌∙◌, ap, append_assoc}
 use Rattle.std.proofs.Common.{if◌then◌else◌}
 use Rattle.std.proofs.lemmas.List.{take-append-drop, length-append}
 use Rattle.tus_session.specs.History.{State, Event, Came, More, Mark, Marked, Served, OutOfMemory, Failed, Outcome}
@@ -14,7 +14,7 @@ use Rattle.tus_session.specs.Connections.{mark_of, outcome_of, Adds}
 use Rattle.gateway_serve.specs.Conversations.{Conversation, AreTalks, GaveAs, longer_conversation}
 use Rattle.gateway_serve.specs.declared.buffers.TheConstants.{PIECE}
 use Rattle.gateway_serve.specs.declared.sockets.Seen.{Seen}
-use Rattle.gateway_serve.specs.Joined.{Joint, Joins, is_last, stage_by, stage_after}
+use Rattle.gateway_serve.specs.Joined.{Joint, Joins, MayWrite, is_last, stage_by, stage_after, wrote}
 use Rattle.gateway_serve.specs.Joined.{taken_after}
 use Rattle.gateway_serve.specs.declared.stages.Stage.{Stage}
 use Rattle.gateway_serve.specs.declared.stages.Stage.TheVariants as stages
@@ -56,6 +56,15 @@ module _ (sure : Bool) (ended : List Seen) (st : State) (past : List Marked) (n 
   -- WRITING AND READING
   pub same_joins : (old new : Joint) → new ≡ old → Joins sure old ended st past n → Joins sure new ended st past n
   same_joins old new same is = rw same is
+
+  pub written_joins : (old new : Joint) → MayWrite old new → Joins sure old ended st past n
+      → Joins sure new ended st past n
+  written_joins old new writes is = elim writes [
+    | inl same ↦ same_joins old new same is
+    | inr part ↦ rw part.1 (moved old (wrote part.0 old) past is.latest is is.talks is.disconnected is.taken is.few
+        (append_assoc old.went (take part.0 old.output) (drop part.0 old.output)
+        ∙ (ap (λ l. old.went ++ l) (take-append-drop part.0 old.output) ∙ is.given)) is.shut)
+  ]
 
   -- AN ANSWER. The bytes that it gave are put after the output, and those that were taken are taken from the input
   abbrev with_input : Joint → List ℕ → List ℕ → Bool → Joint

@@ -2,8 +2,8 @@ mod All
 mod After
 mod Carries
 mod NextTurn
+mod Counted
 mod Freed
-mod Heads
 mod Joints
 mod Lost
 mod Pauses

@@ -69,9 +69,3 @@ more_there n reason p ended = grind arith
 pub more_ended : {S : Type 0} (n : ℕ) (reason : Reason) (p : Place S) (ended ended' : List Seen)
     → ended' ≡ with_place n reason p ended → length ended ≤ length ended'
 more_ended n reason p ended ended' with = rw with (more_there n reason p ended)
-
--- so no more connections are closed than ended
-pub closed_ended : (turned : Turned) (closed closed' : ℕ) (ended ended' : List Seen) → length ended ≤ length ended'
-    → (turned ≡ Came.Closed → length ended < length ended') → (turned ≡ Came.Closed → closed' ≤ closed + 1)
-    → (turned ≢ Came.Closed → closed' ≡ closed) → closed ≤ length ended → closed' ≤ length ended'
-closed_ended turned closed closed' ended ended' more one adds same few = grind arith

@@ -1,10 +1,12 @@
 -- What listeners were asked, and what became of the clients that they gave.
 use Rattle.std.specs.Prelude.{◌≡◌, ◌⊎◌, ◌≤◌, ℕ, ◌+◌, ◌*◌, List, [], ◌∷◌, ◌++◌, length, Bool, is_some, if◌then◌else◌}
+use Rattle.gateway_serve.specs.Counted.{count_closed}
 use Rattle.gateway_serve.specs.declared.sockets.Seen.{Seen}
 use Rattle.gateway_serve.specs.declared.acceptors.Listening.{Listening}
 use Rattle.gateway_serve.specs.declared.doors.Clients.{Clients}
 use Rattle.gateway_serve.specs.declared.doors.Door.{Door}
 use Rattle.gateway_serve.specs.declared.idle.Pace.{Pace}
+use Rattle.std.specs.declared.time.Duration.{Duration}
 
 -- the record of a listener of the operating system
 abbrev pub answers_of : {L : Type 0} → Listening L → List Bool
@@ -13,6 +15,10 @@ answers_of l = l.answers.items
 -- how many turns are still to pass it over
 abbrev pub passes_of : Pace → ℕ
 passes_of p = p.left
+
+-- and when it was asked last
+abbrev pub asked_of : Pace → Duration
+asked_of p = p.asked
 
 -- how many of these answers gave a client
 abbrev pub one_when : Bool → ℕ
@@ -38,9 +44,17 @@ abbrev pub LetsInBy : {S : Type 0} → List Bool → List Bool → ℕ → Door 
 LetsInBy before answers turns d = LetsIn before answers turns d.clients (is_some d.waiting) (passes_of d.pace)
 
 -- WHILE IT SERVES, for all of its turns unless it ended before: the disk failed, or so many connections were closed
-pub record HasServed (before answers : List Bool) (turns connections : ℕ) (clients : Clients) (ended : List Seen)
+pub record TakesTurns (before answers : List Bool) (turns connections : ℕ) (clients : Clients) (ended : List Seen)
     (failed : Type 0) : Type 0 where
   pub taken : ℕ
   pub waits : Bool
   pub lets : LetsIn before answers taken clients waits 0
   pub all : failed ⊎ (connections ≤ length ended) ⊎ (taken ≡ turns)
+
+-- WHEN IT HAS SERVED: each client that got a connection has a socket that ended, and it served no more once so many
+-- connections were closed
+pub record HasServed (before answers : List Bool) (turns connections : ℕ) (clients : Clients) (ended : List Seen)
+    (failed : Type 0) : Type 0 where
+  pub served : TakesTurns before answers turns connections clients ended failed
+  pub opened : clients.opened ≡ length ended
+  pub stops : count_closed ended ≤ connections

@@ -71,7 +71,7 @@ IsOver j = (j.closed ≡ true) × (j.output ≡ [])
 -- which something came, or between requests
 abbrev pub at_by : Stage → List ℕ → Option Request → At
 at_by Taking [] None = Between
-at_by Taking [] (Some request) = at_in request.head
+at_by Taking [] (Some request) = at_in request.part
 at_by Taking (b ∷ output) request = Reply
 at_by Giving output request = Reply
 at_by Closed output request = Reply
@@ -91,6 +91,10 @@ wrote n j = record {
 
 abbrev pub WritesPiece : Joint → Joint → Type 0
 WritesPiece old new = (n : ℕ) × (new ≡ wrote n old)
+
+-- if any
+abbrev pub MayWrite : Joint → Joint → Type 0
+MayWrite old new = (new ≡ old) ⊎ WritesPiece old new
 
 -- where none wait for the session, these are read, at most 4,096
 abbrev pub read : List ℕ → Joint → Joint

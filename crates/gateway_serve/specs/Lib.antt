@@ -1,6 +1,7 @@
 pub mod Acceptors
 pub mod Bytes
 pub mod Conversations
+pub mod Counted
 pub mod Gone
 pub mod Joined
 pub mod Longest

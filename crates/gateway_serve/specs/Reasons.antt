@@ -29,6 +29,10 @@ abbrev pub begun_by : Option Request → Duration → Duration
 begun_by None moved = moved
 begun_by (Some request) moved = request.begun
 
+abbrev pub since_by : Option Request → Duration → Duration
+since_by None moved = moved
+since_by (Some request) moved = request.since
+
 abbrev pub brought_by : Option Request → ℕ
 brought_by None = 0
 brought_by (Some request) = request.brought
@@ -41,6 +45,7 @@ stay_of l tick = record {
   opened = opened_of l;
   moved = moved_of l;
   begun = begun_by l.request l.moved;
+  since = since_by l.request l.moved;
   brought = brought_by l.request;
   time = tick.now;
 }

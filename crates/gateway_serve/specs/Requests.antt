@@ -1,74 +1,70 @@
--- What serving sees of a request.
-use Rattle.std.specs.Prelude.{◌≡◌, ◌-◌, ◌+◌, ◌&&◌, ◌==◌, ℕ, min, nat_lt, nat_le, Bool, true, false, if◌then◌else◌}
-use Rattle.std.specs.Prelude.{List, [], ◌∷◌, ◌++◌, length, take, replicate, Option, Some, None}
+-- What serving measures of a request.
+use Rattle.std.specs.Prelude.{◌≡◌, ◌+◌, ℕ, min, nat_le, Bool, true, false, if◌then◌else◌, Option, Some, None}
 use Rattle.std.specs.declared.time.Duration.{Duration}
+use Rattle.tus_session.specs.declared.at.At as session
+use Rattle.tus_session.specs.declared.at.At.TheVariants as at
 use Rattle.gateway_serve.specs.Stays.{seconds_from}
-use Rattle.gateway_serve.specs.declared.requests.HeadEnd.{HeadEnd}
-use Rattle.gateway_serve.specs.declared.requests.HeadEnd.TheVariants.{InLine, LineStart, Found}
+use Rattle.gateway_serve.specs.declared.requests.Part.{Part}
+use Rattle.gateway_serve.specs.declared.requests.Part.TheVariants.{Head, Body}
 use Rattle.gateway_serve.specs.declared.requests.Request.{Request}
 use Rattle.gateway_serve.specs.declared.stays.At.{At}
-use Rattle.gateway_serve.specs.declared.stays.At.TheVariants.{Head, Body}
+use Rattle.gateway_serve.specs.declared.stays.At.TheVariants as stays
 
--- a connection is in the body of a request once the end of its head came
-abbrev pub at_in : HeadEnd → At
-at_in InLine = Head
-at_in LineStart = Head
-at_in Found = Body
+-- what a connection is at in this part of a request
+abbrev pub at_in : Part → At
+at_in Head = stays.Head
+at_in Body = stays.Body
 
--- THE END OF A HEAD is its first empty line (RFC 9112, section 2.1): a line feed, carriage returns, a line feed
-abbrev pub HasEnd : List ℕ → Type 0
-HasEnd bytes =
-    (line : List ℕ) × (n : ℕ) × (rest : List ℕ) × (bytes ≡ line ++ 10 ∷ replicate n 13 ++ 10 ∷ rest)
+-- the part that comes where the session is at this
+abbrev pub part_at : session.At → Option Part
+part_at at.Between = None
+part_at at.Head = Some Head
+part_at at.Body = Some Body
+part_at at.Text = None
 
--- where the search for it is after one more byte, and after some
-abbrev pub head_after : HeadEnd → ℕ → HeadEnd
-head_after InLine byte = if byte == 10 then LineStart else InLine
-head_after LineStart byte = if byte == 10 then Found else if byte == 13 then LineStart else InLine
-head_after Found byte = Found
+-- A REQUEST AT ITS TIME: the part that comes begins
+abbrev pub request_from : Part → Duration → Request
+request_from part now = record { part = part; begun = now; since = now; brought = 0 }
 
-unfoldable pub head_by : HeadEnd → List ℕ → HeadEnd
-head_by head [] = head
-head_by head (byte ∷ bytes) = head_by (head_after head byte) bytes
-
-abbrev pub has_come : HeadEnd → Bool
-has_come InLine = false
-has_come LineStart = false
-has_come Found = true
-
--- A REQUEST AT ITS TIME: once the end of its head came the speed of its body is measured, from then on
-abbrev pub measured_from : Request → Bool → Duration → Request
-measured_from r anew now =
-    if anew then record { head = r.head; begun = now; brought = 0 } else r
-
--- more of it came
-abbrev pub with_head : Request → HeadEnd → Request
-with_head r head = record { head = head; begun = r.begun; brought = r.brought }
-
-abbrev pub looked : Request → List ℕ → Duration → Request
-looked r bytes now =
-    if has_come r.head then r
-    else measured_from (with_head r (head_by r.head bytes)) (has_come (head_by r.head bytes)) now
-
+-- so many bytes more of it came
 abbrev pub with_more : Request → ℕ → Request
-with_more r n = record { head = r.head; begun = r.begun; brought = min (r.brought + n) 18_446_744_073_709_551_615 }
+with_more r n = record {
+  part = r.part;
+  begun = r.begun;
+  since = r.since;
+  brought = min (r.brought + n) 18_446_744_073_709_551_615;
+}
 
-abbrev pub with_bytes : Request → List ℕ → Duration → Request
-with_bytes r bytes now = with_more (looked r bytes now) (length bytes)
-
--- and is measured anew after ten seconds
+-- its speed is measured anew after two seconds
 abbrev pub measured_anew : Request → Duration → Request
-measured_anew r now = measured_from r (has_come r.head && nat_le 10 (seconds_from r.begun now)) now
+measured_anew r now =
+    if nat_le 2 (seconds_from r.since now)
+    then record { part = r.part; begun = r.begun; since = now; brought = 0 }
+    else r
 
 abbrev pub measured_by : Option Request → Duration → Option Request
 measured_by None now = None
 measured_by (Some request) now = Some (measured_anew request now)
 
--- THE REQUEST that a connection is in, after so many of the bytes that came were taken. There is none if the bytes that
--- wait to be written grew by more than the 25 that ask a client to go on with its body
-abbrev pub request_or_new : Option Request → Duration → Request
-request_or_new None now = record { head = InLine; begun = now; brought = 0 }
-request_or_new (Some request) now = request
+-- THE REQUEST that a connection is in, after so many bytes were taken and the session said what it is at: the one that
+-- it was in, if that part of it still comes, or another one that begins now
+abbrev pub is_same : Part → Part → Bool
+is_same Head Head = true
+is_same Head Body = false
+is_same Body Head = false
+is_same Body Body = true
 
-abbrev pub request_by : Option Request → (owed owes : ℕ) → (input : List ℕ) → ℕ → Duration → Option Request
-request_by request owed owes input taken now =
-    if nat_lt 25 (owes - owed) then None else Some (with_bytes (request_or_new request now) (take taken input) now)
+abbrev pub request_or : Option Request → Part → Duration → Request
+request_or None part now = request_from part now
+request_or (Some request) part now = if is_same request.part part then request else request_from part now
+
+abbrev pub request_in : Option Request → Option Part → ℕ → Duration → Option Request
+request_in request None n now = None
+request_in request (Some part) n now = Some (with_more (request_or request part now) n)
+
+abbrev pub part_of : Option session.At → Option Part
+part_of None = None
+part_of (Some at) = part_at at
+
+abbrev pub request_by : Option Request → Option session.At → ℕ → Duration → Option Request
+request_by request at n now = request_in request (part_of at) n now

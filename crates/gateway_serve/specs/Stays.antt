@@ -5,7 +5,8 @@ use Rattle.std.specs.declared.time.Duration.{Duration}
 use Rattle.gateway_serve.specs.declared.stays.Stay.{Stay}
 use Rattle.gateway_serve.specs.declared.stays.At.{At}
 use Rattle.gateway_serve.specs.declared.stays.At.TheVariants.{Between, Head, Body, Reply}
-use Rattle.gateway_serve.specs.declared.stays.TheConstants.{LEAST_SPEED, LONGEST_IDLE, SHORTEST_PAUSE, SHORTEST_STAY}
+use Rattle.gateway_serve.specs.declared.stays.TheConstants.{LEAST_SPEED, LONGEST_IDLE, LONGEST_SLOW}
+use Rattle.gateway_serve.specs.declared.stays.TheConstants.{SHORTEST_PAUSE, SHORTEST_STAY}
 
 -- the whole seconds and milliseconds from one time to another
 abbrev pub seconds_from : Duration → Duration → ℕ
@@ -28,16 +29,16 @@ HasIdled s = HasIdledAt s.at s
 abbrev pub HasPaused : Stay → Type 0
 HasPaused s = (s.longest ≡ true) × (SHORTEST_PAUSE ≤ millis_from s.moved s.time)
 
--- its request brought less than the least speed, in bytes a second, for ten seconds or more
+-- its request brought less than the least speed, in bytes a second, for two seconds or more
 abbrev pub IsSlow : Stay → Type 0
-IsSlow s = (SHORTEST_STAY ≤ seconds_from s.begun s.time) × (s.brought / LEAST_SPEED < seconds_from s.begun s.time)
+IsSlow s = (LONGEST_SLOW ≤ seconds_from s.since s.time) × (s.brought / LEAST_SPEED < seconds_from s.since s.time)
 
 -- WHILE A SOCKET WAITS for a place, these give way: between requests, one that has paused, or that has had its place
--- for ten seconds; a head that isn't whole after ten seconds; and a slow body. A reply never does
+-- for ten seconds; a slow head or body; and a body that has come for ten seconds. A reply never does
 abbrev pub GivesWayAt : At → Stay → Type 0
 GivesWayAt Between s = HasPaused s ⊎ (SHORTEST_STAY ≤ seconds_from s.opened s.time)
-GivesWayAt Head s = SHORTEST_STAY ≤ seconds_from s.begun s.time
-GivesWayAt Body s = IsSlow s
+GivesWayAt Head s = IsSlow s
+GivesWayAt Body s = IsSlow s ⊎ (SHORTEST_STAY ≤ seconds_from s.begun s.time)
 GivesWayAt Reply s = ⊥
 
 abbrev pub GivesWay : Stay → Type 0

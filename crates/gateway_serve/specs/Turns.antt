@@ -1,7 +1,9 @@
 -- What a server has when a turn begins.
-use Rattle.std.specs.Prelude.{◌≡◌, ◌≢◌, ◌⊎◌, ◌<◌, ◌≤◌, ◌+◌, ◌^◌, ℕ, List, length, get_or, Bool, vec_capacity, vec_len}
+use Rattle.std.specs.Prelude.{◌≡◌, ◌≢◌, ◌⊎◌, ◌<◌, ◌≤◌, ◌+◌, ◌^◌, ℕ, List, [], length, get_or, Bool}
+use Rattle.std.specs.Prelude.{vec_capacity, vec_len}
 use Rattle.tus_session.specs.declared.session.TheConstants.{MOST_OPEN}
-use Rattle.gateway_serve.specs.Joined.{places_of}
+use Rattle.gateway_serve.specs.Counted.{open_in}
+use Rattle.gateway_serve.specs.Joined.{places_of, ended_of}
 use Rattle.gateway_serve.specs.Acceptors.{LetsInBy}
 use Rattle.gateway_serve.specs.declared.doors.Clients.{Clients}
 use Rattle.gateway_serve.specs.declared.doors.Door.{Door}
@@ -15,9 +17,18 @@ door_of s = s.door
 abbrev pub closed_of : {S : Type 0} → Server S → ℕ
 closed_of s = s.closed
 
+abbrev pub opened_by : {S : Type 0} → Server S → ℕ
+opened_by s = (door_of s).clients.opened
+
+-- each client that got a connection has it, or its socket ended
+abbrev pub IsCounted : {S : Type 0} → Server S → Type 0
+IsCounted s = opened_by s ≡ length (ended_of s) + open_in (places_of s)
+
 -- nobody came yet
 abbrev pub IsUnvisited : {S : Type 0} → Server S → Type 0
-IsUnvisited s = ((before : List Bool) → LetsInBy before before 0 (door_of s)) × (closed_of s ≡ 0)
+IsUnvisited s =
+    ((before : List Bool) → LetsInBy before before 0 (door_of s)) × (closed_of s ≡ 0) × (ended_of s ≡ [])
+    × (places_of s ≡ []) × (opened_by s ≡ 0)
 
 -- one more client can be counted
 abbrev pub HasRoom : Clients → Type 0

@@ -5,6 +5,7 @@ ghost use Rattle.gateway_serve.specs.Acceptors.{LetsInBy};
 use crate::acceptors::Acceptor;
 use crate::idle::Pace;
 use crate::sockets::Untouched;
+use std::time::Duration;
 
 /// What became of the clients that a listener gave.
 #[derive(Clone, Copy, Debug, PartialEq, Eq, Drop)]
@@ -29,8 +30,9 @@ pub(crate) struct Door<S> {
 
 impl<S: Drop> Door<S> {
     /// Nobody came yet.
-    pub(crate) fn new() -> Self
-        ensures { (before : List Bool) → LetsInBy before before 0 result }
+    pub(crate) fn new(now: Duration) -> Self
+        ensures clients { (before : List Bool) → LetsInBy before before 0 result }
+        ensures opened { result.clients.opened ≡ 0 }
     {
         Door {
             clients: Clients {
@@ -38,14 +40,19 @@ impl<S: Drop> Door<S> {
                 refused: 0,
                 waits: 0,
             },
-            pace: Pace::new(),
+            pace: Pace::new(now),
             waiting: None,
         }
     }
 
     /// The listener's turn, after a turn that did something or not. Where no client waits it is asked for one, unless
     /// it is passed over.
-    pub(crate) fn ask<A: Acceptor<Stream = S>>(&mut self, acceptor: &mut A, busy: bool)
+    pub(crate) fn ask<A: Acceptor<Stream = S>>(
+        &mut self,
+        acceptor: &mut A,
+        busy: bool,
+        now: Duration,
+    )
         requires { self.old.clients.waits + 1 < 2 ^ 64 }
         ensures clients { (before : List Bool) (turns : ℕ) → LetsInBy before (A.answers acceptor.old) turns self.old
             → LetsInBy before (A.answers acceptor.new) (turns + 1) self.new }
@@ -54,9 +61,9 @@ impl<S: Drop> Door<S> {
     {
         if self.waiting.is_some() {
             self.clients.waits += 1;
-        } else if self.pace.is_due(busy) {
+        } else if self.pace.is_due(busy, now) {
             let client = acceptor.accept();
-            self.pace.asked(client.is_some());
+            self.pace.asked(client.is_some(), now);
             if let Some(stream) = client {
                 self.waiting = Some(Untouched::of(stream));
             }

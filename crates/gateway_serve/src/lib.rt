@@ -4,6 +4,7 @@
 mod acceptors;
 mod buffers;
 mod doors;
+mod drains;
 mod idle;
 mod laws;
 mod links;

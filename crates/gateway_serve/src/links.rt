@@ -1,8 +1,9 @@
 //! A socket and its connection of the gateway.
 
-ghost use Rattle.std.specs.Prelude.{◌≡◌, ◌≢◌, ◌⊎◌, IsErr, IfOk, IfSome, IsTrue, length};
+ghost use Rattle.std.specs.Prelude.{◌≡◌, ◌≢◌, ◌⊎◌, ◌<◌, IsErr, IfOk, IfSome, IsTrue, length};
 ghost use Rattle.upload_rules.specs.Answers.{Counts};
-ghost use Rattle.gateway_serve.specs.Joined.{Goes, IsOver, WritesPiece, ReadsPiece, joint_of, nothing_yet, with_link};
+ghost use Rattle.gateway_serve.specs.Joined.{Goes, IsOver, MayWrite, WritesPiece, ReadsPiece, joint_of};
+ghost use Rattle.gateway_serve.specs.Joined.{nothing_yet, with_link};
 ghost use Rattle.gateway_serve.specs.Joined.{at_of};
 ghost use Rattle.gateway_serve.specs.Waiting.{FewWait, HasRoom};
 ghost use Rattle.gateway_serve.specs.Bytes.{stream_of, latest_of};
@@ -11,24 +12,21 @@ ghost use Rattle.gateway_serve.specs.Gone.{EndsBy, IfLost};
 ghost use Rattle.gateway_serve.specs.declared.sockets.Latest.{Latest};
 ghost use Rattle.gateway_serve.specs.Longest.{link_between_since};
 ghost use Rattle.gateway_serve.specs.Reasons.{IsOutOfTime, IsLostBy, moved_of, opened_of, stay_of};
-ghost use Rattle.gateway_serve.specs.Requests.{measured_by, request_by};
+ghost use Rattle.gateway_serve.specs.Requests.{measured_by};
 ghost use Rattle.gateway_serve.specs.Stays as stays;
 
 use crate::buffers::{Input, Output, PIECE};
-use crate::idle::{Pace, Tick};
+use crate::idle::{Pace, Tick, is_long};
 use crate::reasons::{Gone, Reason};
-use crate::requests::Request;
+use crate::requests::{Part, Request, request_after};
 use crate::sockets::{Seen, Socket, Untouched};
 use crate::stages::{Left, Stage, left_after, next_after};
 use crate::stays::{At, Stay};
 use common::{DiskFault, Trace};
 use std::alloc::Global;
 use std::io::{Read, Write};
-use std::time::Duration;
+use std::time::{Clock, Duration};
 use tus_session::Connections;
-
-/// What a client gets that waits with the body of its request. Each reply is longer.
-const CONTINUE: &[u8] = b"HTTP/1.1 100 Continue\r\n\r\n";
 
 /// A socket and its connection of the gateway.
 #[derive(Drop)]
@@ -41,19 +39,21 @@ pub(crate) struct Link<S> {
     opened: Duration,
     /// when something last came or went
     moved: Duration,
-    /// the request of which something came, while no reply was given
+    /// the request of which a part comes
     request: Option<Request>,
     pace: Pace,
 }
 
-impl<S: Drop> Link<S> {
-    /// Puts the socket to those that ended.
-    pub(crate) fn end(self, conn: usize, reason: Reason, ended: &mut Trace<Seen>)
+impl<S> Link<S> {
+    /// Puts the socket to those that ended, and hands its stream back.
+    pub(crate) fn end(self, conn: usize, reason: Reason, ended: &mut Trace<Seen>) -> S
         ensures ended { ended.new.items ≡ with_link conn reason self ended.old.items }
         ensures waiting { FewWait self.output }
     {
         let _few = self.output.left();
-        *ended = ended.and(&self.socket.ended(conn, reason));
+        let (seen, stream) = self.socket.ended(conn, reason);
+        *ended = ended.and(&seen);
+        stream
     }
 }
 
@@ -74,7 +74,7 @@ impl<S: Read + Write> Link<S> {
             opened: now,
             moved: now,
             request: None,
-            pace: Pace::new(),
+            pace: Pace::new(now),
         }
     }
 
@@ -89,12 +89,14 @@ impl<S: Read + Write> Link<S> {
     }
 
     /// A turn: what is left is written, else the next piece of a text is asked for, else bytes are read and given to
-    /// the session. Where nothing of this could be done and its time is over, the connection is lost. One that had
-    /// nothing to do is passed over in some of the turns, unless the turn before did nothing at all.
+    /// the session, and what that gives is written. Where nothing of this could be done, or a body comes, and its time
+    /// is over, the connection is lost. One that had nothing to do is passed over in some of the turns, unless the turn
+    /// before did nothing at all or took long.
     ///
     /// Refused with `DiskFault` where the session was.
-    pub(crate) fn turn<C: Connections>(
+    pub(crate) fn turn<C: Connections, T: Clock>(
         &mut self,
+        clock: &T,
         gateway: &mut C,
         conn: usize,
         tick: Tick,
@@ -105,16 +107,17 @@ impl<S: Read + Write> Link<S> {
         ensures over { result ≡ Ok Left.Closed → IsOver (joint_of self.new) }
         ensures counts { Counts (IsErr result) (C.failures gateway.old) (C.failures gateway.new) }
     {
-        if !self.pace.is_due(tick.busy) {
+        if !self.pace.is_due(tick.busy, tick.now) {
             return Ok(Left::Idle);
         }
-        match self.go_on(gateway, conn, tick.now) {
+        match self.go_on(clock, gateway, conn, tick.now) {
             Ok(left) => Ok(self.left_at(left, tick)),
             Err(fault) => Err(fault),
         }
     }
 
-    // What a turn leaves at its time: a connection whose socket had nothing to do is lost, if its time is over.
+    // What a turn leaves at its time: a connection whose socket had nothing to do, or of which a body comes, is lost if
+    // its time is over.
     #[tactic(auto, using(crate::proofs::Lost::still_lost))]
     fn left_at(&mut self, left: Left, tick: Tick) -> Left
         ensures socket { socket_of self.new ≡ socket_of self.old }
@@ -123,9 +126,9 @@ impl<S: Read + Write> Link<S> {
         ensures lost { IfLost result (λ gone. (left ≡ Left.Lost gone) ⊎ IsOutOfTime self.new tick gone) }
     {
         let moved = !matches!(left, Left::Idle);
-        self.pace.asked(moved);
+        self.pace.asked(moved, tick.now);
         let stay = self.stay_after(moved, tick);
-        if !moved && stay.is_over() {
+        if may_be_late(left, stay.at) && stay.is_over() {
             return Left::Lost(Gone::Late(stay));
         }
         self.measure(&stay);
@@ -148,7 +151,7 @@ impl<S: Read + Write> Link<S> {
     fn stay(&self, tick: Tick) -> Stay
         ensures { result ≡ stay_of self.now tick }
     {
-        let request = self.request.unwrap_or(Request::new(self.moved));
+        let request = self.request.unwrap_or(Request::new(Part::Head, self.moved));
         Stay {
             at: self.at(),
             wanted: tick.wanted,
@@ -156,6 +159,7 @@ impl<S: Read + Write> Link<S> {
             opened: self.opened,
             moved: self.moved,
             begun: request.begun,
+            since: request.since,
             brought: request.brought,
             time: tick.now,
         }
@@ -174,7 +178,7 @@ impl<S: Read + Write> Link<S> {
         }
     }
 
-    // Measures the speed of a body anew, where it was fast enough for long enough.
+    // Measures the speed of a request anew, where it was fast enough for long enough.
     fn measure(&mut self, stay: &Stay)
         ensures over { stays.IsOver stay.now → self.new.request ≡ self.old.request }
         ensures goes_on { (stays.IsOver stay.now → ⊥) → self.new.request ≡ measured_by self.old.request stay.now.time }
@@ -187,8 +191,9 @@ impl<S: Read + Write> Link<S> {
     }
 
     // Writes, asks for the next piece of a text, or takes bytes.
-    fn go_on<C: Connections>(
+    fn go_on<C: Connections, T: Clock>(
         &mut self,
+        clock: &T,
         gateway: &mut C,
         conn: usize,
         now: Duration,
@@ -205,7 +210,7 @@ impl<S: Read + Write> Link<S> {
         match self.stage {
             Stage::Closed => Ok(Left::Closed),
             Stage::Giving => self.more(gateway, conn),
-            Stage::Taking => self.take(gateway, conn, now),
+            Stage::Taking => self.take(clock, gateway, conn, now),
         }
     }
 
@@ -242,9 +247,30 @@ impl<S: Read + Write> Link<S> {
         }
     }
 
-    // Gives the session what was read, or else what the socket has now.
-    fn take<C: Connections>(
+    // Gives the session what was read, or else what the socket has now, and writes what it gives.
+    fn take<C: Connections, T: Clock>(
         &mut self,
+        clock: &T,
+        gateway: &mut C,
+        conn: usize,
+        now: Duration,
+    ) -> Result<Left, DiskFault>
+        ensures lost { IfOk result (λ left. IfLost left (λ gone. EndsBy gone (latest_of (socket_of self.new)))) }
+        ensures stream { StaysOf S.remaining S.contents (socket_of self.old) (socket_of self.new) }
+        ensures serves { Goes C.Connections gateway.old gateway.new result self.old self.new conn }
+        ensures unclosed { result ≢ Ok Left.Closed }
+        ensures counts { Counts (IsErr result) (C.failures gateway.old) (C.failures gateway.new) }
+    {
+        match self.take_in(clock, gateway, conn, now) {
+            Ok(left) => Ok(self.write_given(left)),
+            Err(fault) => Err(fault),
+        }
+    }
+
+    // Gives the session what was read, or else what the socket has now.
+    fn take_in<C: Connections, T: Clock>(
+        &mut self,
+        clock: &T,
         gateway: &mut C,
         conn: usize,
         now: Duration,
@@ -258,9 +284,27 @@ impl<S: Read + Write> Link<S> {
         if let Some(left) = self.read() {
             return Ok(left);
         }
-        match self.give(gateway, conn, now) {
+        match self.give(clock, gateway, conn, now) {
             Ok(()) => Ok(Left::Open),
             Err(fault) => Err(fault),
+        }
+    }
+
+    // Writes of what the session gave as much as the socket takes, unless the turn left the connection otherwise.
+    fn write_given(&mut self, left: Left) -> Left
+        ensures lost { IfLost left (λ gone. EndsBy gone (latest_of (socket_of self.old)))
+            → IfLost result (λ gone. EndsBy gone (latest_of (socket_of self.new))) }
+        ensures stream { StaysOf S.remaining S.contents (socket_of self.old) (socket_of self.new) }
+        ensures part { MayWrite (joint_of self.old) (joint_of self.new) }
+        ensures unclosed { result ≡ Left.Closed → left ≡ Left.Closed }
+    {
+        if !matches!(left, Left::Open) || self.output.left().is_empty() {
+            return left;
+        }
+        match self.write() {
+            // Bytes were given to the session.
+            Left::Idle => Left::Open,
+            after => after,
         }
     }
 
@@ -283,10 +327,11 @@ impl<S: Read + Write> Link<S> {
         }
     }
 
-    // Gives the session what was read, until all is taken, enough waits to be written, a text is to be given or the
-    // connection is closed.
-    fn give<C: Connections>(
+    // Gives the session what was read, until all is taken, enough waits to be written, a text is to be given, the
+    // connection is closed, or the turn, which began at this time, has taken long.
+    fn give<C: Connections, T: Clock>(
         &mut self,
+        clock: &T,
         gateway: &mut C,
         conn: usize,
         now: Duration,
@@ -295,15 +340,28 @@ impl<S: Read + Write> Link<S> {
         ensures serves { Goes C.Connections gateway.old gateway.new result self.old self.new conn }
         ensures counts { Counts (IsErr result) (C.failures gateway.old) (C.failures gateway.new) }
     {
+        // Each call takes at least a byte.
         let mut calls = PIECE;
         while calls > 0 && self.goes_on() {
             match self.came(gateway, conn, now) {
                 Ok(()) => {}
                 Err(fault) => return Err(fault),
             }
-            calls -= 1;
+            calls = self.calls_after(clock, now, calls);
         }
         Ok(())
+    }
+
+    // How many of the calls that were to come may follow one of them: none in a turn that has taken long.
+    fn calls_after<T: Clock>(&self, clock: &T, begun: Duration, calls: usize) -> usize
+        requires { 0 < calls }
+        ensures { result < calls }
+    {
+        if self.goes_on() && is_long(clock, begun) {
+            0
+        } else {
+            calls - 1
+        }
     }
 
     // Whether the session may be given more of what was read.
@@ -325,11 +383,10 @@ impl<S: Read + Write> Link<S> {
         ensures serves { Goes C.Connections gateway.old gateway.new result self.old self.new conn }
         ensures counts { Counts (IsErr result) (C.failures gateway.old) (C.failures gateway.new) }
     {
-        let owed = self.output.left().len();
         let answer = self.output.came(gateway, conn, self.input.left());
         match next_after(answer) {
             Ok(next) => {
-                self.request = self.request_after(next.taken, owed, now);
+                self.request = request_after(self.request, gateway.at(conn), next.taken, now);
                 self.stage = next.stage;
                 self.input.take(next.taken);
                 Ok(())
@@ -337,18 +394,16 @@ impl<S: Read + Write> Link<S> {
             Err(fault) => Err(fault),
         }
     }
+}
 
-    // The request that the connection is in after the session took `taken` bytes of what was read. Before that, `owed`
-    // bytes waited to be written. There is no request if a reply was given.
-    fn request_after(&self, taken: usize, owed: usize, now: Duration) -> Option<Request>
-        ensures { result ≡ request_by self.now.request owed (length self.now.output) self.now.input taken now }
-    {
-        if self.output.left().len().saturating_sub(owed) > CONTINUE.len() {
-            return None;
-        }
-        let bytes = self.input.left();
-        let mut request = self.request.unwrap_or(Request::new(now));
-        request.add(&bytes[..taken.min(bytes.len())], now);
-        Some(request)
+// Whether a connection may be lost because its time is over, after a turn that left it so: where its socket had nothing
+// to do, or while a body comes.
+fn may_be_late(left: Left, at: At) -> bool
+    ensures { IsTrue result → (left ≡ Left.Idle) ⊎ (left ≡ Left.Open) }
+{
+    match left {
+        Left::Idle => true,
+        Left::Open => at == At::Body,
+        Left::Closed | Left::Lost(_) => false,
     }
 }

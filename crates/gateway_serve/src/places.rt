@@ -1,11 +1,13 @@
 //! A place for a connection.
-ghost use Rattle.std.specs.Prelude.{◌≡◌, ◌↔◌, ◌<◌, ◌≤◌, IsTrue, IsErr, IsErrOf, Ok, length};
+ghost use Rattle.std.specs.Prelude.{◌≡◌, ◌≢◌, ◌↔◌, ◌+◌, IsTrue, IsErr, IsErrOf, IfOk, Ok, length};
 ghost use Rattle.upload_rules.specs.Answers.{Counts};
+ghost use Rattle.gateway_serve.specs.Counted.{one_if_open};
 ghost use Rattle.gateway_serve.specs.Joined.{GoesAt, OthersStay, IsNew, MayEnd, PlaceWaits, with_place};
 ghost use Rattle.gateway_serve.specs.Streams.{PlaceIsOf, PlacePreserves};
 ghost use Rattle.gateway_serve.specs.Reasons.{StayReasoned};
 ghost use Rattle.gateway_serve.specs.Longest.{between_since};
 
+use crate::drains::Drains;
 use crate::idle::Tick;
 use crate::links::Link;
 use crate::reasons::Reason;
@@ -15,7 +17,7 @@ use common::{DiskFault, Stop, Trace};
 use std::alloc::Global;
 use std::io::{Read, Write};
 use std::mem;
-use std::time::Duration;
+use std::time::{Clock, Duration};
 use tus_session::{Connections, SessionError};
 
 /// A place for a connection, whose number it has.
@@ -65,33 +67,39 @@ impl<S: Read + Write + Drop> Place<S> {
         matches!(self, Place::Free)
     }
 
-    /// The turn of the connection, if one is open. Where it ends there, its socket is put to those that ended.
+    /// The turn of the connection, if one is open. Where it ends there, its socket is put to those that ended, and if
+    /// the session closed it, to those that drain.
     ///
     /// Refused with `DiskFault` where a call of the session was.
-    pub(crate) fn turn<C: Connections>(
+    pub(crate) fn turn<C: Connections, T: Clock>(
         &mut self,
+        clock: &T,
         gateway: &mut C,
         conn: usize,
         tick: Tick,
         ended: &mut Trace<Seen>,
+        drains: &mut Drains<S>,
     ) -> Result<Turned, DiskFault>
         ensures reasons { StayReasoned ended.old.items ended.new.items }
         ensures streams { PlacePreserves S.remaining S.contents self.old self.new ended.old.items ended.new.items }
         ensures serves { GoesAt C.Connections gateway.old gateway.new result self.old self.new
             ended.old.items ended.new.items conn }
         ensures others { OthersStay conn ended.old.items ended.new.items }
-        ensures more { length ended.old.items ≤ length ended.new.items }
-        ensures closed { result ≡ Ok Turned.Closed → length ended.old.items < length ended.new.items }
+        ensures kept { length ended.new.items + one_if_open self.new ≡ length ended.old.items + one_if_open self.old }
+        ensures closed { result ≡ Ok Turned.Closed → length ended.new.items ≡ length ended.old.items + 1 }
+        ensures open { IfOk result (λ turned. turned ≢ Turned.Closed → length ended.new.items ≡ length ended.old.items) }
         ensures counts { Counts (IsErr result) (C.failures gateway.old) (C.failures gateway.new) }
     {
         let Place::Open(link) = self else {
             return Ok(Turned::Idle);
         };
-        match link.turn(gateway, conn, tick) {
+        match link.turn(clock, gateway, conn, tick) {
             Ok(Left::Open) => Ok(Turned::Moved),
             Ok(Left::Idle) => Ok(Turned::Idle),
             Ok(Left::Closed) => {
-                self.free(conn, Reason::Closed, ended);
+                if let Some(stream) = self.free(conn, Reason::Closed, ended) {
+                    drains.add(stream, tick.now);
+                }
                 Ok(Turned::Closed)
             }
             Ok(Left::Lost(gone)) => match self.end(gateway, conn, Reason::Lost(gone), ended) {
@@ -118,25 +126,29 @@ impl<S: Read + Write + Drop> Place<S> {
         ensures serves { GoesAt C.Connections gateway.old gateway.new result self.old self.new
             ended.old.items ended.new.items conn }
         ensures free { self.new ≡ Place.Free }
+        ensures kept { length ended.new.items ≡ length ended.old.items + one_if_open self.old }
         ensures others { OthersStay conn ended.old.items ended.new.items }
         ensures counts { Counts (IsErr result) (C.failures gateway.old) (C.failures gateway.new) }
     {
         if self.is_free() {
             return Ok(());
         }
-        self.free(conn, reason, ended);
+        drop(self.free(conn, reason, ended));
         unless_failed(gateway.ended(conn))
     }
 
-    /// Lets the socket go for this reason, if one is there. Nothing is reported to the session.
-    pub(crate) fn free(&mut self, conn: usize, reason: Reason, ended: &mut Trace<Seen>)
+    /// Hands the stream of the connection back, which ends for this reason, if one is there. Nothing is reported to the
+    /// session.
+    pub(crate) fn free(&mut self, conn: usize, reason: Reason, ended: &mut Trace<Seen>) -> Option<S>
         ensures waiting { PlaceWaits self.old }
         ensures streams { PlacePreserves S.remaining S.contents self.old self.new ended.old.items ended.new.items }
         ensures free { self.new ≡ Place.Free }
         ensures ended { ended.new.items ≡ with_place conn reason self.old ended.old.items }
+        ensures kept { length ended.new.items ≡ length ended.old.items + one_if_open self.old }
     {
-        if let Place::Open(link) = mem::replace(self, Place::Free) {
-            link.end(conn, reason, ended);
+        match mem::replace(self, Place::Free) {
+            Place::Open(link) => Some(link.end(conn, reason, ended)),
+            Place::Free => None,
         }
     }
 }

@@ -1,114 +1,102 @@
-//! What serving sees of a request: whether its head came, and how fast its body comes.
-ghost use Rattle.std.specs.Prelude.{◌≡◌, None, true, false};
-ghost use Rattle.gateway_serve.specs.Requests.{with_bytes, at_in, request_or_new, has_come, head_after, looked};
-ghost use Rattle.gateway_serve.specs.Requests.{measured_anew};
-ghost use Rattle.gateway_serve.specs.Requests.{measured_from};
+//! What serving measures of a request: since when its head or its body comes, and how fast.
+ghost use Rattle.std.specs.Prelude.{◌≡◌};
+ghost use Rattle.gateway_serve.specs.Requests.{at_in, measured_anew, part_at, request_by, request_from};
+ghost use Rattle.gateway_serve.specs.Requests.{with_more};
 
 use crate::stays::At;
 use std::time::Duration;
 
-/// For so many seconds the speed of a body is measured, then anew.
-const MEASURED: u64 = 10;
+/// For so many seconds the speed of a request is measured, then anew.
+const MEASURED: u64 = 2;
 
-/// Where the search for the end of a head is: for its first empty line (RFC 9112, section 2.1).
+/// The part of a request that comes.
 #[derive(Clone, Copy, Debug, PartialEq, Eq, Drop)]
-enum HeadEnd {
-    /// Within a line.
-    InLine,
-    /// At the start of a line, or after a carriage return there.
-    LineStart,
-    /// It came.
-    Found,
+pub(crate) enum Part {
+    /// Its head.
+    Head,
+    /// Its body, whether it is stored or dropped.
+    Body,
 }
 
-impl HeadEnd {
-    // After one more byte.
-    fn after(self, byte: u8) -> Self
-        ensures { result ≡ head_after self byte }
-    {
-        match (self, byte) {
-            (HeadEnd::Found, _) | (HeadEnd::LineStart, b'\n') => HeadEnd::Found,
-            (HeadEnd::InLine, b'\n') | (HeadEnd::LineStart, b'\r') => HeadEnd::LineStart,
-            (HeadEnd::InLine | HeadEnd::LineStart, _) => HeadEnd::InLine,
-        }
-    }
-}
-
-/// A request of which some bytes came, and no reply was given.
+/// The head or the body of a request, of which some bytes came.
 #[derive(Clone, Copy, Debug, PartialEq, Eq, Drop)]
 pub(crate) struct Request {
-    head: HeadEnd,
-    /// When its head began, or since when the speed of its body is measured.
+    part: Part,
+    /// When that part began.
     pub(crate) begun: Duration,
+    /// Since when its speed is measured.
+    pub(crate) since: Duration,
     /// How many bytes came since then.
     pub(crate) brought: u64,
 }
 
 impl Request {
     /// Of which nothing came, at this time.
-    pub(crate) fn new(now: Duration) -> Self
-        ensures { result ≡ request_or_new None now }
+    pub(crate) fn new(part: Part, now: Duration) -> Self
+        ensures { result ≡ request_from part now }
     {
         Request {
-            head: HeadEnd::InLine,
+            part,
             begun: now,
+            since: now,
             brought: 0,
         }
     }
 
     /// What a connection in this request is at.
     pub(crate) fn at(&self) -> At
-        ensures { result ≡ at_in self.now.head }
+        ensures { result ≡ at_in self.now.part }
     {
-        match self.head {
-            HeadEnd::Found => At::Body,
-            HeadEnd::InLine | HeadEnd::LineStart => At::Head,
+        match self.part {
+            Part::Head => At::Head,
+            Part::Body => At::Body,
         }
     }
 
-    /// More of it came. The bytes of a body are counted, and not looked at.
-    pub(crate) fn add(&mut self, bytes: &[u8], now: Duration)
-        ensures { self.new ≡ with_bytes self.old bytes.now now }
+    /// So many bytes more of it came.
+    fn add(&mut self, count: usize)
+        ensures { self.new ≡ with_more self.old count }
     {
-        if !self.has_head() {
-            self.look_for_end(bytes, now);
-        }
-        self.brought = self.brought.saturating_add(bytes.len() as u64);
+        self.brought = self.brought.saturating_add(count as u64);
     }
 
-    // Looks for the head's end, from which on the speed of the body is measured.
-    fn look_for_end(&mut self, bytes: &[u8], now: Duration)
-        requires { has_come self.old.head ≡ false }
-        ensures { self.new ≡ looked self.old bytes.now now }
-    {
-        for byte in bytes {
-            self.head = self.head.after(*byte);
-            if self.has_head() {
-                self.measure_from(now);
-                break;
-            }
-        }
-    }
-
-    /// Measures the speed of the body anew, where it was measured for ten seconds.
+    /// Measures its speed anew, where that was measured for two seconds.
     pub(crate) fn measure(&mut self, now: Duration)
         ensures { self.new ≡ measured_anew self.old now }
     {
-        if self.has_head() && now.saturating_sub(self.begun).as_secs() >= MEASURED {
-            self.measure_from(now);
+        if now.saturating_sub(self.since).as_secs() >= MEASURED {
+            self.since = now;
+            self.brought = 0;
         }
     }
+}
 
-    fn measure_from(&mut self, now: Duration)
-        ensures { self.new ≡ measured_from self.old true now }
-    {
-        self.begun = now;
-        self.brought = 0;
-    }
+/// The request that a connection is in, which was in another one or in none, after so many bytes were taken: the session
+/// says what it is at now. Bytes of one part belong to one request, since each call takes bytes of one request alone.
+pub(crate) fn request_after(
+    request: Option<Request>,
+    at: Option<tus_session::At>,
+    count: usize,
+    now: Duration,
+) -> Option<Request>
+    ensures { result ≡ request_by request at count now }
+{
+    let part = part_at(at?)?;
+    let mut next = match request {
+        Some(request) if request.part == part => request,
+        _ => Request::new(part, now),
+    };
+    next.add(count);
+    Some(next)
+}
 
-    fn has_head(&self) -> bool
-        ensures { result ≡ has_come self.now.head }
-    {
-        self.head == HeadEnd::Found
+// The part that comes, if the session is at one.
+fn part_at(at: tus_session::At) -> Option<Part>
+    ensures { result ≡ part_at at }
+{
+    match at {
+        tus_session::At::Head => Some(Part::Head),
+        tus_session::At::Body => Some(Part::Body),
+        tus_session::At::Between | tus_session::At::Text => None,
     }
 }

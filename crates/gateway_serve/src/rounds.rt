@@ -1,8 +1,9 @@
 //! Turns of all places.
-ghost use Rattle.std.specs.Prelude.{◌≡◌, ◌≢◌, ◌⊎◌, ◌↔◌, ◌≤◌, ◌+◌, List, Bool, length};
-ghost use Rattle.std.specs.Prelude.{IfSome, IsErr, IsFalse, IsNone, IsSomeAnd, IsTrue};
+ghost use Rattle.std.specs.Prelude.{◌≡◌, ◌≢◌, ◌⊎◌, ◌↔◌, ◌<◌, ◌≤◌, ◌+◌, List, Bool, length};
+ghost use Rattle.std.specs.Prelude.{IfSome, IsErr, IsFalse, IsNone, IsSomeAnd, IsTrue, OnOk};
 ghost use Rattle.upload_rules.specs.Answers.{Counts};
 ghost use Rattle.tus_session.specs.History.{State, Marked};
+ghost use Rattle.gateway_serve.specs.Counted.{Adds, count_closed, open_in};
 ghost use Rattle.gateway_serve.specs.Joined.{AllFell, StaysJoined, AllEnded, IsFreeAt};
 ghost use Rattle.gateway_serve.specs.Longest.{BeganBy, IsLongest, pause_of, since_of};
 ghost use Rattle.gateway_serve.specs.Reasons.{StayReasoned, AtMostOnce};
@@ -10,13 +11,14 @@ ghost use Rattle.gateway_serve.specs.Served.{AllLeft};
 ghost use Rattle.gateway_serve.specs.Streams.{AllPreserve};
 ghost use Rattle.gateway_serve.specs.Turns.{NoneIsFree};
 
+use crate::drains::Drains;
 use crate::idle::Tick;
 use crate::places::{Place, Turned};
 use crate::reasons::Reason;
 use crate::sockets::Seen;
 use common::{DiskFault, Trace};
 use std::io::{Read, Write};
-use std::time::Duration;
+use std::time::{Clock, Duration};
 use tus_session::Connections;
 
 /// A turn of all places.
@@ -55,12 +57,15 @@ impl Round {
 
     // The turn of a place came to this. Where it is free now, no other is wanted.
     fn add(&mut self, turned: Turned)
-        ensures closed { turned ≡ Turned.Closed → self.new.closed ≤ self.old.closed + 1 }
+        ensures closed { turned ≡ Turned.Closed → self.old.closed < self.old.connections
+            → self.new.closed ≡ self.old.closed + 1 }
         ensures open { turned ≢ Turned.Closed → self.new.closed ≡ self.old.closed }
+        ensures connections { self.new.connections ≡ self.old.connections }
         ensures wanted { IsTrue self.new.wanted ↔ IsTrue self.old.wanted × (turned ≢ Turned.Closed) }
         ensures idle { IsFalse self.new.busy ↔ IsFalse self.old.busy × (turned ≡ Turned.Idle) }
     {
         let closed = turned == Turned::Closed;
+        let _most = self.connections;
         self.closed = self.closed.saturating_add(u64::from(closed));
         self.wanted = self.wanted && !closed;
         self.busy = self.busy || turned != Turned::Idle;
@@ -113,10 +118,12 @@ pub(crate) fn first_free<S: Read + Write + Drop>(places: &[Place<S>]) -> Option<
 }
 
 /// Each open connection has its turn, in order, until so many were closed.
-pub(crate) fn turn_each<S: Read + Write + Drop, C: Connections>(
+pub(crate) fn turn_each<S: Read + Write + Drop, C: Connections, T: Clock>(
+    clock: &T,
     places: &mut [Place<S>],
     gateway: &mut C,
     ended: &mut Trace<Seen>,
+    drains: &mut Drains<S>,
     round: &mut Round,
 ) -> Result<(), DiskFault>
     ensures streams { AllPreserve S.remaining S.contents places.old places.new ended.old.items ended.new.items }
@@ -124,13 +131,19 @@ pub(crate) fn turn_each<S: Read + Write + Drop, C: Connections>(
     ensures serves { StaysJoined C.Connections gateway.old gateway.new result places.old places.new
         ended.old.items ended.new.items }
     ensures counts { Counts (IsErr result) (C.failures gateway.old) (C.failures gateway.new) }
-    ensures closed { round.old.closed ≤ length ended.old.items → round.new.closed ≤ length ended.new.items }
+    ensures kept { Adds places.old places.new ended.old.items ended.new.items }
+
+    // Serving stops once so many were closed.
+    ensures closed { round.old.closed ≡ length ended.old.items → length ended.old.items ≤ round.old.connections
+        → OnOk result (round.new.closed ≡ length ended.new.items) }
+    ensures stops { round.old.closed ≡ length ended.old.items → length ended.old.items ≤ round.old.connections
+        → length ended.new.items ≤ round.old.connections }
 {
     for (conn, place) in places.iter_mut().enumerate() {
         if round.closed == round.connections {
             return Ok(());
         }
-        match place.turn(gateway, conn, round.tick(conn), ended) {
+        match place.turn(clock, gateway, conn, round.tick(conn), ended, drains) {
             Ok(turned) => round.add(turned),
             Err(fault) => return Err(fault),
         }
@@ -146,7 +159,10 @@ pub(crate) fn end_each<S: Read + Write + Drop, C: Connections>(
 ) -> Result<(), DiskFault>
     ensures streams { AllPreserve S.remaining S.contents places.old places.new ended.old.items ended.new.items }
     ensures once { AtMostOnce ended.old.items ended.new.items }
+    ensures kept { Adds places.old places.new ended.old.items ended.new.items }
     ensures more { length ended.old.items ≤ length ended.new.items }
+    ensures none { OnOk result (open_in places.new ≡ 0) }
+    ensures before { count_closed ended.new.items ≡ count_closed ended.old.items }
     ensures serves { AllEnded C.Connections gateway.old gateway.new result places.old places.new
         ended.old.items ended.new.items }
     ensures counts { Counts (IsErr result) (C.failures gateway.old) (C.failures gateway.new) }
@@ -164,10 +180,12 @@ pub(crate) fn end_each<S: Read + Write + Drop, C: Connections>(
 pub(crate) fn free_each<S: Read + Write + Drop>(places: &mut [Place<S>], ended: &mut Trace<Seen>)
     ensures streams { AllPreserve S.remaining S.contents places.old places.new ended.old.items ended.new.items }
     ensures once { AtMostOnce ended.old.items ended.new.items }
+    ensures kept { length ended.new.items ≡ length ended.old.items + open_in places.old }
+    ensures before { count_closed ended.new.items ≡ count_closed ended.old.items }
     ensures left { (sure : Bool) (st : State) (past : List Marked)
         → AllFell sure places.old ended.old.items st past → AllLeft sure ended.new.items st past }
 {
     for (conn, place) in places.iter_mut().enumerate() {
-        place.free(conn, Reason::Over, ended);
+        drop(place.free(conn, Reason::Over, ended));
     }
 }

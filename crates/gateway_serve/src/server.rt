@@ -1,17 +1,19 @@
 //! A server: the connections that are open, and the listener's clients.
 ghost use Rattle.std.specs.Prelude.{◌≡◌, ◌↔◌, ◌<◌, ◌≤◌, ◌+◌, ◌^◌, ℕ, List, [], Bool, is_some, length};
-ghost use Rattle.std.specs.Prelude.{IfSome, IsErr, IsFalse, IsNone, IsTrue, None};
+ghost use Rattle.std.specs.Prelude.{IfSome, IsErr, IsFalse, IsNone, IsTrue, None, OnOk};
 ghost use Rattle.upload_rules.specs.Answers.{Counts};
-ghost use Rattle.gateway_serve.specs.Acceptors.{HasServed, LetsInBy, one_when};
+ghost use Rattle.gateway_serve.specs.Acceptors.{HasServed, LetsInBy, TakesTurns, one_when};
+ghost use Rattle.gateway_serve.specs.Counted.{count_closed, open_in};
 ghost use Rattle.gateway_serve.specs.Joined.{StaysJoined, AllEnded, LetsGo, IsFreeAt, SamePlaces, ended_of, places_of};
 ghost use Rattle.gateway_serve.specs.Longest.{IsLongest};
 ghost use Rattle.gateway_serve.specs.Reasons.{AllReasoned, StayReasoned, EndsReasoned, IsLeftReasoned};
 ghost use Rattle.gateway_serve.specs.Streams.{AllHave, AllHad, AllPreserve};
-ghost use Rattle.gateway_serve.specs.Turns.{HasRoom, IsUnvisited, HasNoPlace, NoneIsFree, RestStays, closed_of};
-ghost use Rattle.gateway_serve.specs.Turns.{door_of};
+ghost use Rattle.gateway_serve.specs.Turns.{HasRoom, IsCounted, IsUnvisited, HasNoPlace, NoneIsFree, RestStays};
+ghost use Rattle.gateway_serve.specs.Turns.{closed_of, door_of, opened_by};
 
 use crate::acceptors::Acceptor;
 use crate::doors::Door;
+use crate::drains::Drains;
 use crate::idle::{Watch, time};
 use crate::places::{Place, unless_failed};
 use crate::rounds::{Round, end_each, first_free, free_each, longest_pause, turn_each};
@@ -19,6 +21,7 @@ use crate::sockets::{Seen, Untouched};
 use common::{DiskFault, Trace};
 use std::alloc::Global;
 use std::io::{Read, Write};
+use std::net::OpenStream;
 use std::thread;
 use std::time::Clock;
 use tus_session::{Connections, MOST_OPEN};
@@ -31,25 +34,29 @@ pub(crate) struct Server<S> {
     /// By the connections' numbers. There are at most `MOST_OPEN` places; another one is made when it is needed.
     places: Vec<Place<S>>,
     pub(crate) ended: Trace<Seen>,
+    /// the sockets of connections that the session closed
+    drains: Drains<S>,
     closed: u64,
     /// whether anything was done in the latest turn
     busy: bool,
     watch: Watch,
 }
 
-impl<S: Read + Write + Drop> Server<S> {
+impl<S: Read + Write + OpenStream + Drop> Server<S> {
     /// No connection is open, and no client came.
     pub(crate) fn new(alloc: Global, watch: Watch) -> Self
         ensures places { places_of result ≡ [] }
         ensures ended { ended_of result ≡ [] }
         ensures clients { (before : List Bool) → LetsInBy before before 0 (door_of result) }
         ensures closed { closed_of result ≡ 0 }
+        ensures opened { opened_by result ≡ 0 }
     {
         Server {
             alloc,
-            door: Door::new(),
+            door: Door::new(watch.now),
             places: Vec::new(alloc),
             ended: Trace::new(),
+            drains: Drains::new(alloc),
             closed: 0,
             busy: false,
             watch,
@@ -101,12 +108,15 @@ impl<S: Read + Write + Drop> Server<S> {
         ensures serves { AllEnded C.Connections gateway.old gateway.new result (places_of self.old) (places_of self.new)
             (ended_of self.old) (ended_of self.new) }
         ensures counts { Counts (IsErr result) (C.failures gateway.old) (C.failures gateway.new) }
-        ensures clients { HasServed (A.answers acceptor.old) (A.answers acceptor.new) turns connections
+        ensures clients { TakesTurns (A.answers acceptor.old) (A.answers acceptor.new) turns connections
             (door_of self.new).clients (ended_of self.new) (IsErr result) }
+        ensures counted { IsCounted self.new }
+        ensures none { OnOk result (open_in (places_of self.new) ≡ 0) }
+        ensures stops { count_closed (ended_of self.new) ≤ connections }
     {
         let mut left = turns;
         while left > 0 && self.closed < connections {
-            self.turn(acceptor, gateway, connections)?;
+            self.turn(clock, acceptor, gateway, connections)?;
             if let Some(rest) = self.watch.rest(time(clock), self.busy) {
                 thread::sleep(clock, rest);
             }
@@ -115,9 +125,11 @@ impl<S: Read + Write + Drop> Server<S> {
         end_each(&mut self.places, gateway, &mut self.ended)
     }
 
-    // A turn: the listener's, then that of the client who waits, and then each connection's, in order.
-    fn turn<A: Acceptor<Stream = S>, C: Connections>(
+    // A turn: the listener's, then that of the client who waits, then each connection's, in order, and then that of the
+    // sockets that drain.
+    fn turn<A: Acceptor<Stream = S>, C: Connections, T: Clock>(
         &mut self,
+        clock: &T,
         acceptor: &mut A,
         gateway: &mut C,
         connections: u64,
@@ -134,15 +146,26 @@ impl<S: Read + Write + Drop> Server<S> {
         ensures clients { (before : List Bool) (turns : ℕ)
             → LetsInBy before (A.answers acceptor.old) turns (door_of self.old)
             → LetsInBy before (A.answers acceptor.new) (turns + 1) (door_of self.new) }
-        ensures closed { closed_of self.old ≤ length (ended_of self.old)
-            → closed_of self.new ≤ length (ended_of self.new) }
+        ensures counted { IsCounted self.old → IsCounted self.new }
+        ensures closed { closed_of self.old ≡ length (ended_of self.old) → length (ended_of self.old) ≤ connections
+            → OnOk result (closed_of self.new ≡ length (ended_of self.new)) }
+        ensures stops { closed_of self.old ≡ length (ended_of self.old) → length (ended_of self.old) ≤ connections
+            → length (ended_of self.new) ≤ connections }
     {
         let opened = self.door.clients.opened;
-        self.door.ask(acceptor, self.busy);
+        self.door.ask(acceptor, self.busy, self.watch.now);
         self.seat(gateway)?;
         let mut round = self.round(opened, connections);
-        let taken = turn_each(&mut self.places, gateway, &mut self.ended, &mut round);
-        self.busy = round.busy;
+        let taken = turn_each(
+            clock,
+            &mut self.places,
+            gateway,
+            &mut self.ended,
+            &mut self.drains,
+            &mut round,
+        );
+        let flows = self.drains.turn(self.watch.now, self.busy);
+        self.busy = round.busy || flows;
         self.closed = round.closed;
         taken
     }
@@ -192,6 +215,7 @@ impl<S: Read + Write + Drop> Server<S> {
             → NoneIsFree (places_of self.new) × HasNoPlace self.old }
         ensures ended { ended_of self.new ≡ ended_of self.old }
         ensures closed { closed_of self.new ≡ closed_of self.old }
+        ensures counted { IsCounted self.old → IsCounted self.new }
     {
         let Some((conn, socket)) = self.next_place() else {
             return Ok(());
@@ -213,6 +237,7 @@ impl<S: Read + Write + Drop> Server<S> {
     fn next_place(&mut self) -> Option<(usize, Untouched<S>)>
         ensures free { IfSome result (λ next. IsFreeAt (places_of self.new) next.0) }
         ensures same { SamePlaces (places_of self.old) (places_of self.new) }
+        ensures open { open_in (places_of self.new) ≡ open_in (places_of self.old) }
         ensures rest { RestStays self.old self.new }
         ensures waits { one_when (is_some (door_of self.old).waiting)
             ≡ one_when (is_some result) + one_when (is_some (door_of self.new).waiting) }
@@ -231,6 +256,7 @@ impl<S: Read + Write + Drop> Server<S> {
         ensures free { IfSome result (λ conn. IsFreeAt (places_of self.new) conn) }
         ensures none { IsNone result → NoneIsFree (places_of self.new) × HasNoPlace self.old }
         ensures same { SamePlaces (places_of self.old) (places_of self.new) }
+        ensures open { open_in (places_of self.new) ≡ open_in (places_of self.old) }
         ensures door { door_of self.new ≡ door_of self.old }
         ensures ended { ended_of self.new ≡ ended_of self.old }
         ensures closed { closed_of self.new ≡ closed_of self.old }
@@ -246,15 +272,18 @@ impl<S: Read + Write + Drop> Server<S> {
         ensures free { IfSome result (λ conn. IsFreeAt (places_of self.new) conn) }
         ensures none { IsNone result → (places_of self.new ≡ places_of self.old) × HasNoPlace self.old }
         ensures same { SamePlaces (places_of self.old) (places_of self.new) }
+        ensures open { open_in (places_of self.new) ≡ open_in (places_of self.old) }
         ensures door { door_of self.new ≡ door_of self.old }
         ensures ended { ended_of self.new ≡ ended_of self.old }
         ensures closed { closed_of self.new ≡ closed_of self.old }
     {
         let conn = self.places.len();
-        if conn < MOST_OPEN && self.places.push(Place::Free).is_ok() {
-            Some(conn)
-        } else {
-            None
+        if conn >= MOST_OPEN {
+            return None;
+        }
+        match self.places.push(Place::Free) {
+            Ok(()) => Some(conn),
+            Err(_) => None,
         }
     }
 }

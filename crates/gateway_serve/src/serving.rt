@@ -15,6 +15,7 @@ use crate::sockets::Seen;
 use common::{DiskFault, Trace};
 use std::alloc::Global;
 use std::io::{Read, Write};
+use std::net::OpenStream;
 use std::time::Clock;
 use tus_session::Connections;
 
@@ -34,19 +35,27 @@ pub struct Outcome<C> {
 ///
 /// Each turn asks the listener for a client, which gets a connection if fewer than `MOST_OPEN` are open. Then it goes
 /// on at each open connection, in order. If something is left to write, it is written; else, if a text is pending, its
-/// next piece is asked for; else up to 4,096 bytes are read and given to the session. A socket that fails or is at its
-/// end ends its connection. So does a socket over which nothing came or went for a minute, or whose request's head
-/// isn't whole after one. A connection that the session closed is closed once all is written. At the end the open
-/// connections are ended.
+/// next piece is asked for; else up to 4,096 bytes are read and given to the session, and what it gives is written. A
+/// socket that fails or is at its end ends its connection. So does a socket over which nothing came or went for a
+/// minute, or whose request's head isn't whole after one; the body of a request that was refused is a body as any other.
+/// At the end the open connections are ended.
 ///
-/// If all are open, one more client is taken in and waits for a place. Meanwhile a connection whose socket has nothing
-/// to do gives way: the one that has been between requests longest, after 20 milliseconds; any between requests that
-/// has had its place for ten seconds; a head that isn't whole after ten seconds; a body that brought less than 4,096
-/// bytes a second for ten seconds. A reply never does. A socket that still waits when serving ends is closed.
+/// A connection that the session closed is closed once all is written, and its place is free. Its socket drains: the
+/// writing side is shut down, and what still comes is read and dropped (RFC 9112, section 9.6), so that the client
+/// doesn't lose the reply to a reset. The socket is let go at its end, after two seconds in which nothing came, after
+/// ten if something came before, after 1,073,741,824 bytes, once 64 others were closed after it, and at the end.
+///
+/// If all are open, one more client is taken in and waits for a place. Meanwhile a connection gives way. One whose
+/// socket has nothing to do: the one that has been between requests longest, after 20 milliseconds; any between requests
+/// that has had its place for ten seconds; a head or a body that brought less than 4,096 bytes a second for two seconds.
+/// And a body that has come for ten seconds, however fast. A reply never does. A socket that still waits when serving
+/// ends is closed.
 ///
 /// While there is something to do, the listener and each connection that had nothing are passed over in more and more
-/// turns, in at most 31 one after the other. A connection whose time is over is ended as much later. Where 65,536 bytes
-/// wait for a socket, nothing more is taken of it.
+/// turns, in at most 31 one after the other and for at most some 10 milliseconds. A connection whose time is over is
+/// ended as much later. In a turn that has taken 10 milliseconds the session is called once for each connection that
+/// follows, so it takes as long as one commit of each. Where 65,536 bytes wait for a socket, nothing more is taken of
+/// it.
 ///
 /// After turns in which no socket had anything to do it rests, at most 10 milliseconds.
 pub fn serve_on<A: Acceptor, C: Connections, T: Clock>(
@@ -58,7 +67,7 @@ pub fn serve_on<A: Acceptor, C: Connections, T: Clock>(
     turns: u64,
 ) -> Outcome<C>
 where
-    A::Stream: Read + Write + Drop,
+    A::Stream: Read + Write + OpenStream + Drop,
 
     // The gateway is where the history of some events is. After a disk fault only its images are known. If the disk is
     // known to be honest, they show the uploads after these events, and the bytes given of a text are the text's. Over
@@ -76,8 +85,10 @@ where
         (AllServed sure result.ended.items st) (AllLeft sure result.ended.items st) }
     ensures counts { Counts (IsErr result.served) (C.failures gateway) (C.failures result.gateway) }
 
-    // Each of these sockets had a stream of its own, as it was accepted. That was read and written and nothing else:
-    // what the reads gave is what came, what the writes took is what went, and the latest of these calls answered so.
+    // Each of these sockets had a stream of its own, as it was accepted. Until its connection was closed that was read
+    // and written and nothing else: what the reads gave is what came, what the writes took is what went, and the latest
+    // of these calls answered so. What comes behind the last reply of a connection that the session closed is dropped,
+    // however much it is.
     ensures streams { AllHad A.Stream.remaining A.Stream.contents result.ended.items }
 
     // Each of them ended for the reason that it has:
@@ -88,9 +99,10 @@ where
     // - serving was over: at most one for each number of a connection, and one more if the disk failed.
     ensures reasons { IsLeftReasoned result.ended.items }
 
-    // Each client that the listener gave got a connection, or was refused one by the session, or waited for a place at
-    // the end, which one does at most. Unless the disk failed or so many connections were closed before, it took so
-    // many turns: in at least every 32nd in which no client waited it asked the listener.
+    // Each client that the listener gave got a connection, which is one of these sockets, or was refused one by the
+    // session, or waited for a place at the end, which one does at most. Unless the disk failed or so many connections
+    // were closed before, it took so many turns, and no more connections were closed than that: in at least every 32nd
+    // turn in which no client waited it asked the listener.
     ensures clients { HasServed (A.answers acceptor.old) (A.answers acceptor.new) turns connections result.clients
         result.ended.items (IsErr result.served) }
 {

@@ -158,20 +158,28 @@ pub struct Seen {
     pub reason: Reason,
 }
 
-impl<S: Drop> Socket<S> {
-    ghost use Rattle.gateway_serve.specs.Bytes.{current};
+impl<S> Socket<S> {
+    ghost use Rattle.gateway_serve.specs.Bytes.{current, stream_of};
 
-    /// What is seen of the socket, which served the connection with this number and ends for this reason. Nothing comes
-    /// or goes over it any more.
-    pub(crate) fn ended(self, conn: usize, reason: Reason) -> Seen
-        ensures { result ≡ current conn self reason }
+    /// What is seen of the socket, which served the connection with this number and ends for this reason, and its
+    /// stream. No byte of the connection comes or goes over it any more.
+    pub(crate) fn ended(self, conn: usize, reason: Reason) -> (Seen, S)
+        ensures seen { result.0 ≡ current conn self reason }
+        ensures stream { result.1 ≡ stream_of self }
     {
-        Seen {
+        let Socket {
+            stream,
+            came,
+            went,
+            latest,
+        } = self;
+        let seen = Seen {
             conn,
-            came: self.came,
-            went: self.went,
-            latest: self.latest,
+            came,
+            went,
+            latest,
             reason,
-        }
+        };
+        (seen, stream)
     }
 }

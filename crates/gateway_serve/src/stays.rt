@@ -7,10 +7,13 @@ use std::time::Duration;
 /// A connection is ended once nothing came or went for so many seconds, and once a head isn't whole after so many.
 const LONGEST_IDLE: u64 = 60;
 
-/// So many seconds a connection has its place at least, and a request may be slow, while a socket waits for a place.
+/// So many seconds a connection that isn't slow has its place, or a body comes, while a socket waits for a place.
 const SHORTEST_STAY: u64 = 10;
 
-/// So many bytes a second a body brings that isn't slow.
+/// For so many seconds a request may be slow while a socket waits for a place.
+const LONGEST_SLOW: u64 = 2;
+
+/// So many bytes a second a request brings that isn't slow.
 const LEAST_SPEED: u64 = 4096;
 
 /// For so many milliseconds at least a connection may be between requests.
@@ -42,17 +45,19 @@ pub struct Stay {
     pub opened: Duration,
     /// When something last came or went.
     pub moved: Duration,
-    /// When its request's head began, or since when the speed of its body is measured.
+    /// When the head or the body that comes began.
     pub begun: Duration,
-    /// How many bytes of the request came since then.
+    /// Since when its speed is measured.
+    pub since: Duration,
+    /// How many bytes of it came since then.
     pub brought: u64,
     /// The time.
     pub time: Duration,
 }
 
 impl Stay {
-    /// Whether the connection is ended where its socket has nothing to do: its time is over whatever the others do, or
-    /// it gives its place to a socket that waits.
+    /// Whether the connection is ended: its time is over whatever the others do, or it gives its place to a socket that
+    /// waits.
     pub(crate) fn is_over(&self) -> bool
         ensures { IsTrue result ↔ IsOver self.now }
     {
@@ -64,7 +69,7 @@ impl Stay {
         ensures { IsTrue result ↔ HasIdled self.now }
     {
         match self.at {
-            At::Head => self.measured() >= LONGEST_IDLE,
+            At::Head => seconds_from(self.begun, self.time) >= LONGEST_IDLE,
             At::Between | At::Body | At::Reply => seconds_from(self.moved, self.time)
                 >= LONGEST_IDLE,
         }
@@ -77,8 +82,8 @@ impl Stay {
         match self.at {
             At::Between => self.has_paused()
                 || seconds_from(self.opened, self.time) >= SHORTEST_STAY,
-            At::Head => self.measured() >= SHORTEST_STAY,
-            At::Body => self.is_slow(),
+            At::Head => self.is_slow(),
+            At::Body => self.is_slow() || seconds_from(self.begun, self.time) >= SHORTEST_STAY,
             At::Reply => false,
         }
     }
@@ -94,15 +99,8 @@ impl Stay {
     fn is_slow(&self) -> bool
         ensures { IsTrue result ↔ IsSlow self.now }
     {
-        let seconds = self.measured();
-        seconds >= SHORTEST_STAY && self.brought / LEAST_SPEED < seconds
-    }
-
-    // For how many seconds its request has been measured.
-    fn measured(&self) -> u64
-        ensures { result ≡ seconds_from self.now.begun self.now.time }
-    {
-        seconds_from(self.begun, self.time)
+        let seconds = seconds_from(self.since, self.time);
+        seconds >= LONGEST_SLOW && self.brought / LEAST_SPEED < seconds
     }
 }
 

@@ -22,6 +22,13 @@ const EXPECTS: &[u8] =
 PATCH /files/1 HTTP/1.1\r\nTus-Resumable: 1.0.0\r\nContent-Type: application/offset+octet-stream\r\n\
 Upload-Offset: 0\r\nContent-Length: 200000\r\nExpect: 100-continue\r\n\r\n";
 
+/// A PATCH of 200,000 bytes for an upload that isn't there.
+const REFUSED: &[u8] = b"PATCH /files/1 HTTP/1.1\r\nTus-Resumable: 1.0.0\r\n\
+Content-Type: application/offset+octet-stream\r\nUpload-Offset: 0\r\nContent-Length: 200000\r\n\r\n";
+
+/// Two empty lines, and a head that isn't whole.
+const EMPTY_LINES: &[u8] = b"\r\n\r\nOPTIONS /files HTTP/1.1\r\n";
+
 /// The first client: the bytes that it sends first, those that it sends later, and whether it reads its replies.
 type First<'a> = (&'a [u8], &'a [u8], bool);
 
@@ -66,27 +73,34 @@ const COMERS: u64 = MOST_OPEN as u64 + 1;
 
 /// Each row: the first client, how many microseconds a turn takes, how many turns there are, and whether the last
 /// client gets a reply within them.
-static KEEPERS: [(First, u64, u64, bool); 17] = [
+static KEEPERS: [(First, u64, u64, bool); 22] = [
     // It is idle between two requests: 20 milliseconds.
     ((OPTIONS, b"", true), 10 * MILLIS, COMERS, false),
     ((OPTIONS, b"", true), 10 * MILLIS, COMERS + 3, true),
     // It sends one request after another: ten seconds.
     ((OPTIONS, OPTIONS, true), 10 * MILLIS, 1000, false),
     ((OPTIONS, OPTIONS, true), 10 * MILLIS, 1010, true),
-    // It doesn't finish a head: ten seconds.
-    ((HALF_A_HEAD, b"", true), 100 * MILLIS, 100, false),
-    ((HALF_A_HEAD, b"", true), 100 * MILLIS, 110, true),
-    ((HALF_A_HEAD, b"a", true), 100 * MILLIS, 100, false),
-    ((HALF_A_HEAD, b"a", true), 100 * MILLIS, 110, true),
-    // It sends no bytes of a body, one byte at a time, or none after `100 Continue`: ten seconds.
-    ((BODY, b"", true), 100 * MILLIS, 100, false),
-    ((BODY, b"", true), 100 * MILLIS, 110, true),
-    ((BODY, b"a", true), 100 * MILLIS, 100, false),
-    ((BODY, b"a", true), 100 * MILLIS, 110, true),
-    ((EXPECTS, b"", true), 100 * MILLIS, 100, false),
-    ((EXPECTS, b"", true), 100 * MILLIS, 110, true),
-    // It sends 5,120 bytes of a body a second: it has its place until the body ends.
-    ((BODY, &[b'a'; 1024], true), 100 * MILLIS, 250, false),
+    // It doesn't finish a head: two seconds.
+    ((HALF_A_HEAD, b"", true), 100 * MILLIS, COMERS + 2, false),
+    ((HALF_A_HEAD, b"", true), 100 * MILLIS, 30, true),
+    ((HALF_A_HEAD, b"a", true), 100 * MILLIS, COMERS + 2, false),
+    ((HALF_A_HEAD, b"a", true), 100 * MILLIS, 30, true),
+    // It sends no bytes of a body, one byte at a time, or none after `100 Continue`: two seconds.
+    ((BODY, b"", true), 100 * MILLIS, COMERS + 2, false),
+    ((BODY, b"", true), 100 * MILLIS, 30, true),
+    ((BODY, b"a", true), 100 * MILLIS, COMERS + 2, false),
+    ((BODY, b"a", true), 100 * MILLIS, 30, true),
+    ((EXPECTS, b"", true), 100 * MILLIS, COMERS + 2, false),
+    ((EXPECTS, b"", true), 100 * MILLIS, 30, true),
+    // It sends 5,120 bytes of a body a second: ten seconds.
+    ((BODY, &[b'a'; 1024], true), 100 * MILLIS, 100, false),
+    ((BODY, &[b'a'; 1024], true), 100 * MILLIS, 110, true),
+    // The body of a refused request comes as slowly: it is no head, and has as long.
+    ((REFUSED, &[b'a'; 1024], true), 100 * MILLIS, 100, false),
+    ((REFUSED, &[b'a'; 1024], true), 100 * MILLIS, 110, true),
+    // Empty lines before a head belong to it: two seconds, and a minute where nobody waits.
+    ((EMPTY_LINES, b"a", true), 100 * MILLIS, COMERS + 2, false),
+    ((EMPTY_LINES, b"a", true), 100 * MILLIS, 30, true),
     // It doesn't read a reply: a minute.
     ((OPTIONS, b"", false), 100 * MILLIS, 600, false),
     ((OPTIONS, b"", false), 100 * MILLIS, 620, true),

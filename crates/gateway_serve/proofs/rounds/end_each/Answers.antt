@@ -3,6 +3,7 @@ use Rattle.tus_session.proofs.Counting.{uncounted}
 use Rattle.gateway_serve.specs.Reasons.{none}
 use Rattle.gateway_serve.proofs.All.{among_all, all_served, free_before}
 use Rattle.gateway_serve.proofs.Carries.{among_preserve}
+use Rattle.gateway_serve.proofs.Counted.{adds_on, count_with, free_adds, none_open}
 use Rattle.gateway_serve.proofs.Lost.{ended_once, more_ended}
 use Rattle.gateway_serve.specs.declared.reasons.Reason.TheVariants.{Over}
 use Rattle.gateway_serve.proofs.rounds.end_each.Goals as goal
@@ -28,6 +29,8 @@ loop-conn-init g c = (
   λ k lt. absurd (omega (arith, lt)),
   none,
   omega arith,
+  refl,
+  refl,
 )
 
 pub loop-conn-preserved : goal.loop-conn-preserved
@@ -53,7 +56,35 @@ loop-conn-preserved g c =
             (get_or c.loop-conn.places c.loop-conn.conn c.index-places-conn.result) c.loop-conn.ended.items
             c.end.new.ended.items c.end.ensures.ended,
       ),
+      adds_on _ c.loop-conn.places c.loop-conn.conn c.index-places-conn.result c.end.new.self _
+          c.loop-conn.ended.items c.end.new.ended.items inside c.loop-conn.invariant.6
+          (free_adds c.end.new.self _ _ _ c.end.ensures.free c.end.ensures.kept),
+      count_with c.loop-conn.conn (get_or c.loop-conn.places c.loop-conn.conn c.index-places-conn.result)
+          c.loop-conn.ended.items c.end.new.ended.items c.end.ensures.ended ∙ c.loop-conn.invariant.7,
     )
+
+pub returns-in-Err-clause-kept : goal.returns-in-Err-clause-kept
+returns-in-Err-clause-kept g c =
+    adds_on _ c.loop-conn.places c.loop-conn.conn c.index-places-conn.result c.end.new.self _ c.loop-conn.ended.items
+    c.end.new.ended.items (omega (arith, c.loop-conn-test.true, c.loop-conn.auto.places)) c.loop-conn.invariant.6
+    (free_adds c.end.new.self _ _ _ c.end.ensures.free c.end.ensures.kept)
+
+pub returns-in-Err-clause-before : goal.returns-in-Err-clause-before
+returns-in-Err-clause-before g c =
+    count_with c.loop-conn.conn (get_or c.loop-conn.places c.loop-conn.conn c.index-places-conn.result)
+    c.loop-conn.ended.items c.end.new.ended.items c.end.ensures.ended ∙ c.loop-conn.invariant.7
+
+pub returns-clause-kept : goal.returns-clause-kept
+returns-clause-kept g c = c.loop-conn.invariant.6
+
+pub returns-clause-before : goal.returns-clause-before
+returns-clause-before g c = c.loop-conn.invariant.7
+
+pub returns-clause-none : goal.returns-clause-none
+returns-clause-none g c =
+    let most : length c.loop-conn.places ≤ c.loop-conn.conn =
+    omega (arith, c.loop-conn-test.false, c.loop-conn.auto.places) in
+    none_open c.loop-conn.places (λ k inside. c.loop-conn.invariant.3 k (omega (arith, inside, most)))
 
 pub returns-clause-serves : goal.returns-clause-serves
 returns-clause-serves g c = λ sure before st past went joins.

@@ -1,5 +1,6 @@
 use Rattle.std.proofs.Common.{◌≡◌, ◌<◌, ◌≤◌, ℕ, get_or, length, Result, Ok}
 use Rattle.common.specs.declared.stop.DiskFault.{DiskFault}
+use Rattle.gateway_serve.specs.Counted.{Adds, count_closed}
 use Rattle.gateway_serve.specs.Joined.{StaysJoined}
 use Rattle.gateway_serve.specs.Streams.{AllPreserve}
 use Rattle.gateway_serve.specs.Reasons.{EndedOnce}
@@ -15,3 +16,5 @@ invariant-loop-conn g l =
     × ((k : ℕ) → k < l.conn → get_or l.places k Free ≡ Free)
     × EndedOnce l.fn.ended.items l.conn l.ended.items
     × (length l.fn.ended.items ≤ length l.ended.items)
+    × Adds l.fn.places l.places l.fn.ended.items l.ended.items
+    × (count_closed l.ended.items ≡ count_closed l.fn.ended.items)

@@ -1,5 +1,7 @@
-use Rattle.std.proofs.Common.{◌<◌, ◌≤◌, get_or, length, arith}
-use Rattle.gateway_serve.proofs.All.{none_left, all_left, one_more_left}
+use Rattle.std.proofs.Common.{◌≡◌, ◌<◌, ◌≤◌, ◌∙◌, get_or, length, refl, arith}
+use Rattle.gateway_serve.specs.Counted.{open_in}
+use Rattle.gateway_serve.proofs.All.{none_left, all_left, one_more_left, free_before}
+use Rattle.gateway_serve.proofs.Counted.{adds_on, count_with, free_adds, none_open}
 use Rattle.gateway_serve.specs.Reasons.{none}
 use Rattle.gateway_serve.proofs.Carries.{among_preserve}
 use Rattle.gateway_serve.proofs.Lost.{ended_once}
@@ -10,6 +12,9 @@ loop-conn-init g c = (
   λ sure st past all. none_left sure c.args.places.now c.args.ended.now.items st past all,
   λ have had. (have, had),
   none,
+  refl,
+  refl,
+  λ k less. absurd (omega (arith, less)),
 )
 
 pub loop-conn-preserved : goal.loop-conn-preserved
@@ -26,7 +31,25 @@ loop-conn-preserved g c =
       ended_once c.args.ended.now.items c.loop-conn.conn
           (get_or c.loop-conn.places c.loop-conn.conn c.index-places-conn.result) c.loop-conn.ended.items
           c.free.new.ended.items c.free.ensures.ended c.loop-conn.invariant.2,
+      adds_on _ c.loop-conn.places c.loop-conn.conn c.index-places-conn.result c.free.new.self _
+          c.loop-conn.ended.items c.free.new.ended.items inside c.loop-conn.invariant.3
+          (free_adds c.free.new.self _ _ _ c.free.ensures.free c.free.ensures.kept),
+      count_with c.loop-conn.conn (get_or c.loop-conn.places c.loop-conn.conn c.index-places-conn.result)
+          c.loop-conn.ended.items c.free.new.ended.items c.free.ensures.ended ∙ c.loop-conn.invariant.4,
+      free_before c.loop-conn.conn c.loop-conn.places c.free.new.self inside c.free.ensures.free
+          c.loop-conn.invariant.5,
     )
+
+pub returns-clause-kept : goal.returns-clause-kept
+returns-clause-kept g c =
+    let most : length c.loop-conn.places ≤ c.loop-conn.conn =
+    omega (arith, c.loop-conn-test.false, c.loop-conn.auto.places) in
+    let free : open_in c.loop-conn.places ≡ 0 =
+    none_open c.loop-conn.places (λ k inside. c.loop-conn.invariant.5 k (omega (arith, inside, most))) in
+    omega (arith, c.loop-conn.invariant.3, free)
+
+pub returns-clause-before : goal.returns-clause-before
+returns-clause-before g c = c.loop-conn.invariant.4
 
 pub returns-clause-left : goal.returns-clause-left
 returns-clause-left g c = λ sure st past all.

@@ -1,8 +1,10 @@
-use Rattle.std.proofs.Common.{Bool, List}
+use Rattle.std.proofs.Common.{◌≡◌, ◌<◌, ℕ, Bool, List, get_or}
 use Rattle.tus_session.specs.History.{State, Marked}
+use Rattle.gateway_serve.specs.Counted.{Adds, count_closed}
 use Rattle.gateway_serve.specs.Joined.{AllFell}
 use Rattle.gateway_serve.specs.Streams.{AllPreserve}
 use Rattle.gateway_serve.specs.Reasons.{EndedOnce}
+use Rattle.gateway_serve.specs.declared.places.Place.TheVariants.{Free}
 use Rattle.gateway_serve.proofs.All.{HalfLeft}
 use Rattle.gateway_serve.proofs.rounds.free_each.Given as goal
 
@@ -12,3 +14,6 @@ invariant-loop-conn g l =
     → HalfLeft sure l.conn l.places l.ended.items st past)
     × AllPreserve g.S.Read.remaining g.S.Write.contents l.fn.places l.places l.fn.ended.items l.ended.items
     × EndedOnce l.fn.ended.items l.conn l.ended.items
+    × Adds l.fn.places l.places l.fn.ended.items l.ended.items
+    × (count_closed l.ended.items ≡ count_closed l.fn.ended.items)
+    × ((k : ℕ) → k < l.conn → get_or l.places k Free ≡ Free)

@@ -1,10 +1,10 @@
-use Rattle.std.proofs.Common.{Ok, Err, ◌∙◌, ap, arith}
+use Rattle.std.proofs.Common.{Ok, Err, ◌∙◌, ap, sym, arith, get_or, length}
 use Rattle.std.proofs.lemmas.List.{set-get_or}
 use Rattle.tus_session.proofs.Counting.{uncounted}
 use Rattle.gateway_serve.specs.declared.places.Turned.{Turned}
 use Rattle.gateway_serve.proofs.All.{among_all}
 use Rattle.gateway_serve.proofs.Carries.{among_preserve}
-use Rattle.gateway_serve.proofs.Lost.{closed_ended}
+use Rattle.gateway_serve.proofs.Counted.{adds_on, closes, still_most}
 use Rattle.gateway_serve.proofs.rounds.turn_each.Goals as goal
 
 pub returns-then-round-clause-serves : goal.returns-then-round-clause-serves
@@ -49,7 +49,33 @@ loop-conn-preserved g c = (
       c.index-places-conn.result c.turn.new.self _ c.loop-conn.ended.items c.turn.new.ended.items
       c.loop-conn.invariant.2 (omega (arith, c.loop-conn-test.true, c.loop-conn.auto.places)) c.turn.ensures.streams,
   λ all. c.turn.ensures.reasons (c.loop-conn.invariant.3 all),
-  λ few. closed_ended c.in-Ok.turned c.loop-conn.round.closed c.add.new.self.closed c.loop-conn.ended.items
-      c.turn.new.ended.items c.turn.ensures.more (λ e. c.in-Ok.ensures.closed (ap Ok e)) c.add.ensures.closed
-      c.add.ensures.open (c.loop-conn.invariant.4 few),
+  adds_on _ c.loop-conn.places c.loop-conn.conn c.index-places-conn.result c.turn.new.self _ c.loop-conn.ended.items
+      c.turn.new.ended.items (omega (arith, c.loop-conn-test.true, c.loop-conn.auto.places)) c.loop-conn.invariant.4
+      c.turn.ensures.kept,
+  c.add.ensures.connections ∙ c.loop-conn.invariant.5,
+  λ same most.
+      let now = c.loop-conn.invariant.6 same most in
+      closes c.in-Ok.turned c.loop-conn.round.closed c.add.new.self.closed (length c.loop-conn.ended.items)
+      (length c.turn.new.ended.items) c.args.round.now.connections
+      (λ e. c.if-round.false (e ∙ sym c.loop-conn.invariant.5)) now.0 now.1
+      (λ e. c.in-Ok.ensures.closed (ap Ok e)) c.in-Ok.ensures.open
+      (λ e less. c.add.ensures.closed e (rw c.loop-conn.invariant.5 less)) c.add.ensures.open,
 )
+
+pub returns-then-round-clause-kept : goal.returns-then-round-clause-kept
+returns-then-round-clause-kept g c =
+    rw (set-get_or c.loop-conn.places c.loop-conn.conn c.index-places-conn.result) c.loop-conn.invariant.4
+
+pub returns-in-Err-clause-kept : goal.returns-in-Err-clause-kept
+returns-in-Err-clause-kept g c =
+    adds_on _ c.loop-conn.places c.loop-conn.conn c.index-places-conn.result c.turn.new.self _ c.loop-conn.ended.items
+    c.turn.new.ended.items (omega (arith, c.loop-conn-test.true, c.loop-conn.auto.places)) c.loop-conn.invariant.4
+    c.turn.ensures.kept
+
+pub returns-in-Err-clause-stops : goal.returns-in-Err-clause-stops
+returns-in-Err-clause-stops g c = λ same most.
+    let now = c.loop-conn.invariant.6 same most in
+    still_most (get_or c.loop-conn.places c.loop-conn.conn c.index-places-conn.result) c.turn.new.self
+    c.loop-conn.round.closed (length c.loop-conn.ended.items) (length c.turn.new.ended.items)
+    c.args.round.now.connections (λ e. c.if-round.false (e ∙ sym c.loop-conn.invariant.5)) now.0 now.1
+    c.turn.ensures.kept

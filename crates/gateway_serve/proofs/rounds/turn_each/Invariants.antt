@@ -1,5 +1,6 @@
 use Rattle.std.proofs.Common.{◌≡◌, ◌≤◌, length, Result, Ok}
 use Rattle.common.specs.declared.stop.DiskFault.{DiskFault}
+use Rattle.gateway_serve.specs.Counted.{Adds}
 use Rattle.gateway_serve.specs.Joined.{StaysJoined}
 use Rattle.gateway_serve.specs.Streams.{AllPreserve}
 use Rattle.gateway_serve.specs.Reasons.{StayReasoned}
@@ -12,4 +13,7 @@ invariant-loop-conn g l =
     × StaysJoined g.C.Connections l.fn.gateway l.gateway on l.fn.places l.places l.fn.ended.items l.ended.items
     × AllPreserve g.S.Read.remaining g.S.Write.contents l.fn.places l.places l.fn.ended.items l.ended.items
     × StayReasoned l.fn.ended.items l.ended.items
-    × (l.fn.round.closed ≤ length l.fn.ended.items → l.round.closed ≤ length l.ended.items)
+    × Adds l.fn.places l.places l.fn.ended.items l.ended.items
+    × (l.round.connections ≡ l.fn.round.connections)
+    × (l.fn.round.closed ≡ length l.fn.ended.items → length l.fn.ended.items ≤ l.fn.round.connections
+    → (l.round.closed ≡ length l.ended.items) × (length l.ended.items ≤ l.fn.round.connections))

@@ -8,7 +8,7 @@ returns-in-Some-clause-clients g c = λ before turns lets.
     asked_one before (g.A.Acceptor.answers c.args.acceptor.now) (g.A.Acceptor.answers c.accept-client.new.self) turns
     c.args.self.now.clients (is_some c.args.self.now.waiting) _ (is_some c.accept-client.result)
     (passes_of c.args.self.now.pace) (passes_of c.asked.new.self) c.accept-client.ensures
-    (sym c.is_some.ensures ∙ c.if-is_some.false) (sym (ap is_some c.in-Some.is)) c.asked.ensures lets
+    (sym c.is_some.ensures ∙ c.if-is_some.false) (sym (ap is_some c.in-Some.is)) c.asked.ensures.passes lets
 
 pub returns-in_default-clause-clients : goal.returns-in_default-clause-clients
 returns-in_default-clause-clients g c = λ before turns lets.
@@ -16,4 +16,4 @@ returns-in_default-clause-clients g c = λ before turns lets.
     asked_one before (g.A.Acceptor.answers c.args.acceptor.now) (g.A.Acceptor.answers c.accept-client.new.self) turns
     c.args.self.now.clients (is_some c.args.self.now.waiting) (is_some c.args.self.now.waiting)
     (is_some c.accept-client.result) (passes_of c.args.self.now.pace) (passes_of c.asked.new.self)
-    c.accept-client.ensures none (none ∙ sym (ap is_some c.in_default.is)) c.asked.ensures lets
+    c.accept-client.ensures none (none ∙ sym (ap is_some c.in_default.is)) c.asked.ensures.passes lets

@@ -1,8 +1,11 @@
-use Rattle.std.proofs.Common.{Result, Ok, Err, refl}
+use Rattle.std.proofs.Common.{◌≡◌, Result, Ok, Err, refl, ap, arith, length}
 use Rattle.common.specs.declared.stop.DiskFault.{DiskFault}
 use Rattle.tus_session.specs.History.{Opened}
 use Rattle.tus_session.specs.declared.errors.SessionError.{SessionError}
 use Rattle.tus_session.proofs.Limiting.{quiet_limits}
+use Rattle.gateway_serve.specs.Counted.{one_if_open}
+use Rattle.gateway_serve.specs.declared.doors.Clients.{Clients}
+use Rattle.gateway_serve.proofs.Counted.{counted_on, free_open, opens_one}
 use Rattle.gateway_serve.specs.Joined.{AllJoin, AllFell, places_of, ended_of}
 use Rattle.gateway_serve.proofs.After.{surely, GoesOn, served}
 use Rattle.gateway_serve.proofs.All.{same_join, all_opened, all_unopened, all_fall}
@@ -49,3 +52,27 @@ returns-in-Err-clause-serves g c = λ sure before st past went joins.
     answer c.unless_failed.result c.unless_failed.ensures does.now_represents
     (λ known. quiet_limits _ _ c.opened.ensures.crash) c.in-Err.ensures.falls
     (λ ok. unchanged) (λ fails. all_fall sure (places_of c.next_place.new.self) ended st _ unchanged)
+
+pub returns-in_default-clause-counted : goal.returns-in_default-clause-counted
+returns-in_default-clause-counted g c counted =
+    counted_on (ap (λ (k : Clients). k.opened) c.next_place.ensures.rest.clients)
+    (ap length c.next_place.ensures.rest.ended) c.next_place.ensures.open counted
+
+pub returns-in-Ok-clause-counted : goal.returns-in-Ok-clause-counted
+returns-in-Ok-clause-counted g c counted =
+    let opened : one_if_open c.open.result ≡ 1 = opens_one c.open.result c.open.ensures.none in
+    let more = free_open (places_of c.next_place.new.self) c.in-Some.conn c.open.result c.in-Some.ensures.free.0
+    c.in-Some.ensures.free.1 opened in
+    omega (
+      arith,
+      counted,
+      more,
+      c.next_place.ensures.open,
+      ap (λ (k : Clients). k.opened) c.next_place.ensures.rest.clients,
+      ap length c.next_place.ensures.rest.ended,
+    )
+
+pub returns-in-Err-clause-counted : goal.returns-in-Err-clause-counted
+returns-in-Err-clause-counted g c counted =
+    counted_on (ap (λ (k : Clients). k.opened) c.next_place.ensures.rest.clients)
+    (ap length c.next_place.ensures.rest.ended) c.next_place.ensures.open counted

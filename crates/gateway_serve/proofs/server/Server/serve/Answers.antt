@@ -1,4 +1,4 @@
-use Rattle.std.proofs.Common.{List, ◌∷◌}
+use Rattle.std.proofs.Common.{List, ◌∷◌, inl, refl, arith}
 use Rattle.tus_session.specs.History.{Marked, Failed}
 use Rattle.gateway_serve.specs.Joined.{ended_of}
 use Rattle.gateway_serve.proofs.Lost.{none_more}
@@ -32,3 +32,19 @@ returns-in-Err-clause-serves g c = λ sure before st past went joins.
       s.2,
       c.free_each.ensures.left sure st now (rw c.deref_mut.ensures.value s.3),
     )
+
+pub returns-in-Ok-clause-clients : goal.returns-in-Ok-clause-clients
+returns-in-Ok-clause-clients g c = record {
+  served = c.in-Ok.ensures.clients;
+  opened = omega (arith, c.take_turns.ensures.counted, c.in-Ok.ensures.none);
+  stops = c.take_turns.ensures.stops;
+}
+
+pub returns-in-Err-clause-clients : goal.returns-in-Err-clause-clients
+returns-in-Err-clause-clients g c =
+    let t = c.in-Err.ensures.clients in
+    let kept = rw c.deref_mut.ensures.value at c.free_each.ensures.kept in record {
+      served = record { taken = t.taken; waits = t.waits; lets = t.lets; all = inl refl };
+      opened = omega (arith, c.take_turns.ensures.counted, kept);
+      stops = omega (arith, c.take_turns.ensures.stops, c.free_each.ensures.before);
+    }

@@ -1,8 +1,9 @@
-use Rattle.std.proofs.Common.{◌+◌, ◌-◌, ◌∙◌, inl, inr, is_some, arith}
+use Rattle.std.proofs.Common.{◌≡◌, ◌+◌, ◌-◌, ◌∙◌, refl, sym, ap, inl, inr, is_some, length, arith}
 use Rattle.std.proofs.lemmas.List.{with_items_is}
-use Rattle.gateway_serve.specs.Joined.{ended_of}
+use Rattle.gateway_serve.specs.Joined.{places_of, ended_of}
 use Rattle.tus_session.proofs.Counting.{uncounted}
 use Rattle.gateway_serve.proofs.NextTurn.{counts_on, next_turn, taken_so}
+use Rattle.gateway_serve.proofs.Counted.{count_most, counted_by, none_counted}
 use Rattle.gateway_serve.proofs.Lost.{none_more}
 use Rattle.gateway_serve.specs.Acceptors.{passes_of}
 use Rattle.gateway_serve.specs.Turns.{door_of}
@@ -26,8 +27,34 @@ loop-left-preserved g c = (
       c.loop-left.invariant.4
       (c.in_ok-turn.ensures.clients (g.A.Acceptor.answers c.args.acceptor.now) (c.args.turns - c.loop-left.left)
       c.loop-left.invariant.5),
-  c.in_ok-turn.ensures.closed c.loop-left.invariant.6,
+  c.in_ok-turn.ensures.closed c.loop-left.invariant.6 c.loop-left.invariant.7,
+  c.in_ok-turn.ensures.stops c.loop-left.invariant.6 c.loop-left.invariant.7,
+  c.in_ok-turn.ensures.counted c.loop-left.invariant.8,
 )
+
+pub returns-clause-counted : goal.returns-clause-counted
+returns-clause-counted g c =
+    let same = with_items_is c.loop-left.self.places c.end_each.new.places
+    (omega (arith, c.end_each.auto.places, c.deref_mut.ensures.len)) in
+    rw same (counted_by _ _ _ _ _ c.loop-left.invariant.8 (rw c.deref_mut.ensures.value at c.end_each.ensures.kept))
+
+pub returns-clause-none : goal.returns-clause-none
+returns-clause-none g c =
+    let same = with_items_is c.loop-left.self.places c.end_each.new.places
+    (omega (arith, c.end_each.auto.places, c.deref_mut.ensures.len)) in
+    rw same c.end_each.ensures.none
+
+pub returns-clause-stops : goal.returns-clause-stops
+returns-clause-stops g c =
+    omega (arith, c.end_each.ensures.before, count_most (ended_of c.loop-left.self), c.loop-left.invariant.7)
+
+pub returns-in_err-turn-clause-counted : goal.returns-in_err-turn-clause-counted
+returns-in_err-turn-clause-counted g c = c.turn.ensures.counted c.loop-left.invariant.8
+
+pub returns-in_err-turn-clause-stops : goal.returns-in_err-turn-clause-stops
+returns-in_err-turn-clause-stops g c =
+    let most = c.turn.ensures.stops c.loop-left.invariant.6 c.loop-left.invariant.7 in
+    omega (arith, count_most (ended_of c.turn.new.self), most)
 
 pub returns-clause-streams : goal.returns-clause-streams
 returns-clause-streams g c = λ have had.
@@ -95,3 +122,18 @@ turn-requires-clause-room g c =
     c.loop-left.left c.loop-left.self.door.clients (is_some c.loop-left.self.door.waiting)
     (passes_of c.loop-left.self.door.pace) c.loop-left.invariant.5 (omega (arith, c.loop-left-test.true))
     c.loop-left.invariant.4 (omega (arith, c.ranges.turns.fits))).0
+
+pub loop-left-init : goal.loop-left-init
+loop-left-init g c =
+    let none : c.args.turns - c.args.turns ≡ 0 = omega arith in
+    let no_ended : length (ended_of c.args.self.now) ≡ 0 = ap length c.requires.2 in (
+      refl,
+      λ sure before st past went joins. (past, went, joins),
+      λ have had. (have, had),
+      λ all. all,
+      omega arith,
+      rw none (c.requires.0 (g.A.Acceptor.answers c.args.acceptor.now)),
+      c.requires.1 ∙ sym no_ended,
+      omega (arith, no_ended),
+      none_counted _ (ended_of c.args.self.now) (places_of c.args.self.now) c.requires.4 c.requires.2 c.requires.3,
+    )

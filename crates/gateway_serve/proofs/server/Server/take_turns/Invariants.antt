@@ -4,7 +4,7 @@ use Rattle.gateway_serve.specs.Acceptors.{LetsInBy}
 use Rattle.gateway_serve.specs.Joined.{StaysJoined, places_of, ended_of}
 use Rattle.gateway_serve.specs.Streams.{AllPreserve}
 use Rattle.gateway_serve.specs.Reasons.{StayReasoned}
-use Rattle.gateway_serve.specs.Turns.{closed_of, door_of}
+use Rattle.gateway_serve.specs.Turns.{IsCounted, closed_of, door_of}
 use Rattle.gateway_serve.proofs.server.Server.take_turns.Given as goal
 
 abbrev pub invariant-loop-left : goal.invariant-loop-left
@@ -20,7 +20,9 @@ invariant-loop-left g l =
     × (l.left ≤ l.fn.turns)
     × LetsInBy (g.A.Acceptor.answers l.fn.acceptor) (g.A.Acceptor.answers l.acceptor) (l.fn.turns - l.left)
     (door_of l.self)
-    × (closed_of l.self ≤ length (ended_of l.self))
+    × (closed_of l.self ≡ length (ended_of l.self))
+    × (length (ended_of l.self) ≤ l.fn.connections)
+    × IsCounted l.self
 
 abbrev pub decreases-loop-left : goal.decreases-loop-left
 decreases-loop-left g l = l.left

@@ -1,5 +1,7 @@
 use Rattle.std.proofs.Common.{◌+◌, arith}
 use Rattle.std.proofs.lemmas.List.{with_items_is}
+use Rattle.tus_session.proofs.Counting.{uncounted}
+use Rattle.gateway_serve.proofs.Counted.{counted_by}
 use Rattle.gateway_serve.proofs.server.Server.turn.Goals as goal
 
 pub returns-clause-streams : goal.returns-clause-streams
@@ -28,6 +30,27 @@ returns-in_err-seat-clause-clients g c = λ before turns lets.
     (c.ask.ensures.clients before turns lets)
 
 pub returns-clause-closed : goal.returns-clause-closed
-returns-clause-closed g c few =
+returns-clause-closed g c same most =
     c.turn_each-taken.ensures.closed
-    (rw (c.round-round.ensures.closed, c.in_ok-seat.ensures.closed, c.in_ok-seat.ensures.ended) few)
+    (rw (c.round-round.ensures.closed, c.in_ok-seat.ensures.closed, c.in_ok-seat.ensures.ended) same)
+    (rw (c.round-round.ensures.connections, c.in_ok-seat.ensures.ended) most)
+
+pub returns-clause-stops : goal.returns-clause-stops
+returns-clause-stops g c same most =
+    rw c.round-round.ensures.connections at (c.turn_each-taken.ensures.stops
+    (rw (c.round-round.ensures.closed, c.in_ok-seat.ensures.closed, c.in_ok-seat.ensures.ended) same)
+    (rw (c.round-round.ensures.connections, c.in_ok-seat.ensures.ended) most))
+
+pub returns-clause-counted : goal.returns-clause-counted
+returns-clause-counted g c counted =
+    let same = with_items_is c.seat.new.self.places c.turn_each-taken.new.places
+    (omega (arith, c.turn_each-taken.auto.places, c.deref_mut.ensures.len)) in
+    rw same (counted_by _ _ _ _ _ (c.seat.ensures.counted (rw (c.ask.ensures.opened) counted))
+    (rw c.deref_mut.ensures.value at c.turn_each-taken.ensures.kept))
+
+pub returns-clause-reasons : goal.returns-clause-reasons
+returns-clause-reasons g c = λ all. c.turn_each-taken.ensures.reasons (c.in_ok-seat.ensures.reasons all)
+
+pub returns-clause-counts : goal.returns-clause-counts
+returns-clause-counts g c =
+    rw (uncounted (λ fails. absurd (cc)) c.in_ok-seat.ensures.counts) at c.turn_each-taken.ensures.counts

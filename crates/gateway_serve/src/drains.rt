@@ -1,0 +1,142 @@
+//! Sockets whose connections the session closed. What their clients still send is read and dropped, so that none of them
+//! loses the end of its reply to a reset (RFC 9112, section 9.6).
+
+use crate::idle::Pace;
+use std::alloc::Global;
+use std::io::{ErrorKind, Read};
+use std::net::{OpenStream, Shutdown};
+use std::time::Duration;
+
+/// So many sockets drain at once, at most.
+const MOST_DRAINING: usize = 64;
+
+/// The most bytes that are dropped at once.
+const PIECE: usize = 16_384;
+
+/// The most bytes that are dropped of a socket: those of the longest body.
+const MOST_DROPPED: u64 = 1_073_741_824;
+
+/// A socket of which nothing came since it was closed is let go after so many seconds.
+const LONGEST_SILENCE: u64 = 2;
+
+/// One of which bytes came is let go once none came for so many seconds.
+const LONGEST_GAP: u64 = 10;
+
+/// A socket that drains.
+#[derive(Drop)]
+struct Drain<S> {
+    stream: S,
+    /// whether its writing side is still open
+    writes: bool,
+    /// when it was closed, or when bytes last came
+    moved: Duration,
+    /// how many bytes came since it was closed
+    dropped: u64,
+    pace: Pace,
+}
+
+/// What a turn left of a socket that drains.
+#[derive(Clone, Copy, Debug, PartialEq, Eq, Drop)]
+enum Rest {
+    /// Bytes came.
+    Flows,
+    /// None came, and some may.
+    Waits,
+    /// It is at its end, failed, was silent for too long, or brought too much.
+    Over,
+}
+
+impl<S: Read + OpenStream> Drain<S> {
+    // A turn: closes the writing side, and drops what came.
+    fn turn(&mut self, now: Duration, busy: bool, buffer: &mut [u8]) -> Rest {
+        if self.writes && self.stream.shutdown(Shutdown::Write).is_err() {
+            return Rest::Over;
+        }
+        self.writes = false;
+        if !self.pace.is_due(busy, now) {
+            return Rest::Waits;
+        }
+        let rest = self.read(now, buffer);
+        self.pace.asked(rest == Rest::Flows, now);
+        rest
+    }
+
+    // Drops what came.
+    fn read(&mut self, now: Duration, buffer: &mut [u8]) -> Rest {
+        match self.stream.read(buffer) {
+            Ok(0) => Rest::Over,
+            Ok(count) => {
+                self.dropped = self.dropped.saturating_add(count as u64);
+                self.moved = now;
+                if self.dropped < MOST_DROPPED {
+                    Rest::Flows
+                } else {
+                    Rest::Over
+                }
+            }
+            Err(error) => match error.kind() {
+                ErrorKind::Interrupted => Rest::Flows,
+                ErrorKind::WouldBlock if !self.is_silent(now) => Rest::Waits,
+                _ => Rest::Over,
+            },
+        }
+    }
+
+    // Whether nothing came for too long.
+    fn is_silent(&self, now: Duration) -> bool {
+        let longest = if self.dropped == 0 {
+            LONGEST_SILENCE
+        } else {
+            LONGEST_GAP
+        };
+        now.saturating_sub(self.moved).as_secs() >= longest
+    }
+}
+
+/// The sockets that drain, by the times at which they were closed.
+#[derive(Drop)]
+pub(crate) struct Drains<S> {
+    sockets: Vec<Drain<S>>,
+}
+
+impl<S: Drop> Drains<S> {
+    /// No socket drains.
+    pub(crate) fn new(alloc: Global) -> Self {
+        Drains {
+            sockets: Vec::new(alloc),
+        }
+    }
+
+    /// Adds the socket of a connection that was closed now. Where as many drain as may, the one that was closed first is
+    /// let go. Out of memory, this one is.
+    pub(crate) fn add(&mut self, stream: S, now: Duration) {
+        if self.sockets.len() >= MOST_DRAINING {
+            drop(self.sockets.remove(0));
+        }
+        let added = self.sockets.push(Drain {
+            stream,
+            writes: true,
+            moved: now,
+            dropped: 0,
+            pace: Pace::new(now),
+        });
+        drop(added);
+    }
+}
+
+impl<S: Read + OpenStream + Drop> Drains<S> {
+    /// The turn of all of them, after a turn that did something or not: whether bytes came of one.
+    pub(crate) fn turn(&mut self, now: Duration, busy: bool) -> bool {
+        if self.sockets.is_empty() {
+            return false;
+        }
+        let mut buffer = [0; PIECE];
+        let mut flows = false;
+        self.sockets.retain_mut(|drain| {
+            let rest = drain.turn(now, busy, &mut buffer);
+            flows = flows || rest == Rest::Flows;
+            rest != Rest::Over
+        });
+        flows
+    }
+}
