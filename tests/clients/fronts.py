@@ -5,10 +5,12 @@ usage: fronts.py [--program PATH] [--indexes DIR] [--seed N]
 The ports 8080, 8081 and 8090 have to be free. With packaging/nginx/wovelatsa-cors.conf a page of an origin that it
 names uploads in two pieces, by curl's preflight and by chromium where it is there, and one of another origin can't.
 `proxy_request_buffering off` keeps what came of a cut body, and slow senders take the gateway's places; with `on` it is
-the other way about. Behind the lines of packaging/caddy, where Caddy is there, who has the password uploads.
+the other way about. Behind the lines of packaging/caddy, where Caddy is there, who has the password uploads, and a
+refusal comes through while the body is still sent.
 """
 
 import base64
+import http.client
 import http.server
 import socket
 import tempfile
@@ -28,8 +30,11 @@ USER, PASSWORD = "archive", "a word"
 ORIGIN = "access-control-allow-origin"
 # More than the gateway has places.
 SENDERS = 20
-# How long another client waits, and how long a proxy takes to pass on what came, in seconds.
-QUICK, SETTLES = 3.0, 1.0
+# How long another client waits, and how long a proxy takes to pass on what came, in seconds. Slow senders give way to
+# others two seconds after they began.
+QUICK, SETTLES = 0.7, 1.0
+# The bodies of PATCHes that are refused at their heads, in bytes, and how many of each.
+REFUSED, TRIALS = (1_000_000, 5_000_000), 100
 # The lines of packaging/nginx that are changed.
 ORIGINS = r'"^https://(app|editors)\.example\.org$"'
 LOCATIONS = "    location = /files {\n"
@@ -192,9 +197,27 @@ def behind_caddy(rng, folder):
         rest = fields({**OCTETS, **knows, "Upload-Offset": half})
         curl("-X", "PATCH", *rest, "--data-binary", "@-", front + path, body=sample.data[half:])
         same("the text", curl(*fields(knows), front + path), sample.text)
+        made = {**TUS, **knows, "Upload-Length": 100_000_000}
+        other = reply_of("POST", f"{front}/files", made)[1]["location"]
+        for size in REFUSED:
+            seen = [refusal_of(other, size, knows) for _ in range(TRIALS)]
+            same(f"refusals of {size} bytes", seen, [409] * TRIALS)
     finally:
         caddy.stop()
-    print(f"behind Caddy: no upload without the password, {half} bytes of a cut body kept, the text right")
+    print(f"behind Caddy: no upload without the password, {half} bytes of a cut body kept, the text right,")
+    print(f"and each of {TRIALS} refusals of {REFUSED} bytes a 409")
+
+
+def refusal_of(path, size, headers):
+    """What a client sees of a PATCH at a wrong offset that sends its whole body before it reads."""
+    connection = http.client.HTTPConnection("127.0.0.1", FRONT, timeout=60)
+    try:
+        connection.request("PATCH", path, body=b"a" * size, headers={**OCTETS, **headers, "Upload-Offset": "7"})
+        return connection.getresponse().status
+    except OSError as error:
+        return type(error).__name__
+    finally:
+        connection.close()
 
 
 def main():

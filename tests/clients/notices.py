@@ -27,6 +27,7 @@ COUNTS = {
     "syncs.py": ["--changes", "20"],
     "power.py": ["--runs", "1", "--changes", "8", "--images", "1", "--places", "30"],
     "streams.py": [],
+    "closes.py": ["--trials", "10", "--short"],
     "exports.py": [],
     "operators.py": ["--indexes", str(HERE.parent.parent / "bench")],
 }
@@ -70,6 +71,7 @@ WANTED = [
     ("the places not synced", "power.py", "an opening ends with status 2|the uploads|the text of"),
     ("lines printed into the spool", "streams.py", "the spool of list SPOOL >&-"),
     ("lengths compared alone", "exports.py", "the status of"),
+    ("a socket closed with bytes unread", "closes.py", "bytes behind a refusal"),
     ("any file overwritten", "operators.py", "the refusal of"),
 ]
 

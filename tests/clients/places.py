@@ -1,26 +1,56 @@
-"""More clients than places: how long an honest one waits while others keep theirs.
+"""More clients than places, and busy ones: how long an honest one waits while others keep theirs.
 
-usage: places.py [--program PATH] [--indexes DIR] [--seed N]
+usage: places.py [--program PATH] [--indexes DIR] [--seed N] [--seconds N]
 
-A hundred clients keep their connections and ask every half second. Then twenty begin heads that they don't end, then
-bodies of which a byte comes each second. Beside each kind an honest client connects anew, asks once, and does so again:
-the longest that it waits is told, and asserted. Last, twenty read a long text slowly, which the server never cuts: all
-of them get all of it.
+A hundred clients keep their connections and ask every half second. Then some begin heads that they don't end, of which
+a byte comes each second, or bodies of 200 or 5,000 bytes a second, and begin again where they are ended. Beside each
+kind an honest client connects anew, asks once, and does so again for some seconds: the longest that it waits is told,
+and asserted: two seconds for each sixteen slow ones before it, and ten for each sixteen fast ones. Then some send
+PATCHes of a byte without waiting for the replies, with places free and syncs that take a while: a new client waits for
+two commits of each. Last, twenty read a long text slowly, which the server never cuts: all of them get all of it.
 """
 
+import os
 import socket
 import tempfile
 import threading
 import time
 from pathlib import Path
 
-from harness import OCTETS, Client, Refused, Sample, Server, format_spool, holds, indexes_in, parser_of, same
+from harness import OCTETS, Client, Sample, Server, build_library, format_spool, holds, indexes_in, parser_of, same
 from slow import Crowd, request
 
-# How many seconds an honest client may wait beside keepers, and beside slow heads and bodies.
+# How many seconds an honest client may wait beside keepers.
 MOST_BESIDE_KEEPERS = 3
-MOST_BESIDE_SLOW = 25
+# How many seconds sixteen of a kind may keep their places, and what the ends of these and another try may add.
+SLOW, FAST, MORE = 2, 10, 2.5
+# Each kind: whether it sends bodies, how many bytes a second, how many clients, and how long these have their places.
+KINDS = [
+    ("heads", 1, 20, SLOW),
+    ("heads", 1, 160, SLOW),
+    *(("bodies", 200, count, SLOW) for count in (16, 24, 40, 100, 160)),
+    ("bodies", 5000, 16, FAST),
+    ("bodies", 5000, 32, FAST),
+]
+# How many clients send PATCHes one after the other, and how many milliseconds a sync takes.
+BUSY = [(4, 1), (15, 1), (4, 8), (15, 8)]
+SYNCS = 4
 TEXT = 3_000_000
+
+SLOW_SYNC = """
+#define _GNU_SOURCE
+#include <dlfcn.h>
+#include <stdlib.h>
+#include <time.h>
+static int slowly(const char *name, int fd) {
+    int (*sync)(int) = (int (*)(int))dlsym(RTLD_NEXT, name);
+    struct timespec rest = {0, atol(getenv("SYNC_MILLIS")) * 1000000};
+    nanosleep(&rest, 0);
+    return sync(fd);
+}
+int fsync(int fd) { return slowly("fsync", fd); }
+int fdatasync(int fd) { return slowly("fdatasync", fd); }
+"""
 
 
 def asked_once(port, path):
@@ -50,10 +80,11 @@ def longest_wait(port, path, seconds):
 
 
 class Slow:
-    """Clients that begin a request and bring a byte of it each second, and begin again where they are ended."""
+    """Clients that begin a request and bring so many bytes of it each second, and begin again where they are ended."""
 
-    def __init__(self, port, count, begins):
+    def __init__(self, port, count, begins, speed):
         self.port, self.begins, self.ended, self.over = port, begins, 0, threading.Event()
+        self.speed = speed
         self.threads = [threading.Thread(target=self.keep, daemon=True) for _ in range(count)]
         for it in self.threads:
             it.start()
@@ -64,8 +95,8 @@ class Slow:
             try:
                 raw.connect(("127.0.0.1", self.port))
                 raw.sendall(self.begins)
-                while not self.over.wait(1):
-                    raw.sendall(b"a")
+                while not self.over.wait(0.5 if self.speed > 1 else 1):
+                    raw.sendall(b"a" * max(self.speed // 2, 1))
             except OSError:
                 self.ended += 1
             finally:
@@ -75,6 +106,39 @@ class Slow:
         self.over.set()
         for it in self.threads:
             it.join(10)
+
+
+class Busy:
+    """Clients that send PATCHes of a byte, a hundred ahead of the replies."""
+
+    def __init__(self, port, paths):
+        self.port, self.over = port, threading.Event()
+        self.threads = [threading.Thread(target=self.send, args=(path,), daemon=True) for path in paths]
+        for it in self.threads:
+            it.start()
+
+    def send(self, path):
+        raw = socket.create_connection(("127.0.0.1", self.port), timeout=90)
+        threading.Thread(target=self.read, args=(raw,), daemon=True).start()
+        offset = 0
+        while not self.over.is_set():
+            headers = [{**OCTETS, "Upload-Offset": str(offset + n), "Content-Length": "1"} for n in range(100)]
+            try:
+                raw.sendall(b"".join(request("PATCH", path, each) + b"a" for each in headers))
+            except OSError:
+                return
+            offset += 100
+        raw.close()
+
+    def read(self, raw):
+        try:
+            while raw.recv(65_536):
+                pass
+        except OSError:
+            pass
+
+    def leave(self):
+        self.over.set()
 
 
 class Reader(threading.Thread):
@@ -101,11 +165,54 @@ class Reader(threading.Thread):
         raw.close()
 
 
+def beside_busy(words, folder, indexes):
+    """The waits of new clients beside some that don't wait for replies, by their number and the time of a sync."""
+    library = build_library(folder, "slow_sync", SLOW_SYNC)
+    waits = {}
+    for count, millis in BUSY:
+        spool = Path(folder, f"busy-{count}-{millis}")
+        format_spool(words.program, spool, 1024, indexes)
+        server = Server(words.program, spool, {**os.environ, "LD_PRELOAD": str(library), "SYNC_MILLIS": str(millis)})
+        try:
+            client = Client(server.port)
+            paths = [client.create(Sample("utf-8", b"a" * 1_000_000, b"")) for _ in range(count)]
+            client.close()
+            busy = Busy(server.port, paths)
+            time.sleep(1)
+            waits[count, millis] = longest_wait(server.port, paths[0], words.seconds)
+            busy.leave()
+        finally:
+            server.kill()
+        most = 2 * count * SYNCS * (millis + 0.5) / 1000 + 0.15
+        wait = waits[count, millis]
+        holds(f"{wait:.2f} s beside {count} busy ones and syncs of {millis} ms, at most {most:.2f}", wait <= most)
+    return waits
+
+
+def beside_slow(words, server, path, other):
+    """The waits of new clients beside each kind of slow ones."""
+    headers = {**OCTETS, "Upload-Offset": "0", "Content-Length": str(TEXT)}
+    begins = {"heads": b"GET /files HTTP/1.1\r\nX: ", "bodies": request("PATCH", other, headers)}
+    waits = {}
+    for kind, speed, count, stay in KINDS:
+        slow = Slow(server.port, count, begins[kind], speed)
+        time.sleep(1)
+        wait = longest_wait(server.port, path, words.seconds)
+        slow.leave()
+        waits[kind, speed, count] = wait
+        most = stay * -(-count // 16) + MORE
+        holds(f"{slow.ended} {kind} were ended", slow.ended > 10)
+        holds(f"{wait:.2f} s beside {count} {kind} of {speed} bytes a second, at most {most}", wait <= most)
+    return waits
+
+
 def main():
-    words = parser_of(__doc__).parse_args()
+    words = parser_of(__doc__)
+    words.add_argument("--seconds", default=30, type=int, help="how long new clients ask beside each kind")
+    words = words.parse_args()
     with tempfile.TemporaryDirectory() as folder:
-        spool = Path(folder, "spool")
-        format_spool(words.program, spool, 2048, indexes_in(folder, words.indexes))
+        spool, indexes = Path(folder, "spool"), indexes_in(folder, words.indexes)
+        format_spool(words.program, spool, 2048, indexes)
         server = Server(words.program, spool)
         try:
             client = Client(server.port)
@@ -119,15 +226,7 @@ def main():
             crowd.leave()
             holds(f"{keepers:.2f} s beside keepers", keepers <= MOST_BESIDE_KEEPERS)
             holds(f"{crowd.asked} answers to them", crowd.asked > 1000)
-            waits = []
-            headers = {**OCTETS, "Upload-Offset": "0", "Content-Length": str(TEXT)}
-            for begins in (b"GET /files HTTP/1.1\r\nX: ", request("PATCH", other, headers)):
-                slow = Slow(server.port, 20, begins)
-                time.sleep(1)
-                waits.append(longest_wait(server.port, path, 30))
-                slow.leave()
-                holds(f"{slow.ended} slow ones were ended", slow.ended > 10)
-                holds(f"{waits[-1]:.2f} s beside slow ones", waits[-1] <= MOST_BESIDE_SLOW)
+            slow = beside_slow(words, server, path, other)
             readers = [Reader(server.port, path) for _ in range(20)]
             began = time.monotonic()
             for it in readers:
@@ -136,8 +235,13 @@ def main():
             read = time.monotonic() - began
         finally:
             server.kill()
-    print(f"longest waits: {keepers:.2f} s beside a hundred keepers, {waits[0]:.2f} s beside twenty slow heads,")
-    print(f"{waits[1]:.2f} s beside twenty slow bodies; twenty slow readers got all of {TEXT} bytes in {read:.1f} s")
+        busy = beside_busy(words, folder, indexes)
+    print(f"longest waits: {keepers:.2f} s beside a hundred keepers")
+    for (kind, speed, count), wait in slow.items():
+        print(f"{wait:.2f} s beside {count} {kind} of {speed} bytes a second")
+    for (count, millis), wait in busy.items():
+        print(f"{wait:.2f} s beside {count} that send PATCHes one after the other, with syncs of {millis} ms")
+    print(f"twenty slow readers got all of {TEXT} bytes in {read:.1f} s")
 
 
 if __name__ == "__main__":

@@ -382,6 +382,17 @@ class BreaksHeads(Proxy):
         return b"nothing of the kind\r\n\r\n" if self.is_turn(9) else head + body
 
 
+class ClosesUnread(Proxy):
+    """A request that asks for a close is answered at its head, and the socket is closed with its body unread."""
+
+    def ask(self, client, server, requests, replies, head):
+        if b"\r\nconnection: close\r\n" not in head.lower():
+            return super().ask(client, server, requests, replies, head)
+        server.sendall(head)
+        client.sendall(read_head(replies))
+        return False
+
+
 def before_sockets(proxy):
     """The deed that a proxy does, of the command that serves."""
     return lambda program: proxy(program).serve(), "serve"
@@ -418,6 +429,7 @@ DEEDS = {
     "an offset told too small": before_sockets(TellsOtherOffsets),
     "a text cut short": before_sockets(CutsTexts),
     "a broken head": before_sockets(BreaksHeads),
+    "a socket closed with bytes unread": before_sockets(ClosesUnread),
 }
 
 if __name__ == "__main__":
