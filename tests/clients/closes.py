@@ -24,7 +24,7 @@ TEXT = 3_000_000
 SIZES = (1_000_000, 5_000_000, 20_000_000)
 # A socket of which nothing comes is let go after so many seconds, and some more.
 SILENCE = 2
-LATE = 3
+LATE = 8
 
 
 def refusals(port, path, size, trials):

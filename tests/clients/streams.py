@@ -91,7 +91,7 @@ class Case:
         opened = " ".join(NULL[word] for word in closed.split())
         got, wanted = self.run(command, closed), self.run(command, opened)
         for what, one, other in zip(("the status", "what is printed", "the spool"), got, wanted):
-            holds(f"{what} of {command} {closed}: {one[:200] if one else one!r}, not {other[:200] if other else other!r}",
+            holds(f"{what} of {command} {closed}: {str(one)[:200]}, not {str(other)[:200]}",
                   one == other)
         listed = subprocess.run([self.program, "list", self.folder / "spool"], capture_output=True)
         same(f"the status of list after {command} {closed}", listed.returncode, 0)
