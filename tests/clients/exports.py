@@ -321,10 +321,10 @@ def main():
         indexes = indexes_in(folder, given.indexes)
         library = build_library(folder, "ends", LIBRARY)
         case = Case(given.program, folder, indexes, rng_of(given.seed, "exports"))
-        try_order(case, library)
-        try_lockless(case, library)
         (folder / "used").mkdir(), (folder / "long").mkdir()
         used = try_used(given.program, folder / "used") + try_long(given.program, folder / "long")
+        try_order(case, library)
+        try_lockless(case, library)
         ends = {how: try_all(case, library, how) for how in ("before", "midst", "after", "full")}
     for how, count in ends.items():
         print(f"{how}: {count} ends, 0 wrong")
