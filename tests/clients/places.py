@@ -201,7 +201,7 @@ def beside_slow(words, server, path, other):
         slow.leave()
         waits[kind, speed, count] = wait
         most = stay * -(-count // 16) + MORE
-        holds(f"{slow.ended} {kind} were ended", slow.ended > 10)
+        holds(f"{slow.ended} {kind} were ended", slow.ended > words.seconds // 3)
         holds(f"{wait:.2f} s beside {count} {kind} of {speed} bytes a second, at most {most}", wait <= most)
     return waits
 
