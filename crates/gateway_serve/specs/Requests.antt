@@ -1,5 +1,5 @@
 -- What serving measures of a request.
-use Rattle.std.specs.Prelude.{◌≡◌, ◌+◌, ℕ, min, nat_le, Bool, true, false, if◌then◌else◌, Option, Some, None}
+use Rattle.std.specs.Prelude.{◌≡◌, ◌+◌, ◌/◌, ◌&&◌, ℕ, min, nat_le, Bool, true, false, if◌then◌else◌, Option, Some, None}
 use Rattle.std.specs.declared.time.Duration.{Duration}
 use Rattle.tus_session.specs.declared.at.At as session
 use Rattle.tus_session.specs.declared.at.At.TheVariants as at
@@ -8,6 +8,7 @@ use Rattle.gateway_serve.specs.declared.requests.Part.{Part}
 use Rattle.gateway_serve.specs.declared.requests.Part.TheVariants.{Head, Body}
 use Rattle.gateway_serve.specs.declared.requests.Request.{Request}
 use Rattle.gateway_serve.specs.declared.stays.At.{At}
+use Rattle.gateway_serve.specs.declared.stays.TheConstants.{LEAST_SPEED}
 use Rattle.gateway_serve.specs.declared.stays.At.TheVariants as stays
 
 -- what a connection is at in this part of a request
@@ -35,10 +36,10 @@ with_more r n = record {
   brought = min (r.brought + n) 18_446_744_073_709_551_615;
 }
 
--- its speed is measured anew after two seconds
+-- its speed is measured anew after two seconds in which it was fast enough
 abbrev pub measured_anew : Request → Duration → Request
 measured_anew r now =
-    if nat_le 2 (seconds_from r.since now)
+    if nat_le 2 (seconds_from r.since now) && nat_le (seconds_from r.since now) (r.brought / LEAST_SPEED)
     then record { part = r.part; begun = r.begun; since = now; brought = 0 }
     else r
 

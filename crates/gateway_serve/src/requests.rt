@@ -3,7 +3,7 @@ ghost use Rattle.std.specs.Prelude.{◌≡◌};
 ghost use Rattle.gateway_serve.specs.Requests.{at_in, measured_anew, part_at, request_by, request_from};
 ghost use Rattle.gateway_serve.specs.Requests.{with_more};
 
-use crate::stays::At;
+use crate::stays::{At, LEAST_SPEED};
 use std::time::Duration;
 
 /// For so many seconds the speed of a request is measured, then anew.
@@ -60,11 +60,12 @@ impl Request {
         self.brought = self.brought.saturating_add(count as u64);
     }
 
-    /// Measures its speed anew, where that was measured for two seconds.
+    /// Measures its speed anew, where it was fast enough for two seconds.
     pub(crate) fn measure(&mut self, now: Duration)
         ensures { self.new ≡ measured_anew self.old now }
     {
-        if now.saturating_sub(self.since).as_secs() >= MEASURED {
+        let seconds = now.saturating_sub(self.since).as_secs();
+        if seconds >= MEASURED && self.brought / LEAST_SPEED >= seconds {
             self.since = now;
             self.brought = 0;
         }

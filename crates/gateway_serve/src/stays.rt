@@ -14,7 +14,7 @@ const SHORTEST_STAY: u64 = 10;
 const LONGEST_SLOW: u64 = 2;
 
 /// So many bytes a second a request brings that isn't slow.
-const LEAST_SPEED: u64 = 4096;
+pub(crate) const LEAST_SPEED: u64 = 4096;
 
 /// For so many milliseconds at least a connection may be between requests.
 const SHORTEST_PAUSE: u128 = 20;
