@@ -2,14 +2,17 @@
 
 usage: fronts.py [--program PATH] [--indexes DIR] [--seed N]
 
-The ports 8080, 8081 and 8090 have to be free. With packaging/nginx/wovelatsa-cors.conf a page of an origin that it
-names uploads in two pieces, by curl's preflight and by chromium where it is there, and one of another origin can't.
+The ports 8080, 8081, 8082 and 8090 have to be free. With packaging/nginx/wovelatsa-cors.conf a page of an origin that
+it names uploads in two pieces, by curl's preflight and by chromium where it is there, and one of another origin can't.
 `proxy_request_buffering off` keeps what came of a cut body, and slow senders take the gateway's places; with `on` it is
-the other way about. Behind the lines of packaging/caddy, where Caddy is there, who has the password uploads, and a
+the other way about. Behind wovelatsa-browsers.conf an endpoint may end with a slash, and what a browser sends along
+doesn't reach the gateway; behind wovelatsa-groups.conf who has a group's password uploads there and nowhere else, and
+can't read or delete. Behind the lines of packaging/caddy, where Caddy is there, who has the password uploads, and a
 refusal comes through while the body is still sent.
 """
 
 import base64
+import crypt
 import http.client
 import http.server
 import socket
@@ -21,7 +24,7 @@ from pathlib import Path
 import browser
 from harness import OCTETS, TUS, Client, format_spool, holds, indexes_in, memory, parser_of
 from harness import curl, fields, random_sample, rng_of, same
-from proxies import FRONT, PORTS, Caddy, Instance, Nginx, has
+from proxies import FRONT, NGINX, PORTS, Caddy, Instance, Nginx, has, lines_for
 
 PAGES = 8090
 # The page's origin that nginx is told, and one that it isn't: both are the same server.
@@ -40,6 +43,8 @@ REFUSED, TRIALS = ((1_000_000, 0), (5_000_000, 5)), 100
 ORIGINS = r'"^https://(app|editors)\.example\.org$"'
 LOCATIONS = "    location = /files {\n"
 OFF, ON = "proxy_request_buffering off;", "proxy_request_buffering on;"
+# What a browser sends along, more than a head of the gateway's may have, and a piece above what nginx takes of one.
+ALONG, PIECE = {"Cookie": f"page={'c' * 5000}", "Authorization": f"Bearer {'t' * 4000}"}, 9_000_000
 
 class Pages(http.server.SimpleHTTPRequestHandler):
     """An empty page at any path."""
@@ -160,14 +165,14 @@ def by_slow_senders(nginx, rng):
 
 
 def behind_nginx(rng, folder):
-    """All that is tried of nginx's lines."""
-    nginx = Nginx(folder / "nginx", ["a"])
+    """Pages of other origins and slow senders, behind the lines for several gateways."""
+    nginx = Nginx(folder / "nginx", lines_for(["a"]))
     pages = http.server.ThreadingHTTPServer(("127.0.0.1", PAGES), Pages)
     threading.Thread(target=pages.serve_forever, daemon=True).start()
     try:
         kept = by_slow_senders(nginx, rng)
         nginx.change("snippets/wovelatsa-cors.conf", ORIGINS, rf'"^{NAMED}$"')
-        nginx.change("instances.conf", LOCATIONS, f"    include snippets/wovelatsa-cors.conf;\n{LOCATIONS}")
+        nginx.change("lines.conf", LOCATIONS, f"    include snippets/wovelatsa-cors.conf;\n{LOCATIONS}")
         by_preflight()
         if browser.program():
             by_chromium(rng, folder)
@@ -178,30 +183,100 @@ def behind_nginx(rng, folder):
     print(f"may not; {SENDERS} slow senders: {kept} bytes of cut bodies kept, or none and others served meanwhile")
 
 
+def for_browsers(rng, folder):
+    """An endpoint with a slash, what a browser sends along, and slow lines, behind the lines for browsers."""
+    nginx = Nginx(folder / "browsers", (NGINX / "wovelatsa-browsers.conf").read_text())
+    client, sample = Client(FRONT), random_sample(rng, "koi8-r")
+    try:
+        nginx.change("snippets/wovelatsa-cors.conf", ORIGINS, rf'"^{NAMED}$"')
+        by_preflight()
+        made = {**TUS, **ALONG, "Upload-Length": str(len(sample.data)), "Upload-Metadata": sample.metadata()}
+        path = client.ask(201, "POST", "/files/", made)[0]["Location"]
+        client.ask(204, "PATCH", path, {**OCTETS, **ALONG, "Upload-Offset": "0"}, sample.data)
+        hidden = {**TUS, "X-HTTP-Method-Override": "DELETE"}
+        same("the status of a DELETE by its other name", client.status("POST", path, hidden), 405)
+        same("the text", client.ask(200, "GET", path, ALONG)[1], sample.text)
+        same("the status of a piece that is too large", status_of_piece(path, PIECE), 413)
+        samples = [random_sample(rng, "utf-8") for _ in range(SENDERS)]
+        same("whether another is served beside slow ones, and what is kept", slow_senders(samples), (True, 0))
+    finally:
+        client.close()
+        nginx.stop()
+    print("for browsers: `/files/` is `/files`; no cookie, password or other method comes through; slow lines wait")
+
+
+def status_of_piece(path, size):
+    """The status of a PATCH of so many bytes, of which the head alone is sent."""
+    with socket.create_connection(("127.0.0.1", FRONT), timeout=60) as raw:
+        lines = [f"PATCH {path} HTTP/1.1", "Host: front", f"Content-Length: {size}", "", ""]
+        raw.sendall("\r\n".join(lines).encode())
+        return int(raw.recv(4096).split()[1])
+
+
+def knows(group):
+    """The password of a group."""
+    return {"Authorization": f"Basic {base64.b64encode(f'{USER}:{PASSWORD} {group}'.encode()).decode()}"}
+
+
+def for_groups(rng, folder):
+    """Two groups, each with its password, path and gateway."""
+    lines = (NGINX / "wovelatsa-groups.conf").read_text().replace("/etc/nginx", str(folder))
+    for group in "ab":
+        hashed = crypt.crypt(f"{PASSWORD} {group}", crypt.METHOD_SHA512)
+        (folder / f"wovelatsa-{group}.users").write_text(f"{USER}:{hashed}\n")
+    nginx = Nginx(folder / "groups", lines)
+    try:
+        for group, other in ("ab", "ba"):
+            of_group(random_sample(rng, "koi8-r"), group, other)
+        same("the status of a group that isn't there", Client(FRONT).status("POST", "/c/files", TUS), 404)
+    finally:
+        nginx.stop()
+    print("for groups: with a group's password uploads go to its own gateway; they are read and deleted there alone")
+
+
+def of_group(sample, group, other):
+    """Who has the group's password uploads, and neither reads nor deletes; who has another's doesn't."""
+    client, length = Client(FRONT), str(len(sample.data))
+    made = {**TUS, "Upload-Length": length, "Upload-Metadata": sample.metadata()}
+    for who in ({}, knows(other)):
+        same("the status without its password", client.status("POST", f"/{group}/files", {**made, **who}), 401)
+    path = client.ask(201, "POST", f"/{group}/files", {**made, **knows(group)})[0]["Location"]
+    holds(f"{path} is of {group}", path.startswith(f"/{group}/files/"))
+    client.ask(204, "PATCH", path, {**OCTETS, **knows(group), "Upload-Offset": "0"}, sample.data)
+    same("the offset", client.ask(200, "HEAD", path, {**TUS, **knows(group)})[0]["Upload-Offset"], length)
+    for method in ("GET", "DELETE"):
+        same(f"the status of {method}", client.status(method, path, {**TUS, **knows(group)}), 403)
+    hidden = {**TUS, **knows(group), "X-HTTP-Method-Override": "DELETE"}
+    same("the status of a DELETE by its other name", client.status("POST", path, hidden), 405)
+    own = path.removeprefix(f"/{group}")
+    same("the text at the gateway itself", Client(PORTS[group]).text(own), sample.text)
+    client.close()
+
+
 def behind_caddy(rng, folder):
     """Who has the password uploads, and what came of a cut body is kept."""
-    knows = {"Authorization": f"Basic {base64.b64encode(f'{USER}:{PASSWORD}'.encode()).decode()}"}
+    known = {"Authorization": f"Basic {base64.b64encode(f'{USER}:{PASSWORD}'.encode()).decode()}"}
     front = f"http://127.0.0.1:{FRONT}"
     sample = max((random_sample(rng, "koi8-r") for _ in range(9)), key=lambda it: len(it.data))
     made = {**TUS, "Upload-Length": len(sample.data), "Upload-Metadata": sample.metadata()}
     caddy = Caddy(folder, USER, PASSWORD)
     try:
         same("the status without a password", reply_of("POST", f"{front}/files", made)[0], 401)
-        status, lines = reply_of("POST", f"{front}/files", {**made, **knows})
+        status, lines = reply_of("POST", f"{front}/files", {**made, **known})
         same("the status with it", status, 201)
         path = lines["location"]
-        with half_sent(path, sample, knows):
+        with half_sent(path, sample, known):
             time.sleep(SETTLES)
         time.sleep(SETTLES)
         half = len(half_of(sample))
         same("the bytes that are kept of a cut body", Client(PORTS["a"]).offset(path), half)
-        rest = fields({**OCTETS, **knows, "Upload-Offset": half})
+        rest = fields({**OCTETS, **known, "Upload-Offset": half})
         curl("-X", "PATCH", *rest, "--data-binary", "@-", front + path, body=sample.data[half:])
-        same("the text", curl(*fields(knows), front + path), sample.text)
-        made = {**TUS, **knows, "Upload-Length": 100_000_000}
+        same("the text", curl(*fields(known), front + path), sample.text)
+        made = {**TUS, **known, "Upload-Length": 100_000_000}
         other = reply_of("POST", f"{front}/files", made)[1]["location"]
         for size, most in REFUSED:
-            seen = [refusal_of(other, size, knows) for _ in range(TRIALS)]
+            seen = [refusal_of(other, size, known) for _ in range(TRIALS)]
             holds(f"refusals of {size} bytes: {seen}", 502 not in seen and seen.count(409) >= TRIALS - most)
     finally:
         caddy.stop()
@@ -226,15 +301,21 @@ def main():
     rng = rng_of(words.seed, "fronts")
     with tempfile.TemporaryDirectory(dir=memory()) as place:
         folder = Path(place)
-        format_spool(words.program, folder / "spool", 2048, indexes_in(folder, words.indexes))
+        indexes = indexes_in(folder, words.indexes)
+        for name in ("spool", "other"):
+            format_spool(words.program, folder / name, 2048, indexes)
         server = Instance(words.program, folder / "spool", PORTS["a"])
+        other = Instance(words.program, folder / "other", PORTS["b"])
         try:
             if has("nginx"):
                 behind_nginx(rng, folder)
+                for_browsers(rng, folder)
+                for_groups(rng, folder)
             if has("caddy"):
                 behind_caddy(rng, folder)
         finally:
             server.kill()
+            other.kill()
 
 
 if __name__ == "__main__":

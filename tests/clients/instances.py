@@ -14,7 +14,7 @@ from pathlib import Path
 
 from harness import ENCODINGS, TUS, Client, format_spool, has_tuspy, header, holds, indexes_in, memory, parser_of
 from harness import curl, fields, random_sample, rng_of, same
-from proxies import FRONT, PORTS, Instance, Nginx, instance_of
+from proxies import FRONT, PORTS, Instance, Nginx, instance_of, lines_for
 
 UPLOADS = 42
 BY_TUSPY = 8
@@ -103,7 +103,7 @@ def filled(client):
 def taken_out(nginx, rng, sent, names):
     """A gateway that is full is taken out: new uploads go to the others, and those that it has stay."""
     full = filled(Client(PORTS["a"]))
-    nginx.change("instances.conf", "    25% a;\n", "")
+    nginx.change("lines.conf", "    25% a;\n", "")
     client = Client(FRONT)
     paths = [upload(client, rng, random_sample(rng, "utf-8")) for _ in range(UPLOADS)]
     same("instances that took uploads then", {instance_of(it) for it in paths}, set(names) - {"a"})
@@ -121,7 +121,7 @@ def try_instances(words, rng, folder, names):
         spool = folder / f"{name}.spool"
         format_spool(words.program, spool, 2048, indexes)
         servers[name] = Instance(words.program, spool, PORTS[name])
-    nginx = Nginx(folder / "nginx", names)
+    nginx = Nginx(folder / "nginx", lines_for(names))
     try:
         sent = send_all(rng, names)
         all_there(sent)

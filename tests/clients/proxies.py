@@ -26,9 +26,9 @@ class Instance(Server):
 
 
 class Nginx:
-    """nginx in a folder of its own, over so many of the instances that packaging/nginx names."""
+    """nginx in a folder of its own, with these lines."""
 
-    def __init__(self, folder, names):
+    def __init__(self, folder, lines):
         self.folder = Path(folder)
         (self.folder / "snippets").mkdir(parents=True)
         for it in ("wovelatsa-proxy.conf", "wovelatsa-cors.conf"):
@@ -36,8 +36,8 @@ class Nginx:
         kinds = ("client_body", "proxy", "fastcgi", "uwsgi", "scgi")
         paths = "".join(f"{it}_temp_path {folder}/{it};\n" for it in kinds)
         head = f"pid {folder}/pid;\nerror_log {folder}/error.log;\nevents {{}}\n"
-        self.write("nginx.conf", f"{head}http {{\naccess_log off;\n{paths}include {folder}/instances.conf;\n}}\n")
-        self.write("instances.conf", lines_for(names))
+        self.write("nginx.conf", f"{head}http {{\naccess_log off;\n{paths}include {folder}/lines.conf;\n}}\n")
+        self.write("lines.conf", lines)
         self.run()
         wait_for(FRONT)
 
@@ -59,8 +59,9 @@ class Nginx:
         time.sleep(1)
 
     def stop(self):
-        """Ends it by its process id, also where its lines don't read any more."""
+        """Ends it by its process id, also where its lines don't read any more, and waits until nobody listens."""
         os.kill(int((self.folder / "pid").read_text()), signal.SIGTERM)
+        wait_for(FRONT, False)
 
 
 class Caddy:
@@ -96,14 +97,14 @@ def lines_for(names):
     return text.replace(f"    25% {last};\n", "").replace("    *   d;", f"    *   {last};")
 
 
-def wait_for(port):
-    """Waits until somebody listens."""
+def wait_for(port, somebody=True):
+    """Waits until somebody listens, or nobody."""
     for _ in range(200):
         with socket.socket() as probe:
-            if probe.connect_ex(("127.0.0.1", port)) == 0:
+            if (probe.connect_ex(("127.0.0.1", port)) == 0) == somebody:
                 return
         time.sleep(0.05)
-    raise TimeoutError(f"nobody listens at {port}")
+    raise TimeoutError(f"{'nobody' if somebody else 'somebody'} listens at {port}")
 
 
 def instance_of(path):

@@ -1,5 +1,5 @@
 //! Serving a spool in a file over sockets.
-ghost use Rattle.std.specs.Prelude.{◌≡◌, ◌≢◌, [], ◌∷◌, IfOk, IsErr, IsErrAnd, IsOk, IsSomeAnd, Some};
+ghost use Rattle.std.specs.Prelude.{◌≡◌, ◌≢◌, [], ◌∷◌, IfOk, IsErr, IsErrAnd, IsNone, IsOk, IsSomeAnd, Some};
 ghost use Rattle.std.specs.Net.Addr.{ipv4_octets};
 ghost use Rattle.std.specs.Net.Socket.{v4_ip, v4_port};
 ghost use Rattle.spool_disk.specs.File.{failed_in};
@@ -36,6 +36,7 @@ pub(crate) fn serve_file<'a>(
 ) -> (Option<FileDisk>, Result<(), Failure<'a>>)
     ensures device { IsSomeAnd result.0 (λ disk. failed_in disk ≢ 0)
         → IsErrAnd result.1 (λ failure. exit_status_of (fault_in failure) ≡ 3) }
+    ensures unopened { IsNone result.0 → IsErr result.1 }
 {
     let spool = service.spool;
     let gateway = match open_gateway(rt, alloc, spool) {
@@ -51,8 +52,8 @@ pub(crate) fn serve_file<'a>(
     let Outcome {
         gateway,
         clients,
-        ended: _,
         served,
+        ..
     } = serve_on(rt, alloc, &mut acceptor, gateway, connections, turns);
     // If standard error can't be written, the count isn't reported.
     drop(report_served(&mut rt.stderr(), clients.opened));
@@ -168,6 +169,7 @@ pub(crate) fn serve_up<'a>(
 ) -> (Option<FileDisk>, Result<(), Failure<'a>>)
     ensures device { IsSomeAnd result.0 (λ disk. failed_in disk ≢ 0)
         → IsErrAnd result.1 (λ failure. exit_status_of (fault_in failure) ≡ 3) }
+    ensures unopened { IsNone result.0 → IsErr result.1 }
 {
     let (gateway, survey) = match open_with_survey(rt, alloc, spool) {
         Ok(opened) => opened,
@@ -273,9 +275,8 @@ where
     for _ in 0..u64::MAX {
         let Outcome {
             gateway: next,
-            clients: _,
-            ended: _,
             served,
+            ..
         } = serve_on(rt, alloc, acceptor, gateway, u64::MAX, u64::MAX);
         gateway = next;
         if served.is_err() {

@@ -4,7 +4,7 @@ ghost use Rattle.gateway_engine.specs.Gateways.{GatewayRepresents, is_down, stor
 
 use gateway_engine::{Connections, Gateway};
 use gateway_files::used_of;
-use gateway_log::{Log, Stock};
+use gateway_log::{Log, Progress, Stock};
 use std::io::Write;
 use std::time::Clock;
 use tus_session::{Answer, At, SessionError};
@@ -40,6 +40,17 @@ impl<'a, U: Uploads, T: Clock, W: Write + Drop> Watched<'a, U, T, W> {
             log: _,
         } = self;
         gateway
+    }
+
+    // Tells the log how far the upload is whose body was cut.
+    fn tell_cut(&self) {
+        if let Some(number) = self.log.cut_upload() {
+            let record = self.gateway.uploads().record(number);
+            self.log.tell_cut(record.map(|record| Progress {
+                accepted: record.accepted,
+                declared: record.declared,
+            }));
+        }
     }
 
     // Looks at the spool, if the log wants that.
@@ -96,6 +107,7 @@ impl<U: Uploads, T: Clock, W: Write + Drop> Connections for Watched<'_, U, T, W>
 
     fn ended(&mut self, conn: usize) -> Result<(), SessionError> {
         let answer = self.gateway.ended(conn);
+        self.tell_cut();
         self.look();
         answer
     }

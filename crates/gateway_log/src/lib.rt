@@ -14,6 +14,6 @@ mod talks;
 mod writing;
 
 pub use listeners::Logged;
-pub use stock::Stock;
+pub use stock::{Progress, Stock};
 pub use streams::LoggedStream;
 pub use writing::Log;

@@ -4,7 +4,7 @@ use crate::counts::Counts;
 use crate::heads::Head;
 use crate::refusals::name_of;
 use crate::stock::{Stock, write_stock};
-use crate::talks::{Asked, Exchange, ReplySent};
+use crate::talks::{Exchange, ReplySent, Spent};
 use jiff::Timestamp;
 use std::io::{self, Write};
 use std::net::SocketAddr;
@@ -21,18 +21,21 @@ pub(crate) struct Client {
     pub(crate) address: SocketAddr,
 }
 
+/// A client that waited for a place at least so many milliseconds has its wait in its first line.
+const LEAST_WAIT: u128 = 20;
+
 /// The refusal of an unknown label or mode, `BadLabel`.
 const BAD_LABEL: u64 = 28;
 
 /// Writes the line of an exchange that ended at this time: `TIME NUMBER CLIENT METHOD PATH by=.. offset=.. length=..
-/// body=.. status=.. refusal=.. metadata=.. in=.. out=.. ms=.. number=.. now=.. from=.. to=.. mode=..`. The metadata is
-/// shown if its labels are refused, and so are these.
+/// body=.. status=.. refusal=.. metadata=.. in=.. out=.. ms=.. wait=.. number=.. now=.. from=.. to=.. mode=..`. The
+/// metadata is shown if its labels are refused, and so are these; the wait, if it was no short one.
 pub(crate) fn write_exchange(
     out: &mut Vec<u8>,
     time: Duration,
     client: Client,
     exchange: &Exchange,
-    millis: u128,
+    spent: Spent,
 ) -> io::Result<()> {
     let Exchange { asked, reply } = exchange;
     write_time(out, time)?;
@@ -44,7 +47,8 @@ pub(crate) fn write_exchange(
         write!(out, " metadata=")?;
         write_shown(out, asked.head.metadata())?;
     }
-    write!(out, " in={} out={} ms={millis}", asked.bytes, reply.bytes)?;
+    write!(out, " in={} out={}", asked.bytes, reply.bytes)?;
+    write_spent(out, spent)?;
     write_upload(out, reply)?;
     if is_bad_label {
         write_labels(out, &asked.head)?;
@@ -112,6 +116,16 @@ fn write_reply(out: &mut Vec<u8>, reply: &ReplySent) -> io::Result<()> {
         Some(name) => write!(out, ":{name}"),
         None => Ok(()),
     }
+}
+
+// Writes how long an exchange took, and how long its client waited for its place.
+fn write_spent(out: &mut Vec<u8>, spent: Spent) -> io::Result<()> {
+    write!(out, " ms={}", spent.took.as_millis())?;
+    let waited = spent.waited.as_millis();
+    if waited >= LEAST_WAIT {
+        write!(out, " wait={waited}")?;
+    }
+    Ok(())
 }
 
 // Writes what the reply says of an upload: its number if it is new, and how many bytes it has now, of how many.

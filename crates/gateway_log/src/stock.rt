@@ -13,6 +13,15 @@ pub struct Stock {
     pub incomplete: u64,
 }
 
+/// How far an upload came.
+#[derive(Clone, Copy, Debug, PartialEq, Eq, Drop)]
+pub struct Progress {
+    /// How many of its bytes are accepted.
+    pub accepted: u64,
+    /// Its length, if that is known.
+    pub declared: Option<u64>,
+}
+
 /// Writes what is left, if that is known.
 pub(crate) fn write_stock(out: &mut Vec<u8>, stock: Option<Stock>) -> io::Result<()> {
     match stock {

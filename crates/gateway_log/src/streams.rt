@@ -1,10 +1,11 @@
 //! Streams whose bytes are logged.
 
 use crate::shown::Client;
-use crate::talks::{Exchange, Talk};
+use crate::talks::{Exchange, Spent, Talk};
 use crate::writing::Log;
 use std::cell::Cell;
 use std::io::{self, Read, Write};
+use std::mem;
 use std::net::{OpenStream, Shutdown, SocketAddr};
 use std::time::{Clock, Duration};
 
@@ -13,10 +14,22 @@ struct Watch<'a, T: Clock, W: Write + Drop> {
     log: &'a Log<'a, T, W>,
     client: Client,
     opened: Duration,
+    /// When its server first read, which is when the client got a place. `None` until then.
+    placed: Option<Duration>,
+    /// How long it waited, until a line has told that.
+    waited: Duration,
     talk: Talk,
 }
 
 impl<T: Clock, W: Write + Drop> Watch<'_, T, W> {
+    // The server reads now.
+    fn reads(&mut self, now: Duration) {
+        if self.placed.is_none() {
+            self.placed = Some(now);
+            self.waited = now.saturating_sub(self.opened);
+        }
+    }
+
     // Counts bytes that were received now, and whether a body is under way after them.
     fn came(&mut self, now: Duration, bytes: &[u8]) {
         let before = self.talk.is_in_body();
@@ -39,8 +52,13 @@ impl<T: Clock, W: Write + Drop> Watch<'_, T, W> {
             }
             let (after, exchange) = self.talk.sent(rest);
             if let Some(exchange) = exchange {
-                let took = lasted(&exchange, self.opened, now);
-                self.log.log_exchange(self.client, took, &exchange);
+                // The first line tells how long the client waited.
+                let waited = mem::replace(&mut self.waited, Duration::ZERO);
+                let spent = Spent {
+                    waited,
+                    took: lasted(&exchange, self.opened, now),
+                };
+                self.log.log_exchange(self.client, spent, &exchange);
             }
             rest = after;
         }
@@ -53,13 +71,23 @@ impl<T: Clock, W: Write + Drop> Drop for Watch<'_, T, W> {
             log,
             client,
             opened,
+            placed: _,
+            waited,
             mut talk,
         } = self;
-        if talk.is_in_body() {
+        let is_cut = talk.is_in_body();
+        if is_cut {
             log.body_ends();
         }
-        if let Some(exchange) = talk.end() {
-            log.log_exchange(client, lasted(&exchange, opened, log.now()), &exchange);
+        let Some(exchange) = talk.end() else {
+            return;
+        };
+        let took = lasted(&exchange, opened, log.now());
+        let spent = Spent { waited, took };
+        if is_cut && exchange.reply.status.is_none() {
+            log.keep_cut(client, spent, exchange);
+        } else {
+            log.log_exchange(client, spent, &exchange);
         }
     }
 }
@@ -87,6 +115,8 @@ impl<'a, S, T: Clock, W: Write + Drop> LoggedStream<'a, S, T, W> {
                 log,
                 client,
                 opened: log.now(),
+                placed: None,
+                waited: Duration::ZERO,
                 talk: Talk::new(log.alloc()),
             },
             is_over: Cell::new(false),
@@ -100,6 +130,7 @@ impl<S: Read, T: Clock, W: Write + Drop> Read for LoggedStream<'_, S, T, W> {
     fn read(&mut self, buf: &mut [u8]) -> io::Result<usize> {
         let read = self.stream.read(buf);
         let now = self.watch.log.turn_if_late();
+        self.watch.reads(now);
         let count = read?;
         if self.is_over.get() {
             self.watch.log.count_in(count, 0);

@@ -2,6 +2,7 @@
 
 use crate::heads::Head;
 use crate::messages::Messages;
+use common::number;
 use std::alloc::Global;
 use std::collections::VecDeque;
 use std::time::Duration;
@@ -38,6 +39,20 @@ pub(crate) struct ReplySent {
 pub(crate) struct Exchange {
     pub(crate) asked: Asked,
     pub(crate) reply: ReplySent,
+}
+
+impl Exchange {
+    /// The number of the upload that its path names, if it is one of an upload.
+    pub(crate) fn upload(&self) -> Option<u64> {
+        number(self.asked.head.word(1)?.strip_prefix(b"/files/")?)
+    }
+}
+
+/// How long a client waited for its place before an exchange, and how long the exchange took.
+#[derive(Clone, Copy, Debug, PartialEq, Eq, Drop)]
+pub(crate) struct Spent {
+    pub(crate) waited: Duration,
+    pub(crate) took: Duration,
 }
 
 /// The requests and replies of a connection.

@@ -2,8 +2,8 @@
 
 use crate::counts::Counts;
 use crate::shown::{Client, write_counts, write_exchange};
-use crate::stock::Stock;
-use crate::talks::Exchange;
+use crate::stock::{Progress, Stock};
+use crate::talks::{Exchange, Spent};
 use std::alloc::Global;
 use std::cell::{Cell, RefCell};
 use std::io::Write;
@@ -23,6 +23,14 @@ const LOOK: u64 = 1;
 /// How many seconds pass between two lines of counts.
 const MINUTE: u64 = 60;
 
+/// An exchange whose body the end of its connection cut. Its line waits until the log is told what its upload has.
+#[derive(Drop)]
+struct Cut {
+    client: Client,
+    spent: Spent,
+    exchange: Exchange,
+}
+
 /// A log, which the connections of a server share. Its lines are gathered, and written when the server accepts, or a
 /// second later when it reads or writes. Out of memory a line is lost, and if the writer fails, so is what was gathered;
 /// neither is reported.
@@ -41,6 +49,8 @@ pub struct Log<'a, T: Clock, W: Write + Drop> {
     counted: Cell<Duration>,
     /// How many bodies are under way.
     bodies: Cell<u64>,
+    /// The latest body that was cut.
+    cut: Cell<Option<Cut>>,
     /// What was left at the latest look at the spool, and when that was.
     stock: Cell<Option<Stock>>,
     looked: Cell<Duration>,
@@ -60,6 +70,7 @@ impl<'a, T: Clock, W: Write + Drop> Log<'a, T, W> {
             turned: Cell::new(now),
             counted: Cell::new(now),
             bodies: Cell::new(0),
+            cut: Cell::new(None),
             stock: Cell::new(None),
             looked: Cell::new(now),
         }
@@ -67,6 +78,7 @@ impl<'a, T: Clock, W: Write + Drop> Log<'a, T, W> {
 
     /// Writes what was gathered, and the counts since the last line of counts.
     pub fn end(&self) {
+        self.tell_cut(None);
         self.log_counts();
         self.write();
     }
@@ -81,6 +93,39 @@ impl<'a, T: Clock, W: Write + Drop> Log<'a, T, W> {
     pub fn take_stock(&self, stock: Stock) {
         self.stock.set(Some(stock));
         self.looked.set(self.now());
+    }
+
+    /// The number of the upload whose body was cut last, if its line waits for what the upload has.
+    pub fn cut_upload(&self) -> Option<u64> {
+        let cut = self.cut.replace(None)?;
+        let upload = cut.exchange.upload();
+        self.cut.set(Some(cut));
+        upload
+    }
+
+    /// Logs the body that was cut, if its line waits, with what its upload has, where that is known.
+    pub fn tell_cut(&self, progress: Option<Progress>) {
+        let Some(Cut {
+            client,
+            spent,
+            mut exchange,
+        }) = self.cut.replace(None)
+        else {
+            return;
+        };
+        exchange.reply.offset = progress.map(|progress| progress.accepted);
+        exchange.reply.length = progress.and_then(|progress| progress.declared);
+        self.add_exchange(client, spent, &exchange);
+    }
+
+    /// Keeps an exchange whose body was cut, until the log is told what its upload has, or goes on.
+    pub(crate) fn keep_cut(&self, client: Client, spent: Spent, exchange: Exchange) {
+        self.tell_cut(None);
+        self.cut.set(Some(Cut {
+            client,
+            spent,
+            exchange,
+        }));
     }
 
     /// The allocator.
@@ -143,6 +188,7 @@ impl<'a, T: Clock, W: Write + Drop> Log<'a, T, W> {
 
     // Writes what was gathered, and each minute the counts, at this time.
     fn turn_at(&self, now: Duration) {
+        self.tell_cut(None);
         if now.saturating_sub(self.counted.get()).as_secs() >= MINUTE {
             self.counted.set(now);
             self.log_counts();
@@ -152,13 +198,18 @@ impl<'a, T: Clock, W: Write + Drop> Log<'a, T, W> {
     }
 
     /// Logs an exchange that took so long.
-    pub(crate) fn log_exchange(&self, client: Client, took: Duration, exchange: &Exchange) {
+    pub(crate) fn log_exchange(&self, client: Client, spent: Spent, exchange: &Exchange) {
+        self.tell_cut(None);
         self.count_reply(exchange);
-        let millis = took.as_millis();
+        self.add_exchange(client, spent, exchange);
+    }
+
+    // Gathers the line of an exchange.
+    fn add_exchange(&self, client: Client, spent: Spent, exchange: &Exchange) {
         let time = self.time();
         let mut lines = self.lines.replace(Vec::new(self.alloc));
         let length = lines.len();
-        if write_exchange(&mut lines, time, client, exchange, millis).is_err() {
+        if write_exchange(&mut lines, time, client, exchange, spent).is_err() {
             lines.truncate(length);
         }
         let full = lines.len() >= FULL;

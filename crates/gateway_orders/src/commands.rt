@@ -87,12 +87,12 @@ const UP: Described = Described {
         Given {
             name: "quiet",
             with: With::Nothing,
-            help: "Prints nothing but what is wrong",
+            help: "Prints errors and warnings only",
         },
         Given {
             name: "log",
             with: With::Nothing,
-            help: "Logs each reply, also where no terminal shows it",
+            help: "Logs each reply, also without a terminal",
         },
     ],
 };
@@ -176,12 +176,12 @@ static COMMANDS: [Described; 9] = [
             Given {
                 name: "DIR",
                 with: With::Word,
-                help: "The folder, which is there. A file that is there stays as it is",
+                help: "An existing folder. Existing files are kept",
             },
             Given {
                 name: "all",
                 with: With::Nothing,
-                help: "Of the other uploads too, what there is so far",
+                help: "Also incomplete uploads: their text so far",
             },
         ],
     },

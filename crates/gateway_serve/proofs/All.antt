@@ -9,7 +9,7 @@ use Rattle.tus_session.specs.History.{State, Opened, Done, Refused, Marked, hist
 use Rattle.tus_session.specs.declared.errors.SessionError.{SessionError}
 use Rattle.tus_session.specs.Connections.{mark_of, outcome_of_done}
 use Rattle.tus_session.specs.declared.connections.Connections.{Ghosts}
-use Rattle.gateway_serve.specs.Conversations.{Conversation, AreTalks, new_conversation}
+use Rattle.gateway_serve.specs.Conversations.{Conversation, AreTalks, AreRefused, new_conversation, one_if_refused}
 use Rattle.gateway_serve.specs.Sockets as sockets
 use Rattle.gateway_serve.specs.Sockets.{Pairs, current_of}
 use Rattle.gateway_serve.specs.declared.sockets.Seen.{Seen}
@@ -21,9 +21,9 @@ use Rattle.gateway_serve.specs.declared.places.Place.TheVariants.{Free, Open}
 use Rattle.gateway_serve.specs.declared.links.Link.{Link}
 use Rattle.gateway_serve.specs.declared.reasons.Reason.TheVariants.{Over}
 use Rattle.gateway_serve.proofs.After.{followed}
-use Rattle.gateway_serve.proofs.Steps.{opens_closed, unopened}
+use Rattle.gateway_serve.proofs.Steps.{opens_closed, step_else, unopened}
 use Rattle.gateway_serve.proofs.Joints.{moved}
-use Rattle.gateway_serve.proofs.Talks.{talks_here, alone_step, gave_done, gave_refused}
+use Rattle.gateway_serve.proofs.Talks.{talks_here, talks_else, alone_step, gave_done, gave_refused}
 use Rattle.gateway_serve.proofs.Freed.{loosely, others_stay, unreported_place}
 
 -- by events of another connection a place stays as it was
@@ -52,48 +52,59 @@ falls sure Free ended st past n is = (is.0, is.1, is.2)
 falls sure (Open l) ended st past n is = is
 
 module _ {S : Type 0} (sure : Bool) (places : List (Place S)) (n : ℕ) (p' : Place S) (ended ended' : List Seen)
-    (st : State)
-    (past now : List Marked) (inside : n < length places)
+    (refused : ℕ) (st : State) (past now : List Marked) (inside : n < length places)
     (alone : Alone sure st n past now) (others : OthersStay n ended ended')
-    (all : AllJoin sure places ended st past) where
+    (all : AllJoin sure places ended refused st past) where
   other_place : (k : ℕ) → (k ≡ n → ⊥) → PlaceJoins sure (get_or places k Free) (current_of k ended') st now k
   other_place k ne = rw (others k ne) (place_unchanged sure st past now k (alone.talks k ne) (alone.conns k ne)
-      (get_or places k Free) (current_of k ended) (all k))
+      (get_or places k Free) (current_of k ended) (all.0 k))
 
-  pub all_joined : PlaceJoins sure p' (current_of n ended') st now n → AllJoin sure (set places n p') ended' st now
-  all_joined here =
-      set_all (λ p k. PlaceJoins sure p (current_of k ended') st now k) places n p' inside here other_place
+  still_refused : AreRefused refused st now
+  still_refused = all.1 ∙ sym alone.refused
 
-  pub all_fallen : PlaceFell sure p' (current_of n ended') st now n → AllFell sure (set places n p') ended' st now
-  all_fallen here =
-      set_all (λ p k. PlaceFell sure p (current_of k ended') st now k) places n p' inside here
-      (λ k ne. falls sure (get_or places k Free) (current_of k ended') st now k (other_place k ne))
+  pub all_joined : PlaceJoins sure p' (current_of n ended') st now n
+      → AllJoin sure (set places n p') ended' refused st now
+  all_joined here = (
+    set_all (λ p k. PlaceJoins sure p (current_of k ended') st now k) places n p' inside here other_place,
+    still_refused,
+  )
+
+  pub all_fallen : PlaceFell sure p' (current_of n ended') st now n
+      → AllFell sure (set places n p') ended' refused st now
+  all_fallen here = (
+    set_all (λ p k. PlaceFell sure p (current_of k ended') st now k) places n p' inside here
+        (λ k ne. falls sure (get_or places k Free) (current_of k ended') st now k (other_place k ne)),
+    still_refused,
+  )
 
 -- what was done at one place, among all
 pub among_all : {C S T : Type 0} (c : Ghosts C) (old mid new : C) (reported : Result T DiskFault)
-    (first places : List (Place S)) (n : ℕ) (d p' : Place S) (was ended ended' : List Seen)
-    → StaysJoined c old mid (Ok (tt {0})) first places was ended
+    (first places : List (Place S)) (n : ℕ) (d p' : Place S) (was ended ended' : List Seen) (refused now_refused : ℕ)
+    → StaysJoined c old mid (Ok (tt {0})) first places was ended refused now_refused
     → GoesAt c mid new reported (get_or places n d) p' ended ended' n → OthersStay n ended ended' → n < length places
-    → StaysJoined c old new reported first (set places n p') was ended'
-among_all c old mid new reported first places n d p' was ended ended' on goes others inside =
+    → StaysJoined c old new reported first (set places n p') was ended' refused now_refused
+among_all c old mid new reported first places n d p' was ended ended' refused now_refused on goes others inside =
     λ sure before st past went joins.
     let s = on sure before st past went joins in
     followed c sure before new st (λ now. Alone sure st n s.0 now × PlaceJoins sure p' (current_of n ended') st now n)
     (λ now. Alone sure st n s.0 now × PlaceFell sure p' (current_of n ended') st now n)
-    (AllJoin sure (set places n p') ended' st) (AllFell sure (set places n p') ended' st) reported
-    (goes sure before st s.0 s.1 (rw (get_or_default places n Free d inside) at (s.2 n)))
-    (λ now x. all_joined sure places n p' ended ended' st s.0 now inside x.0 others s.2 x.1)
-    (λ now x. all_fallen sure places n p' ended ended' st s.0 now inside x.0 others s.2 x.1)
+    (AllJoin sure (set places n p') ended' now_refused st) (AllFell sure (set places n p') ended' now_refused st)
+    reported (goes sure before st s.0 s.1 (rw (get_or_default places n Free d inside) at (s.2.0 n)))
+    (λ now x. all_joined sure places n p' ended ended' now_refused st s.0 now inside x.0 others s.2 x.1)
+    (λ now x. all_fallen sure places n p' ended ended' now_refused st s.0 now inside x.0 others s.2 x.1)
 
 -- ALL ARE ENDED
-pub all_served : {S : Type 0} (sure : Bool) (places : List (Place S)) (ended : List Seen) (st : State)
+pub all_served : {S : Type 0} (sure : Bool) (places : List (Place S)) (ended : List Seen) (refused : ℕ) (st : State)
     (past : List Marked)
     → ((k : ℕ) → k < length places → get_or places k Free ≡ Free)
-    → AllJoin sure places ended st past → AllServed sure ended st past
-all_served {S} sure places ended st past free all = λ k.
-    let is_free : get_or places k Free ≡ Free =
-    elim (cases_lt k (length places)) [ inl lt ↦ free k lt | inr le ↦ get_or_past places k Free le ] in
-    rw is_free at (all k)
+    → AllJoin sure places ended refused st past → AllServed sure ended refused st past
+all_served {S} sure places ended refused st past free all = (
+  λ k.
+      let is_free : get_or places k Free ≡ Free =
+      elim (cases_lt k (length places)) [ inl lt ↦ free k lt | inr le ↦ get_or_past places k Free le ] in
+      rw is_free at (all.0 k),
+  all.1,
+)
 
 -- ALL ARE LET GO
 abbrev pub LeftAt : Bool → List Seen → State → List Marked → ℕ → Type 0
@@ -105,12 +116,13 @@ HalfLeft sure i places ended st past =
     (k : ℕ) → (k < i → LeftAt sure ended st past k)
     × (i ≤ k → PlaceFell sure (get_or places k Free) (current_of k ended) st past k)
 
-pub none_left : {S : Type 0} (sure : Bool) (places : List (Place S)) (ended : List Seen) (st : State)
-    (past : List Marked) → AllFell sure places ended st past → HalfLeft sure 0 places ended st past
-none_left sure places ended st past all = λ k. (λ lt. absurd (omega (arith, lt)), λ le. all k)
+pub none_left : {S : Type 0} (sure : Bool) (places : List (Place S)) (ended : List Seen) (refused : ℕ) (st : State)
+    (past : List Marked) → AllFell sure places ended refused st past → HalfLeft sure 0 places ended st past
+none_left sure places ended refused st past all = λ k. (λ lt. absurd (omega (arith, lt)), λ le. all.0 k)
 
 pub all_left : {S : Type 0} (sure : Bool) (i : ℕ) (places : List (Place S)) (ended : List Seen) (st : State)
-    (past : List Marked) → length places ≤ i → HalfLeft sure i places ended st past → AllLeft sure ended st past
+    (past : List Marked) → length places ≤ i → HalfLeft sure i places ended st past
+    → (k : ℕ) → LeftAt sure ended st past k
 all_left {S} sure i places ended st past most all = λ k. elim (cases_lt k i) [
   | inl lt ↦ (all k).0 lt
   | inr le ↦
@@ -148,22 +160,24 @@ none_join : (S : Type 0) (sure : Bool) (st : State) (n : ℕ) → PlaceJoins {S 
 none_join S sure st n = ([], refl, tt {0}, refl)
 
 pub new_joins : {S : Type 0} (sure : Bool) (places : List (Place S)) (ended : List Seen) (st : State) → places ≡ []
-    → ended ≡ [] → AllJoin sure places ended st []
-new_joins {S} sure places ended st free none = λ n. rw (free, none) (none_join S sure st n)
+    → ended ≡ [] → AllJoin sure places ended 0 st []
+new_joins {S} sure places ended st free none = (λ n. rw (free, none) (none_join S sure st n), refl)
 
 -- places that differ only by free ones
 pub same_join : {S : Type 0} (sure : Bool) (old new : List (Place S)) (ended ended' : List Seen) (st : State)
-    (past : List Marked)
-    → SamePlaces old new → ended' ≡ ended → AllJoin sure old ended st past → AllJoin sure new ended' st past
-same_join {S} sure old new ended ended' st past same is all = λ n. rw (is, same n) (all n)
+    (past : List Marked) (refused refused' : ℕ)
+    → SamePlaces old new → ended' ≡ ended → refused' ≡ refused → AllJoin sure old ended refused st past
+    → AllJoin sure new ended' refused' st past
+same_join {S} sure old new ended ended' st past refused refused' same is as all =
+    (λ n. rw (is, same n) (all.0 n), as ∙ all.1)
 
 -- A CONNECTION IS OPENED, in a place that is free
-module _ {S : Type 0} (sure : Bool) (places : List (Place S)) (n : ℕ) (ended : List Seen) (st : State)
+module _ {S : Type 0} (sure : Bool) (places : List (Place S)) (n : ℕ) (ended : List Seen) (refused : ℕ) (st : State)
     (past : List Marked) (answer : Result (Unit {0}) SessionError)
     (outcome : (step (history st past) (Opened n) (mark_of answer)).outcome ≡ outcome_of_done answer)
-    (all : AllJoin sure places ended st past) (free : get_or places n Free ≡ Free) where
+    (all : AllJoin sure places ended refused st past) (free : get_or places n Free ≡ Free) where
   at_free : PlaceJoins {S = S} sure Free (current_of n ended) st past n
-  at_free = rw free at (all n)
+  at_free = rw free at (all.0 n)
 
   begins : (l : Link S) → joint_of l ≡ nothing_yet → (step (history st past) (Opened n) (mark_of answer)).outcome ≡ Done
       → Joins sure (joint_of l) (current_of n ended) st ((Opened n, mark_of answer) ∷ past) n
@@ -183,19 +197,20 @@ module _ {S : Type 0} (sure : Bool) (places : List (Place S)) (n : ℕ) (ended :
       })
 
   pub all_opened : (p' : Place S) → n < length places → IsNew p' → (x : Unit {0}) → answer ≡ Ok x
-      → AllJoin sure (set places n p') ended st ((Opened n, mark_of answer) ∷ past)
+      → AllJoin sure (set places n p') ended refused st ((Opened n, mark_of answer) ∷ past)
   all_opened p' inside new x ok =
-      all_joined sure places n p' ended ended st past ((Opened n, mark_of answer) ∷ past) inside
-      (alone_step sure st past (Opened n) (mark_of answer)) (λ k ne. refl) all
+      all_joined sure places n p' ended ended refused st past ((Opened n, mark_of answer) ∷ past) inside
+      (alone_step sure st past (Opened n) (mark_of answer)
+      (ap (one_if_refused (Opened n)) (outcome ∙ ap outcome_of_done ok))) (λ k ne. refl) all
       (rw new.1 (begins new.0 new.2 (outcome ∙ ap outcome_of_done ok)))
 
   -- or it is refused
   pub all_unopened : (f : SessionError) → answer ≡ Err f
-      → AllJoin sure places ended st ((Opened n, mark_of answer) ∷ past)
-  all_unopened f refused =
+      → AllJoin sure places ended (refused + 1) st ((Opened n, mark_of answer) ∷ past)
+  all_unopened f is =
       let now : List Marked = (Opened n, mark_of answer) ∷ past in
       let reported : (step (history st past) (Opened n) (mark_of answer)).outcome ≡ Refused f =
-      outcome ∙ ap outcome_of_done refused in
+      outcome ∙ ap outcome_of_done is in
       let here : PlaceJoins {S = S} sure Free (current_of n ended) st now n = (
         at_free.0,
         talks_here sure st past (Opened n) (mark_of answer) at_free.0 (Refused f) at_free.1
@@ -204,14 +219,19 @@ module _ {S : Type 0} (sure : Bool) (places : List (Place S)) (n : ℕ) (ended :
         unopened (history st past) n (mark_of answer)
             (λ done. let x : Refused f ≡ Done = sym reported ∙ done in absurd (cc)) ∙ at_free.3,
       ) in
-      let alone = alone_step sure st past (Opened n) (mark_of answer) in
-      λ k. elim (cases_eq k n) [
-        | inl e ↦ rw (e, free) here
-        | inr ne ↦ place_unchanged sure st past now k (alone.talks k ne) (alone.conns k ne) (get_or places k Free)
-            (current_of k ended) (all k)
-      ]
+      let one : one_if_refused (Opened n) (step (history st past) (Opened n) (mark_of answer)).outcome ≡ 1 =
+      ap (one_if_refused (Opened n)) reported in (
+        λ k. elim (cases_eq k n) [
+          | inl e ↦ rw (e, free) here
+          | inr ne ↦ place_unchanged sure st past now k (talks_else sure st past (Opened n) (mark_of answer) k ne)
+              (step_else (history st past) k (Opened n) (mark_of answer) ne) (get_or places k Free)
+              (current_of k ended) (all.0 k)
+        ],
+        omega (arith, one, all.1),
+      )
 
-pub all_fall : {S : Type 0} (sure : Bool) (places : List (Place S)) (ended : List Seen) (st : State)
+pub all_fall : {S : Type 0} (sure : Bool) (places : List (Place S)) (ended : List Seen) (refused : ℕ) (st : State)
     (past : List Marked)
-    → AllJoin sure places ended st past → AllFell sure places ended st past
-all_fall sure places ended st past all = λ n. falls sure (get_or places n Free) (current_of n ended) st past n (all n)
+    → AllJoin sure places ended refused st past → AllFell sure places ended refused st past
+all_fall sure places ended refused st past all =
+    (λ n. falls sure (get_or places n Free) (current_of n ended) st past n (all.0 n), all.1)

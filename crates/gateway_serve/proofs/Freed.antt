@@ -20,6 +20,7 @@ use Rattle.gateway_serve.specs.Bytes.{current}
 use Rattle.gateway_serve.specs.declared.reasons.Reason.{Reason}
 use Rattle.gateway_serve.specs.declared.reasons.Reason.TheVariants as Why
 use Rattle.gateway_serve.specs.declared.sockets.Latest.{Latest}
+use Rattle.gateway_serve.specs.declared.sockets.Spell.{Spell}
 use Rattle.gateway_serve.specs.declared.links.Link.{Link}
 use Rattle.gateway_serve.specs.declared.places.Place.{Place}
 use Rattle.gateway_serve.specs.declared.places.Place.TheVariants.{Free, Open}
@@ -27,9 +28,15 @@ use Rattle.gateway_serve.proofs.Steps.{same_number, other_number, ended_shuts, e
 use Rattle.gateway_serve.proofs.Talks.{talks_here, gave_ended}
 
 -- its socket is the first of those of the connection
-abbrev current_at : ℕ → Joint → Latest → Reason → Seen
-current_at n j latest reason =
-    record { conn = n; came = trace_of j.came; went = trace_of j.went; latest = latest; reason = reason }
+abbrev current_at : ℕ → Joint → Latest → Spell → Reason → Seen
+current_at n j latest spell reason = record {
+  conn = n;
+  came = trace_of j.came;
+  went = trace_of j.went;
+  latest = latest;
+  spell = spell;
+  reason = reason;
+}
 
 first_current : (n : ℕ) (s : Seen) (ended : List Seen) → s.conn ≡ n → current_of n (s ∷ ended) ≡ s ∷ current_of n ended
 first_current n s ended e = rw (e, same_number n) refl
@@ -40,7 +47,7 @@ others_current n s ended e = λ k ne. rw (e, other_number k n ne) refl
 pub others_stay : {S : Type 0} (n : ℕ) (reason : Reason) (p : Place S) (ended : List Seen)
     → OthersStay n ended (with_place n reason p ended)
 others_stay n reason Free ended = λ k ne. refl
-others_stay n reason (Open l) ended = others_current n (current n l.socket reason) ended refl
+others_stay n reason (Open l) ended = others_current n (current n l.socket l.spell reason) ended refl
 
 -- what is quietly ended has written all
 abbrev IfWhole : Reason → Joint → Type 0
@@ -65,11 +72,11 @@ module _ (sure : Bool) (ended : List Seen) (st : State) (past : List Marked) (n 
   all_went : (j : Joint) (is : Joins sure j (current_of n ended) st past n) → j.output ≡ [] → j.went ≡ is.latest.gave
   all_went j is none = sym (append-nil j.went) ∙ (ap (λ l. j.went ++ l) (sym none) ∙ is.given)
 
-  fits : (latest : Latest) (reason : Reason) (j : Joint) (is : Joins sure j (current_of n ended) st past n)
+  fits : (latest : Latest) (spell : Spell) (reason : Reason) (j : Joint) (is : Joins sure j (current_of n ended) st past n)
       (c : Conversation) → c.took ≡ is.latest.took → c.gave ≡ is.latest.gave
       → (reason ≡ Why.Closed → c.disconnected ≡ false) → IfWhole reason j → FewWait j.output
-      → sockets.Fits (current_at n j latest reason) c
-  fits latest reason j is c took gave connected whole few = record {
+      → sockets.Fits (current_at n j latest spell reason) c
+  fits latest spell reason j is c took gave connected whole few = record {
     taken = (j.input, rw took is.taken, is.few);
     written = (j.output, rw gave (sym is.given), few);
     emptied = λ w. rw gave (all_went j is (whole w));
@@ -77,15 +84,15 @@ module _ (sure : Bool) (ended : List Seen) (st : State) (past : List Marked) (n 
   }
 
   -- it was reported to the session that its client is gone
-  reported_pairs : (latest : Latest) (reason : Reason) (m : Mark) (j : Joint) → IfWhole reason j
+  reported_pairs : (latest : Latest) (spell : Spell) (reason : Reason) (m : Mark) (j : Joint) → IfWhole reason j
       → (reason ≡ Why.Closed → ⊥) → FewWait j.output → Joins sure j (current_of n ended) st past n
       → (cs : List Conversation) × AreTalks sure st ((Ended n, m) ∷ past) n cs
-      × Pairs sockets.Served (current_of n (current_at n j latest reason ∷ ended)) cs
-  reported_pairs latest reason m j whole unclosed few is =
-      let s = current_at n j latest reason in
+      × Pairs sockets.Served (current_of n (current_at n j latest spell reason ∷ ended)) cs
+  reported_pairs latest spell reason m j whole unclosed few is =
+      let s = current_at n j latest spell reason in
       let served : sockets.Served s (hung_up is.latest) =
       record {
-        fits = fits latest reason j is (hung_up is.latest) refl refl (λ e. absurd (unclosed e)) whole few;
+        fits = fits latest spell reason j is (hung_up is.latest) refl refl (λ e. absurd (unclosed e)) whole few;
         whole = λ e. absurd (cc);
       } in (
         hung_up is.latest ∷ is.others,
@@ -106,7 +113,7 @@ module _ (sure : Bool) (ended : List Seen) (st : State) (past : List Marked) (n 
       → PlaceJoins sure p' (current_of n ended') st ((Ended n, mark_of answer) ∷ past) n
   reported_place reason Free p' ended' answer free with may few used ok is = absurd (used refl)
   reported_place reason (Open l) p' ended' answer free with may few used ok is =
-      let all = reported_pairs l.socket.latest reason (mark_of answer) (joint_of l) (if_whole reason l may)
+      let all = reported_pairs l.socket.latest l.spell reason (mark_of answer) (joint_of l) (if_whole reason l may)
       (not_closed reason (Open l) may) few is in
       rw (free, with) (all.0, all.1, all.2, reported_none answer ok ∙ sym is.apart)
 
@@ -116,7 +123,7 @@ module _ (sure : Bool) (ended : List Seen) (st : State) (past : List Marked) (n 
       → PlaceFell sure p' (current_of n ended') st ((Ended n, m) ∷ past) n
   fallen_place reason Free p' ended' m free with may few used is = absurd (used refl)
   fallen_place reason (Open l) p' ended' m free with may few used is =
-      rw (free, with) (reported_pairs l.socket.latest reason m (joint_of l) (if_whole reason l may)
+      rw (free, with) (reported_pairs l.socket.latest l.spell reason m (joint_of l) (if_whole reason l may)
       (not_closed reason (Open l) may) few is)
 
   -- WITHOUT A WORD to the session
@@ -127,8 +134,8 @@ module _ (sure : Bool) (ended : List Seen) (st : State) (past : List Marked) (n 
   unreported_place (Open l) few is = (
     is.latest ∷ is.others,
     is.talks,
-    rw (first_current n (current n l.socket Why.Over) ended refl) (
-      fits l.socket.latest Why.Over (joint_of l) is is.latest refl refl (λ e. is.disconnected) (λ w. absurd w) few,
+    rw (first_current n (current n l.socket l.spell Why.Over) ended refl) (
+      fits l.socket.latest l.spell Why.Over (joint_of l) is is.latest refl refl (λ e. is.disconnected) (λ w. absurd w) few,
       loosely (current_of n ended) is.others is.pairs,
     ),
   )

@@ -1,19 +1,24 @@
 -- Why connections ended.
-use Rattle.std.proofs.Common.{◌≡◌, ◌≢◌, ◌⊎◌, ◌<◌, ◌≤◌, inl, inr, refl, ℕ, ◌+◌, List}
+use Rattle.std.proofs.Common.{◌≡◌, ◌≢◌, ◌⊎◌, ◌<◌, ◌≤◌, inl, inr, refl, ℕ, ◌+◌, List, [], ◌∷◌}
 use Rattle.std.proofs.Common.{length, arith}
 use Rattle.std.specs.declared.io.ErrorKind.{ErrorKind}
 use Rattle.gateway_serve.specs.declared.sockets.Seen.{Seen}
 use Rattle.gateway_serve.specs.Bytes.{latest_of, current}
-use Rattle.gateway_serve.specs.Gone.{EndsBy, IfLost, IsFailure}
+use Rattle.std.specs.declared.time.Duration.{Duration}
+use Rattle.gateway_serve.specs.Gone.{EndsBy, EndsInTime, IfLost, IsAmong, IsFailure}
 use Rattle.gateway_serve.specs.Joined.{with_place}
-use Rattle.gateway_serve.specs.Reasons.{EndedOnce, none, free, one_more, AtMostOnce}
+use Rattle.gateway_serve.specs.Reasons.{EndedOnce, none, free, one_more, AtMostOnce, AllReasoned, HasReason, IsLostBy}
 use Rattle.gateway_serve.specs.declared.sockets.Latest.{Latest}
 use Rattle.gateway_serve.specs.declared.sockets.Latest.TheVariants as Was
 use Rattle.gateway_serve.specs.declared.sockets.Socket.{Socket}
 use Rattle.gateway_serve.specs.declared.reasons.Gone.{Gone}
-use Rattle.gateway_serve.specs.declared.reasons.Gone.TheVariants.{Failed}
+use Rattle.gateway_serve.specs.declared.reasons.Gone.TheVariants.{Ended, Failed, Stuck, Late}
 use Rattle.gateway_serve.specs.declared.reasons.Reason.{Reason}
+use Rattle.gateway_serve.specs.declared.reasons.Reason.TheVariants as Why
 use Rattle.gateway_serve.specs.declared.reasons.Reason.TheVariants.{Over}
+use Rattle.gateway_serve.specs.declared.idle.Tick.{Tick}
+use Rattle.gateway_serve.specs.declared.links.Link.{Link}
+use Rattle.gateway_serve.specs.declared.sockets.Spell.{Spell}
 use Rattle.gateway_serve.specs.declared.stages.Left.{Left}
 use Rattle.gateway_serve.specs.declared.stages.Left.TheVariants as Is
 use Rattle.gateway_serve.specs.declared.places.Place.{Place}
@@ -47,11 +52,39 @@ lost_by {S} mid new left (Is.Lost gone) I same ends is = elim is [
   | inr late ↦ inr late
 ]
 
+-- so its socket ended for that reason, at a time that the clock showed
+pub lost_reason : {S : Type 0} (times : List Duration) (n : ℕ) (l : Link S) (tick : Tick) (gone : Gone)
+    → IsAmong tick.now times → IsLostBy l tick gone
+    → HasReason times (current n l.socket l.spell (Why.Lost gone)) (Why.Lost gone)
+lost_reason times n l tick gone among (inl ends) = inl ends
+lost_reason times n l tick gone among (inr late) = inr (rw late.0 (late.1, refl, refl, among))
+
+-- and all that ended before did so at these times, and one more
+with_time : (now : Duration) (times : List Duration) (spell : Spell) (gone : Gone) → EndsInTime times spell gone
+    → EndsInTime (now ∷ times) spell gone
+with_time now times spell Ended is = is
+with_time now times spell (Failed kind) is = is
+with_time now times spell Stuck is = is
+with_time now times spell (Late stay) is = (is.0, is.1, is.2, inr is.3)
+
+reason_with_time : (now : Duration) (times : List Duration) (s : Seen) (reason : Reason) → HasReason times s reason
+    → HasReason (now ∷ times) s reason
+reason_with_time now times s Why.Closed is = is
+reason_with_time now times s (Why.Lost gone) (inl ends) = inl ends
+reason_with_time now times s (Why.Lost gone) (inr late) = inr (with_time now times s.spell gone late)
+reason_with_time now times s Over is = is
+
+pub all_with_time : (now : Duration) (times : List Duration) (ended : List Seen) → AllReasoned times ended
+    → AllReasoned (now ∷ times) ended
+all_with_time now times [] all = all
+all_with_time now times (s ∷ ended) all =
+    (reason_with_time now times s s.reason all.0, all_with_time now times ended all.1)
+
 -- WHEN SERVING IS OVER
 one_ended : {S : Type 0} (before : List Seen) (n : ℕ) (p : Place S) (ended : List Seen) → EndedOnce before n ended
     → EndedOnce before (n + 1) (with_place n Over p ended)
 one_ended before n Free ended is = free n ended is
-one_ended before n (Open l) ended is = one_more (current n l.socket Over) ended refl is
+one_ended before n (Open l) ended is = one_more (current n l.socket l.spell Over) ended refl is
 
 pub ended_once : {S : Type 0} (before : List Seen) (n : ℕ) (p : Place S) (ended ended' : List Seen)
     → ended' ≡ with_place n Over p ended → EndedOnce before n ended → EndedOnce before (n + 1) ended'

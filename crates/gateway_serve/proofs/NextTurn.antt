@@ -1,21 +1,25 @@
 -- What becomes of clients, turn by turn.
 use Rattle.std.proofs.Common.{◌≡◌, ◌<◌, ◌≤◌, ℕ, ◌+◌, ◌-◌, ◌^◌, List, [], ◌∷◌, length, Bool, true, false}
-use Rattle.std.proofs.Common.{refl, ap, ◌∙◌, arith}
-use Rattle.gateway_serve.specs.Acceptors.{LetsIn, LetsInBy, count_given, one_when}
+use Rattle.std.proofs.Common.{refl, sym, ap, ◌∙◌, arith}
+use Rattle.gateway_serve.specs.Acceptors.{LetsIn, LetsInBy, answers_in, count_given, one_when}
+use Rattle.gateway_serve.specs.Acceptors.{nobody, asked, passed, waited, let_in}
+use Rattle.gateway_serve.specs.declared.doors.AtDoor.{AtDoor}
+use Rattle.gateway_serve.specs.declared.doors.AtDoor.TheVariants.{Asked, Passed, Waited, LetIn}
 use Rattle.gateway_serve.specs.declared.doors.Clients.{Clients}
 use Rattle.gateway_serve.specs.declared.doors.Door.{Door}
 
 -- before the first
 pub none_asked : (before : List Bool) (passes : ℕ) → passes ≡ 0
-    → LetsIn before before 0 (record { opened = 0; refused = 0; waits = 0 }) false passes
+    → LetsIn before before 0 [] (record { opened = 0; refused = 0; waits = 0 }) false passes
 unfolding count_given
 none_asked before passes none = record {
-  since = [];
+  waiting = nobody;
+  taken = refl;
   asked = refl;
   each = refl;
+  waited = refl;
   most = omega arith;
   often = omega (arith, none);
-  none = λ _. refl;
 }
 
 -- the listener was asked, and none waited
@@ -24,25 +28,84 @@ given_one : (gave : Bool) (since : List Bool) (n : ℕ) → count_given since �
 unfolding count_given
 given_one gave since n e = grind arith
 
-none_given : (gave : Bool) (since : List Bool) (waits : ℕ) → (count_given since ≡ 0 → waits ≡ 0)
-    → count_given (gave ∷ since) ≡ 0 → waits ≡ 0
-unfolding count_given
-none_given gave since waits none e = grind arith
+waited_before : (waits waits' : Bool) → one_when waits ≡ 1 + one_when waits' → (waits ≡ true) × (waits' ≡ false)
+waited_before true true one = absurd (omega (arith, one))
+waited_before true false one = (refl, refl)
+waited_before false true one = absurd (omega (arith, one))
+waited_before false false one = absurd (omega (arith, one))
 
-pub asked_one : (before answers answers' : List Bool) (turns : ℕ) (clients : Clients) (waits waits' gave : Bool)
-    (passes passes' : ℕ) → answers' ≡ gave ∷ answers → waits ≡ false → waits' ≡ gave → passes' ≤ 31
-    → LetsIn before answers turns clients waits passes → LetsIn before answers' (turns + 1) clients waits' passes'
-asked_one before answers answers' turns clients waits waits' gave passes passes' e out is few l =
-    let all : count_given l.since ≡ clients.opened + clients.refused + one_when false =
-    l.each ∙ ap (λ b. clients.opened + clients.refused + one_when b) out in
-    record {
-      since = gave ∷ l.since;
-      asked = e ∙ ap (λ xs. gave ∷ xs) l.asked;
-      each = rw is (given_one gave l.since (clients.opened + clients.refused) (omega (arith, all)));
-      most = omega (arith, l.most);
-      often = omega (arith, l.often, few);
-      none = none_given gave l.since clients.waits l.none;
-    }
+same_when : (a b : Bool) → one_when a ≡ one_when b → a ≡ b
+same_when true true one = refl
+same_when true false one = absurd (omega (arith, one))
+same_when false true one = absurd (omega (arith, one))
+same_when false false one = refl
+
+module _ (before answers : List Bool) (turns : ℕ) (done : List AtDoor) (clients : Clients) (waits : Bool) (passes : ℕ)
+    (l : LetsIn before answers turns done clients waits passes) where
+  pub asked_one : (answers' : List Bool) (waits' gave : Bool) (passes' : ℕ) → answers' ≡ gave ∷ answers
+      → waits ≡ false → waits' ≡ gave → passes' ≤ 31
+      → LetsIn before answers' (turns + 1) (Asked gave ∷ done) clients waits' passes'
+  asked_one answers' waits' gave passes' e out is few =
+      let all : count_given (answers_in done) ≡ clients.opened + clients.refused + one_when false =
+      l.each ∙ ap (λ b. clients.opened + clients.refused + one_when b) out in
+      record {
+        waiting = rw is (asked gave done (rw out at l.waiting));
+        taken = omega (arith, l.taken);
+        asked = e ∙ ap (λ xs. gave ∷ xs) l.asked;
+        each = rw is (given_one gave (answers_in done) (clients.opened + clients.refused) (omega (arith, all)));
+        waited = l.waited;
+        most = omega (arith, l.most);
+        often = omega (arith, l.often, few);
+      }
+
+  -- it was passed over
+  pub passed_one : (passes' : ℕ) → waits ≡ false → passes ≡ passes' + 1
+      → LetsIn before answers (turns + 1) (Passed ∷ done) clients waits passes'
+  passed_one passes' out one = record {
+    waiting = rw out (passed done (rw out at l.waiting));
+    taken = omega (arith, l.taken);
+    asked = l.asked;
+    each = l.each;
+    waited = l.waited;
+    most = omega (arith, l.most);
+    often = omega (arith, l.often, one);
+  }
+
+  -- a client waited
+  pub waited_one : (clients' : Clients) → waits ≡ true → clients'.opened ≡ clients.opened
+      → clients'.refused ≡ clients.refused → clients'.waits ≡ clients.waits + 1
+      → LetsIn before answers (turns + 1) (Waited ∷ done) clients' waits passes
+  waited_one clients' one opened refused waits' = record {
+    waiting = rw one (waited done (rw one at l.waiting));
+    taken = omega (arith, l.taken);
+    asked = l.asked;
+    each = omega (arith, l.each, opened, refused);
+    waited = omega (arith, l.waited, waits');
+    most = omega (arith, l.most, waits');
+    often = omega (arith, l.often, waits');
+  }
+
+  -- and was let in
+  pub let_in_one : (clients' : Clients) (waits' : Bool) (passes' : ℕ) → one_when waits ≡ 1 + one_when waits'
+      → clients'.opened + clients'.refused ≡ clients.opened + clients.refused + 1 → clients'.waits ≡ clients.waits
+      → passes' ≡ passes → LetsIn before answers turns (LetIn ∷ done) clients' waits' passes'
+  let_in_one clients' waits' passes' one more same as =
+      let two = waited_before waits waits' one in
+      record {
+        waiting = rw two.1 (let_in done (rw two.0 at l.waiting));
+        taken = l.taken;
+        asked = l.asked;
+        each = omega (arith, l.each, one, more);
+        waited = same ∙ l.waited;
+        most = omega (arith, l.most, same);
+        often = omega (arith, l.often, same, as);
+      }
+
+  -- or none was
+  pub none_let_in : (done' : List AtDoor) (clients' : Clients) (waits' : Bool) (passes' : ℕ) → done' ≡ done
+      → clients' ≡ clients → one_when waits ≡ one_when waits' → passes' ≡ passes
+      → LetsIn before answers turns done' clients' waits' passes'
+  none_let_in done' clients' waits' passes' is same one as = rw (is, same, as, same_when waits' waits (sym one)) l
 
 -- each answer gave one client at most
 given_few : (since : List Bool) → count_given since ≤ length since
@@ -52,11 +115,12 @@ given_few (true ∷ since) = omega (arith, given_few since)
 given_few (false ∷ since) = omega (arith, given_few since)
 
 -- so one more turn can be counted
-pub counts_on : (before answers : List Bool) (turns left : ℕ) (clients : Clients) (waits : Bool) (passes : ℕ)
-    → LetsIn before answers (turns - left) clients waits passes → 0 < left → left ≤ turns → turns < 2 ^ 64
+pub counts_on : (before answers : List Bool) (turns left : ℕ) (done : List AtDoor) (clients : Clients) (waits : Bool)
+    (passes : ℕ)
+    → LetsIn before answers (turns - left) done clients waits passes → 0 < left → left ≤ turns → turns < 2 ^ 64
     → (clients.opened + clients.refused + 1 < 2 ^ 64) × (clients.waits + 1 < 2 ^ 64)
-counts_on before answers turns left clients waits passes l some few fits = (
-  omega (arith, l.each, given_few l.since, l.most, some, few, fits),
+counts_on before answers turns left done clients waits passes l some few fits = (
+  omega (arith, l.each, given_few (answers_in done), l.most, some, few, fits),
   omega (arith, l.most, some, few, fits),
 )
 
@@ -67,13 +131,15 @@ next_turn left turns before answers d some few lets =
     let e : turns - (left - 1) ≡ turns - left + 1 = omega (arith, some, few) in rw e lets
 
 -- and however many it may pass over
-pub taken_so : (before answers : List Bool) (turns : ℕ) (clients : Clients) (waits : Bool) (passes : ℕ)
-    → LetsIn before answers turns clients waits passes → LetsIn before answers turns clients waits 0
-taken_so before answers turns clients waits passes l = record {
-  since = l.since;
+pub taken_so : (before answers : List Bool) (turns : ℕ) (done : List AtDoor) (clients : Clients) (waits : Bool)
+    (passes : ℕ)
+    → LetsIn before answers turns done clients waits passes → LetsIn before answers turns done clients waits 0
+taken_so before answers turns done clients waits passes l = record {
+  waiting = l.waiting;
+  taken = l.taken;
   asked = l.asked;
   each = l.each;
+  waited = l.waited;
   most = l.most;
   often = omega (arith, l.often);
-  none = l.none;
 }

@@ -1,11 +1,12 @@
 -- The conversations after one event more.
-use Rattle.std.proofs.Common.{◌≡◌, ℕ, Bool, List, [], ◌∷◌, ◌++◌, refl}
-use Rattle.std.proofs.Common.{◌∙◌, arith}
+use Rattle.std.proofs.Common.{◌≡◌, ◌+◌, ℕ, Bool, List, [], ◌∷◌, ◌++◌, refl}
+use Rattle.std.proofs.Common.{◌∙◌, ap, arith}
 use Rattle.tus_action.specs.Serves.{Appends}
 use Rattle.tus_session.specs.History.{State, Event, Ended, Mark, Marked, conn_in, step}
 use Rattle.tus_session.specs.History.{history, Outcome, Done, Refused}
 use Rattle.tus_session.specs.declared.errors.SessionError.{SessionError}
-use Rattle.gateway_serve.specs.Conversations.{Conversation, GaveAs, AreTalks, goes_on}
+use Rattle.gateway_serve.specs.Conversations.{Conversation, GaveAs, AreTalks, goes_on, one_if_refused}
+use Rattle.gateway_serve.specs.Conversations.{count_refused}
 use Rattle.gateway_serve.specs.Joined.{Alone}
 use Rattle.gateway_serve.proofs.Steps.{same_number, other_number, step_else}
 
@@ -16,18 +17,24 @@ module _ (sure : Bool) (st : State) (past : List Marked) (e : Event) (m : Mark) 
       → AreTalks sure st ((e, m) ∷ past) (conn_in e) (goes_on e o before)
   talks_here before o talks gave = rw (same_number (conn_in e)) (before, o, talks, gave, refl)
 
-  talks_else : (k : ℕ) → (k ≡ conn_in e → ⊥) → (cs : List Conversation) → AreTalks sure st past k cs
+  pub talks_else : (k : ℕ) → (k ≡ conn_in e → ⊥) → (cs : List Conversation) → AreTalks sure st past k cs
       → AreTalks sure st ((e, m) ∷ past) k cs
   talks_else k ne cs talks = rw (other_number k (conn_in e) ne) talks
 
-  pub alone_step : Alone sure st (conn_in e) past ((e, m) ∷ past)
-  alone_step = record { talks = talks_else; conns = λ k ne. step_else (history st past) k e m ne }
+  pub alone_step : one_if_refused e (step (history st past) e m).outcome ≡ 0
+      → Alone sure st (conn_in e) past ((e, m) ∷ past)
+  alone_step none = record {
+    talks = talks_else;
+    conns = λ k ne. step_else (history st past) k e m ne;
+    refused = ap (λ n. n + count_refused st past) none ∙ omega arith;
+  }
 
 pub alone_then : {sure : Bool} {st : State} {n : ℕ} {a b c : List Marked} → Alone sure st n a b → Alone sure st n b c
     → Alone sure st n a c
 alone_then x y = record {
   talks = λ k ne cs talks. y.talks k ne cs (x.talks k ne cs talks);
   conns = λ k ne. y.conns k ne ∙ x.conns k ne;
+  refused = y.refused ∙ x.refused;
 }
 
 -- WHAT A CALL GAVE, where that is no bytes

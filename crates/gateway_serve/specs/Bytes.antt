@@ -3,6 +3,7 @@ use Rattle.std.specs.Prelude.{ℕ, List}
 use Rattle.gateway_serve.specs.declared.sockets.Seen.{Seen}
 use Rattle.gateway_serve.specs.declared.sockets.Socket.{Socket}
 use Rattle.gateway_serve.specs.declared.sockets.Latest.{Latest}
+use Rattle.gateway_serve.specs.declared.sockets.Spell.{Spell}
 use Rattle.gateway_serve.specs.declared.reasons.Reason.{Reason}
 
 abbrev pub bytes_come : {S : Type 0} → Socket S → List ℕ
@@ -18,5 +19,12 @@ abbrev pub latest_of : {S : Type 0} → Socket S → Latest
 latest_of s = s.latest
 
 -- what is seen of it, where it served the connection with this number and ended for this reason
-abbrev pub current : {S : Type 0} → ℕ → Socket S → Reason → Seen
-current n s reason = record { conn = n; came = s.came; went = s.went; latest = latest_of s; reason = reason }
+abbrev pub current : {S : Type 0} → ℕ → Socket S → Spell → Reason → Seen
+current n s spell reason = record {
+  conn = n;
+  came = s.came;
+  went = s.went;
+  latest = latest_of s;
+  spell = spell;
+  reason = reason;
+}

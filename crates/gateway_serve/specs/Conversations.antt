@@ -1,8 +1,8 @@
 -- What a history makes of each connection: its conversations.
-use Rattle.std.specs.Prelude.{◌≡◌, ◌==◌, ℕ, Bool, true, false, List, [], ◌∷◌, ◌++◌, take, if◌then◌else◌}
+use Rattle.std.specs.Prelude.{◌≡◌, ◌==◌, ◌+◌, ℕ, Bool, true, false, List, [], ◌∷◌, ◌++◌, take, if◌then◌else◌}
 use Rattle.tus_action.specs.Serves.{Appends}
 use Rattle.tus_session.specs.History.{State, Event, Opened, Came, More, Ended, Marked, Outcome, Gave, Done, step}
-use Rattle.tus_session.specs.History.{history, conn_in}
+use Rattle.tus_session.specs.History.{history, conn_in, Refused}
 
 -- all bytes that the calls for a connection took and gave since it was opened, and whether it was reported to the
 -- session that its client is gone
@@ -59,3 +59,23 @@ AreTalks sure st (e ∷ past) n cs =
     Either (n == conn_in e.0)
     ((before : List Conversation) × (o : Outcome) × AreTalks sure st past n before × GaveAs sure t.outcome t.text o
     × (cs ≡ goes_on e.0 o before)) (AreTalks sure st past n cs)
+
+-- HOW MANY CLIENTS the session refused a connection in these events
+abbrev pub one_if_refusal : Outcome → ℕ
+one_if_refusal (Gave bytes taken closes more) = 0
+one_if_refusal Done = 0
+one_if_refusal (Refused f) = 1
+
+abbrev pub one_if_refused : Event → Outcome → ℕ
+one_if_refused (Opened n) outcome = one_if_refusal outcome
+one_if_refused (Came n piece) outcome = 0
+one_if_refused (More n) outcome = 0
+one_if_refused (Ended n) outcome = 0
+
+abbrev pub count_refused : State → List Marked → ℕ
+count_refused st [] = 0
+count_refused st (e ∷ past) =
+    one_if_refused e.0 (step (history st past) e.0 e.1).outcome + count_refused st past
+
+abbrev pub AreRefused : ℕ → State → List Marked → Type 0
+AreRefused refused st past = refused ≡ count_refused st past

@@ -1,10 +1,12 @@
 -- Why a socket is given up.
-use Rattle.std.specs.Prelude.{◌≡◌, ◌≢◌, ◌⊎◌, ℕ, Result, Ok, Err}
+use Rattle.std.specs.Prelude.{◌≡◌, ◌≢◌, ◌⊎◌, ℕ, List, [], ◌∷◌, Result, Ok, Err}
+use Rattle.std.specs.declared.time.Duration.{Duration}
 use Rattle.std.specs.IoError.{error_kind}
 use Rattle.std.specs.declared.io.Error.{Error}
 use Rattle.std.specs.declared.io.ErrorKind.{ErrorKind}
 use Rattle.std.specs.declared.io.ErrorKind.TheVariants as Kind
 use Rattle.gateway_serve.specs.declared.sockets.Latest.{Latest}
+use Rattle.gateway_serve.specs.declared.sockets.Spell.{Spell}
 use Rattle.gateway_serve.specs.declared.sockets.Latest.TheVariants as Was
 use Rattle.gateway_serve.specs.Stays.{IsOver}
 use Rattle.gateway_serve.specs.declared.reasons.Gone.{Gone}
@@ -33,15 +35,18 @@ EndsBy (Failed kind) latest = (latest ≡ Was.Failed kind) × IsFailure kind
 EndsBy Stuck latest = latest ≡ Was.Written 0
 EndsBy (Late stay) latest = ⊥
 
--- and by the clock
-abbrev pub EndsInTime : Gone → Type 0
-EndsInTime Ended = ⊥
-EndsInTime (Failed kind) = ⊥
-EndsInTime Stuck = ⊥
-EndsInTime (Late stay) = IsOver stay
+-- a time that the clock showed
+abbrev pub IsAmong : Duration → List Duration → Type 0
+IsAmong now [] = ⊥
+IsAmong now (time ∷ times) = (now ≡ time) ⊎ IsAmong now times
 
-abbrev pub IsGoneSo : Gone → Latest → Type 0
-IsGoneSo gone latest = EndsBy gone latest ⊎ EndsInTime gone
+-- AND BY THE CLOCK: the time of a connection was over, which was opened and moved then, at one of these times
+abbrev pub EndsInTime : List Duration → Spell → Gone → Type 0
+EndsInTime times spell Ended = ⊥
+EndsInTime times spell (Failed kind) = ⊥
+EndsInTime times spell Stuck = ⊥
+EndsInTime times spell (Late stay) =
+    IsOver stay × (stay.opened ≡ spell.opened) × (stay.moved ≡ spell.moved) × IsAmong stay.time times
 
 abbrev pub IfLost : Left → (Gone → Type 0) → Type 0
 IfLost Is.Open P = Unit {0}

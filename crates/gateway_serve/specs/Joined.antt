@@ -6,7 +6,7 @@ use Rattle.tus_session.specs.History.{State, Marked, history}
 use Rattle.tus_session.specs.declared.answers.Answer.{Answer}
 use Rattle.tus_session.specs.declared.errors.SessionError.{SessionError}
 use Rattle.tus_session.specs.declared.connections.Connections.{Ghosts}
-use Rattle.gateway_serve.specs.Conversations.{Conversation, AreTalks}
+use Rattle.gateway_serve.specs.Conversations.{Conversation, AreTalks, AreRefused, count_refused}
 use Rattle.gateway_serve.specs.Sockets.{current_of, IsQuietly, Served, Pairs}
 use Rattle.gateway_serve.specs.declared.buffers.TheConstants.{PIECE}
 use Rattle.gateway_serve.specs.declared.sockets.Seen.{Seen}
@@ -116,11 +116,12 @@ abbrev pub taken_after : Result Answer SessionError → ℕ
 taken_after (Ok a) = a.taken
 taken_after (Err f) = 0
 
--- after the events of one connection the others are as they were
+-- after the events of one connection the others are as they were, and no client was refused one
 pub record Alone (sure : Bool) (st : State) (n : ℕ) (past now : List Marked) : Type 0 where
   pub talks : (k : ℕ) → (k ≡ n → ⊥) → (cs : List Conversation) → AreTalks sure st past k cs
       → AreTalks sure st now k cs
   pub conns : (k : ℕ) → (k ≡ n → ⊥) → (history st now).conns k ≡ (history st past).conns k
+  pub refused : count_refused st now ≡ count_refused st past
 
 -- a joined link stays joined by events of its connection alone
 abbrev pub Goes : {C S T : Type 0} → Ghosts C → C → C → Result T DiskFault → Link S → Link S → ℕ → Type 0
@@ -156,7 +157,7 @@ IsNew {S} p = (l : Link S) × (p ≡ Open l) × (joint_of l ≡ nothing_yet)
 
 -- the sockets, with that of a link that ends for this reason
 abbrev pub with_link : {S : Type 0} → ℕ → Reason → Link S → List Seen → List Seen
-with_link n reason l ended = current n l.socket reason ∷ ended
+with_link n reason l ended = current n l.socket l.spell reason ∷ ended
 
 abbrev pub with_place : {S : Type 0} → ℕ → Reason → Place S → List Seen → List Seen
 with_place n reason Free ended = ended
@@ -183,12 +184,14 @@ GoesAt {C} c old new result p p' ended ended' n =
 abbrev pub OthersStay : ℕ → List Seen → List Seen → Type 0
 OthersStay n old new = (k : ℕ) → (k ≡ n → ⊥) → current_of k new ≡ current_of k old
 
--- EACH PLACE is joined; beyond the last one all are free
-abbrev pub AllJoin : {S : Type 0} → Bool → List (Place S) → List Seen → State → List Marked → Type 0
-AllJoin sure places ended st past = (n : ℕ) → PlaceJoins sure (get_or places n Free) (current_of n ended) st past n
+-- EACH PLACE is joined; beyond the last one all are free. So many clients were refused a connection
+abbrev pub AllJoin : {S : Type 0} → Bool → List (Place S) → List Seen → ℕ → State → List Marked → Type 0
+AllJoin sure places ended refused st past =
+    ((n : ℕ) → PlaceJoins sure (get_or places n Free) (current_of n ended) st past n) × AreRefused refused st past
 
-abbrev pub AllFell : {S : Type 0} → Bool → List (Place S) → List Seen → State → List Marked → Type 0
-AllFell sure places ended st past = (n : ℕ) → PlaceFell sure (get_or places n Free) (current_of n ended) st past n
+abbrev pub AllFell : {S : Type 0} → Bool → List (Place S) → List Seen → ℕ → State → List Marked → Type 0
+AllFell sure places ended refused st past =
+    ((n : ℕ) → PlaceFell sure (get_or places n Free) (current_of n ended) st past n) × AreRefused refused st past
 
 abbrev pub places_of : {S : Type 0} → Server S → List (Place S)
 places_of s = s.places.items
@@ -205,25 +208,26 @@ SamePlaces old new = (n : ℕ) → get_or new n Free ≡ get_or old n Free
 
 -- joined places stay joined
 abbrev pub StaysJoined : {C S T : Type 0} → Ghosts C → C → C → Result T DiskFault → List (Place S) → List (Place S)
-    → List Seen → List Seen → Type 0
-StaysJoined {C} c old new result places places' ended ended' =
+    → List Seen → List Seen → ℕ → ℕ → Type 0
+StaysJoined {C} c old new result places places' ended ended' refused refused' =
     (sure : Bool) (before : C) (st : State) (past : List Marked) → WentOn c sure before old st past
-    → AllJoin sure places ended st past
-    → ServesPart c sure before new st result (AllJoin sure places' ended' st) (AllFell sure places' ended' st)
+    → AllJoin sure places ended refused st past
+    → ServesPart c sure before new st result (AllJoin sure places' ended' refused' st)
+    (AllFell sure places' ended' refused' st)
 
 -- after it all connections are ended, unless the disk failed
 abbrev pub AllEnded : {C S T : Type 0} → Ghosts C → C → C → Result T DiskFault → List (Place S) → List (Place S)
-    → List Seen
-    → List Seen → Type 0
-AllEnded {C} c old new result places places' ended ended' =
+    → List Seen → List Seen → ℕ → ℕ → Type 0
+AllEnded {C} c old new result places places' ended ended' refused refused' =
     (sure : Bool) (before : C) (st : State) (past : List Marked) → WentOn c sure before old st past
-    → AllJoin sure places ended st past
-    → ServesPart c sure before new st result (AllServed sure ended' st) (AllFell sure places' ended' st)
+    → AllJoin sure places ended refused st past
+    → ServesPart c sure before new st result (AllServed sure ended' refused' st)
+    (AllFell sure places' ended' refused' st)
 
 -- and then their sockets were let go
 abbrev pub LetsGo : {C S T : Type 0} → Ghosts C → C → C → Result T DiskFault → List (Place S) → List Seen → List Seen
-    → Type 0
-LetsGo {C} c old new result places ended ended' =
+    → ℕ → ℕ → Type 0
+LetsGo {C} c old new result places ended ended' refused refused' =
     (sure : Bool) (before : C) (st : State) (past : List Marked) → WentOn c sure before old st past
-    → AllJoin sure places ended st past
-    → ServesPart c sure before new st result (AllServed sure ended' st) (AllLeft sure ended' st)
+    → AllJoin sure places ended refused st past
+    → ServesPart c sure before new st result (AllServed sure ended' refused' st) (AllLeft sure ended' refused' st)

@@ -2,7 +2,7 @@
 use Rattle.std.specs.Prelude.{◌≡◌, ◌⊎◌, ℕ, ◌+◌, List, [], ◌∷◌, Option, Some, None}
 use Rattle.gateway_serve.specs.declared.sockets.Seen.{Seen}
 use Rattle.gateway_serve.specs.Bytes.{latest_of}
-use Rattle.gateway_serve.specs.Gone.{EndsBy, IsGoneSo}
+use Rattle.gateway_serve.specs.Gone.{EndsBy, EndsInTime, IsAmong}
 use Rattle.gateway_serve.specs.Stays.{IsOver}
 use Rattle.gateway_serve.specs.Joined.{at_of}
 use Rattle.gateway_serve.specs.Streams.{socket_of}
@@ -11,7 +11,6 @@ use Rattle.gateway_serve.specs.declared.reasons.Gone.{Gone}
 use Rattle.gateway_serve.specs.declared.reasons.Gone.TheVariants as Why
 use Rattle.gateway_serve.specs.declared.reasons.Reason.{Reason}
 use Rattle.gateway_serve.specs.declared.reasons.Reason.TheVariants.{Closed, Lost, Over}
-use Rattle.gateway_serve.specs.declared.sockets.Latest.{Latest}
 use Rattle.gateway_serve.specs.declared.links.Link.{Link}
 use Rattle.gateway_serve.specs.declared.requests.Request.{Request}
 use Rattle.gateway_serve.specs.declared.stays.Stay.{Stay}
@@ -19,10 +18,10 @@ use Rattle.std.specs.declared.time.Duration.{Duration}
 
 -- when a link was opened, and when something last came or went
 abbrev pub opened_of : {S : Type 0} → Link S → Duration
-opened_of l = l.opened
+opened_of l = l.spell.opened
 
 abbrev pub moved_of : {S : Type 0} → Link S → Duration
-moved_of l = l.moved
+moved_of l = l.spell.moved
 
 -- how a link is at the time of a turn
 abbrev pub begun_by : Option Request → Duration → Duration
@@ -44,8 +43,8 @@ stay_of l tick = record {
   longest = tick.longest;
   opened = opened_of l;
   moved = moved_of l;
-  begun = begun_by l.request l.moved;
-  since = since_by l.request l.moved;
+  begun = begun_by l.request (moved_of l);
+  since = since_by l.request (moved_of l);
   brought = brought_by l.request;
   time = tick.now;
 }
@@ -58,20 +57,22 @@ IsOutOfTime l tick gone = (gone ≡ Why.Late (stay_of l tick)) × IsOver (stay_o
 abbrev pub IsLostBy : {S : Type 0} → Link S → Tick → Gone → Type 0
 IsLostBy l tick gone = EndsBy gone (latest_of (socket_of l)) ⊎ IsOutOfTime l tick gone
 
--- THE REASON for which a socket ended whose stream last answered this, while serving went on
-abbrev pub HasReason : Latest → Reason → Type 0
-HasReason latest Closed = Unit {0}
-HasReason latest (Lost gone) = IsGoneSo gone latest
-HasReason latest Over = ⊥
+-- THE REASON for which a socket ended while serving went on: by what its stream last answered, or by its times and one
+-- of these, which the clock showed
+abbrev pub HasReason : List Duration → Seen → Reason → Type 0
+HasReason times s Closed = Unit {0}
+HasReason times s (Lost gone) = EndsBy gone s.latest ⊎ EndsInTime times s.spell gone
+HasReason times s Over = ⊥
 
 -- each of these sockets ended for its reason
-abbrev pub AllReasoned : List Seen → Type 0
-AllReasoned [] = Unit {0}
-AllReasoned (s ∷ ended) = HasReason s.latest s.reason × AllReasoned ended
+abbrev pub AllReasoned : List Duration → List Seen → Type 0
+AllReasoned times [] = Unit {0}
+AllReasoned times (s ∷ ended) = HasReason times s s.reason × AllReasoned times ended
 
--- and so did those that ended since
-abbrev pub StayReasoned : List Seen → List Seen → Type 0
-StayReasoned ended ended' = AllReasoned ended → AllReasoned ended'
+-- and so did those that ended since, in a turn that began at this time
+abbrev pub StayReasoned : Duration → List Seen → List Seen → Type 0
+StayReasoned now ended ended' =
+    (times : List Duration) → IsAmong now times → AllReasoned times ended → AllReasoned times ended'
 
 -- since then, of the connections below this number, at most one of each ended, and because serving was over
 pub data EndedOnce (before : List Seen) : ℕ → List Seen → Type 0 where
@@ -85,9 +86,9 @@ AtMostOnce before ended = (n : ℕ) × EndedOnce before n ended
 
 -- WHEN SERVING IS OVER what is open is ended, at most one connection of each number. Each one before ended for its own
 -- reason
-abbrev pub EndsReasoned : List Seen → Type 0
-EndsReasoned ended = (before : List Seen) × AllReasoned before × AtMostOnce before ended
+abbrev pub EndsReasoned : List Duration → List Seen → Type 0
+EndsReasoned times ended = (before : List Seen) × AllReasoned times before × AtMostOnce before ended
 
 -- and after a disk fault the rest is let go
-abbrev pub IsLeftReasoned : List Seen → Type 0
-IsLeftReasoned ended = (before : List Seen) × EndsReasoned before × AtMostOnce before ended
+abbrev pub IsLeftReasoned : List Duration → List Seen → Type 0
+IsLeftReasoned times ended = (before : List Seen) × EndsReasoned times before × AtMostOnce before ended

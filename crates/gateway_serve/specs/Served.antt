@@ -4,7 +4,7 @@ use Rattle.common.specs.declared.stop.DiskFault.{DiskFault}
 use Rattle.tus_session.specs.History.{State, Event, Marked, Failed, history}
 use Rattle.tus_session.specs.Images.{stores_of, ShowsLast, LimitsTo}
 use Rattle.tus_session.specs.declared.connections.Connections.{Ghosts}
-use Rattle.gateway_serve.specs.Conversations.{Conversation, AreTalks}
+use Rattle.gateway_serve.specs.Conversations.{Conversation, AreTalks, AreRefused}
 use Rattle.gateway_serve.specs.Sockets.{current_of, Fits, Served, Pairs}
 use Rattle.gateway_serve.specs.declared.sockets.Seen.{Seen}
 
@@ -41,13 +41,16 @@ ServesPart c sure before now st (Err fault) On Down = (past : List Marked) × (e
 abbrev pub IsBack : State → List Marked → ℕ → Type 0
 IsBack st past n = (history st past).conns n ≡ st.conns n
 
--- ALL ARE SERVED: the sockets of each connection are one for each of its conversations, and it is closed again
-abbrev pub AllServed : Bool → List Seen → State → List Marked → Type 0
-AllServed sure current st past =
-    (n : ℕ) → (cs : List Conversation) × AreTalks sure st past n cs × Pairs Served (current_of n current) cs
-    × IsBack st past n
+-- ALL ARE SERVED: the sockets of each connection are one for each of its conversations, and it is closed again. So many
+-- clients were refused a connection
+abbrev pub AllServed : Bool → List Seen → ℕ → State → List Marked → Type 0
+AllServed sure current refused st past =
+    ((n : ℕ) → (cs : List Conversation) × AreTalks sure st past n cs × Pairs Served (current_of n current) cs
+    × IsBack st past n)
+    × AreRefused refused st past
 
 -- the same of sockets that serving left when the disk failed
-abbrev pub AllLeft : Bool → List Seen → State → List Marked → Type 0
-AllLeft sure current st past =
-    (n : ℕ) → (cs : List Conversation) × AreTalks sure st past n cs × Pairs Fits (current_of n current) cs
+abbrev pub AllLeft : Bool → List Seen → ℕ → State → List Marked → Type 0
+AllLeft sure current refused st past =
+    ((n : ℕ) → (cs : List Conversation) × AreTalks sure st past n cs × Pairs Fits (current_of n current) cs)
+    × AreRefused refused st past

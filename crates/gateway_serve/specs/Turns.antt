@@ -5,6 +5,7 @@ use Rattle.tus_session.specs.declared.session.TheConstants.{MOST_OPEN}
 use Rattle.gateway_serve.specs.Counted.{open_in}
 use Rattle.gateway_serve.specs.Joined.{places_of, ended_of}
 use Rattle.gateway_serve.specs.Acceptors.{LetsInBy}
+use Rattle.std.specs.declared.time.Duration.{Duration}
 use Rattle.gateway_serve.specs.declared.doors.Clients.{Clients}
 use Rattle.gateway_serve.specs.declared.doors.Door.{Door}
 use Rattle.gateway_serve.specs.declared.places.Place.{Place}
@@ -19,6 +20,13 @@ closed_of s = s.closed
 
 abbrev pub opened_by : {S : Type 0} → Server S → ℕ
 opened_by s = (door_of s).clients.opened
+
+-- at which its turns began, the latest first
+abbrev pub times_of : {S : Type 0} → Server S → List Duration
+times_of s = s.times.items
+
+abbrev pub refused_by : {S : Type 0} → Server S → ℕ
+refused_by s = (door_of s).clients.refused
 
 -- each client that got a connection has it, or its socket ended
 abbrev pub IsCounted : {S : Type 0} → Server S → Type 0
@@ -48,3 +56,4 @@ pub record RestStays {S : Type 0} (s s' : Server S) : Type 0 where
   pub pace : (door_of s').pace ≡ (door_of s).pace
   pub ended : s'.ended.items ≡ s.ended.items
   pub closed : closed_of s' ≡ closed_of s
+  pub times : times_of s' ≡ times_of s

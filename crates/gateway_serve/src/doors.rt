@@ -1,10 +1,11 @@
 //! The clients that a listener gives.
 ghost use Rattle.std.specs.Prelude.{◌≡◌, ◌<◌, ◌+◌, ◌^◌, ℕ, List, Bool, is_some, None};
-ghost use Rattle.gateway_serve.specs.Acceptors.{LetsInBy};
+ghost use Rattle.gateway_serve.specs.Acceptors.{LetsInBy, done_of, done_with};
 
 use crate::acceptors::Acceptor;
 use crate::idle::Pace;
 use crate::sockets::Untouched;
+use common::Trace;
 use std::time::Duration;
 
 /// What became of the clients that a listener gave.
@@ -18,10 +19,24 @@ pub struct Clients {
     pub waits: u64,
 }
 
+/// What was done for the clients of a listener. Only clauses read it.
+#[derive(Clone, Copy, Debug, PartialEq, Eq, Drop)]
+pub enum AtDoor {
+    /// A turn in which the listener was asked: whether it gave a client.
+    Asked(bool),
+    /// A turn that passed the listener over.
+    Passed,
+    /// A turn in which the listener wasn't asked, since a client waited for a place.
+    Waited,
+    /// The client who waited got a connection, or was refused one.
+    LetIn,
+}
+
 /// Where clients come in, one at a time.
 #[derive(Drop)]
 pub(crate) struct Door<S> {
     pub(crate) clients: Clients,
+    pub(crate) done: Trace<AtDoor>,
     /// how often the listener is asked
     pace: Pace,
     /// the latest client, while it waits for a place
@@ -33,6 +48,7 @@ impl<S: Drop> Door<S> {
     pub(crate) fn new(now: Duration) -> Self
         ensures clients { (before : List Bool) → LetsInBy before before 0 result }
         ensures opened { result.clients.opened ≡ 0 }
+        ensures refused { result.clients.refused ≡ 0 }
     {
         Door {
             clients: Clients {
@@ -40,6 +56,7 @@ impl<S: Drop> Door<S> {
                 refused: 0,
                 waits: 0,
             },
+            done: Trace::new(),
             pace: Pace::new(now),
             waiting: None,
         }
@@ -61,12 +78,16 @@ impl<S: Drop> Door<S> {
     {
         if self.waiting.is_some() {
             self.clients.waits += 1;
+            self.done = self.done.and(&AtDoor::Waited);
         } else if self.pace.is_due(busy, now) {
             let client = acceptor.accept();
             self.pace.asked(client.is_some(), now);
+            self.done = self.done.and(&AtDoor::Asked(client.is_some()));
             if let Some(stream) = client {
                 self.waiting = Some(Untouched::of(stream));
             }
+        } else {
+            self.done = self.done.and(&AtDoor::Passed);
         }
     }
 
@@ -77,11 +98,16 @@ impl<S: Drop> Door<S> {
         self.waiting.is_some()
     }
 
-    /// The client that waits, who gets a connection now: it waits no more.
-    pub(crate) fn open(&mut self) -> Option<Untouched<S>>
+    /// The client that waits, who is let in now: it waits no more.
+    pub(crate) fn let_in(&mut self) -> Option<Untouched<S>>
         ensures client { result ≡ self.old.waiting }
-        ensures rest { self.new ≡ record { clients = self.old.clients; pace = self.old.pace; waiting = None } }
+        ensures none { self.new.waiting ≡ None }
+        ensures done { done_of self.new ≡ done_with result (done_of self.old) }
+        ensures clients { self.new.clients ≡ self.old.clients }
+        ensures pace { self.new.pace ≡ self.old.pace }
     {
-        self.waiting.take()
+        let client = self.waiting.take()?;
+        self.done = self.done.and(&AtDoor::LetIn);
+        Some(client)
     }
 }

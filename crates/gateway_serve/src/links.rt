@@ -19,7 +19,7 @@ use crate::buffers::{Input, Output, PIECE};
 use crate::idle::{Pace, Tick, is_long};
 use crate::reasons::{Gone, Reason};
 use crate::requests::{Part, Request, request_after};
-use crate::sockets::{Seen, Socket, Untouched};
+use crate::sockets::{Seen, Socket, Spell, Untouched};
 use crate::stages::{Left, Stage, left_after, next_after};
 use crate::stays::{At, Stay};
 use common::{DiskFault, Trace};
@@ -35,10 +35,7 @@ pub(crate) struct Link<S> {
     input: Input,
     output: Output,
     stage: Stage,
-    /// when it was opened
-    opened: Duration,
-    /// when something last came or went
-    moved: Duration,
+    spell: Spell,
     /// the request of which a part comes
     request: Option<Request>,
     pace: Pace,
@@ -51,7 +48,7 @@ impl<S> Link<S> {
         ensures waiting { FewWait self.output }
     {
         let _few = self.output.left();
-        let (seen, stream) = self.socket.ended(conn, reason);
+        let (seen, stream) = self.socket.ended(conn, self.spell, reason);
         *ended = ended.and(&seen);
         stream
     }
@@ -71,8 +68,10 @@ impl<S: Read + Write> Link<S> {
             input: Input::new(),
             output: Output::new(alloc),
             stage: Stage::Taking,
-            opened: now,
-            moved: now,
+            spell: Spell {
+                opened: now,
+                moved: now,
+            },
             request: None,
             pace: Pace::new(now),
         }
@@ -83,7 +82,7 @@ impl<S: Read + Write> Link<S> {
         ensures { result ≡ link_between_since self.now }
     {
         match self.at() {
-            At::Between => Some(self.moved),
+            At::Between => Some(self.spell.moved),
             At::Head | At::Body | At::Reply => None,
         }
     }
@@ -142,7 +141,7 @@ impl<S: Read + Write> Link<S> {
         ensures same { joint_of self.new ≡ joint_of self.old }
     {
         if moved {
-            self.moved = tick.now;
+            self.spell.moved = tick.now;
         }
         self.stay(tick)
     }
@@ -151,13 +150,13 @@ impl<S: Read + Write> Link<S> {
     fn stay(&self, tick: Tick) -> Stay
         ensures { result ≡ stay_of self.now tick }
     {
-        let request = self.request.unwrap_or(Request::new(Part::Head, self.moved));
+        let request = self.request.unwrap_or(Request::new(Part::Head, self.spell.moved));
         Stay {
             at: self.at(),
             wanted: tick.wanted,
             longest: tick.longest,
-            opened: self.opened,
-            moved: self.moved,
+            opened: self.spell.opened,
+            moved: self.spell.moved,
             begun: request.begun,
             since: request.since,
             brought: request.brought,

@@ -80,7 +80,7 @@ impl<S: Read + Write + Drop> Place<S> {
         ended: &mut Trace<Seen>,
         drains: &mut Drains<S>,
     ) -> Result<Turned, DiskFault>
-        ensures reasons { StayReasoned ended.old.items ended.new.items }
+        ensures reasons { StayReasoned tick.now ended.old.items ended.new.items }
         ensures streams { PlacePreserves S.remaining S.contents self.old self.new ended.old.items ended.new.items }
         ensures serves { GoesAt C.Connections gateway.old gateway.new result self.old self.new
             ended.old.items ended.new.items conn }

@@ -1,5 +1,5 @@
 //! Turns of all places.
-ghost use Rattle.std.specs.Prelude.{◌≡◌, ◌≢◌, ◌⊎◌, ◌↔◌, ◌<◌, ◌≤◌, ◌+◌, List, Bool, length};
+ghost use Rattle.std.specs.Prelude.{◌≡◌, ◌≢◌, ◌⊎◌, ◌↔◌, ◌<◌, ◌≤◌, ◌+◌, ℕ, List, Bool, length};
 ghost use Rattle.std.specs.Prelude.{IfSome, IsErr, IsFalse, IsNone, IsSomeAnd, IsTrue, OnOk};
 ghost use Rattle.upload_rules.specs.Answers.{Counts};
 ghost use Rattle.tus_session.specs.History.{State, Marked};
@@ -61,11 +61,13 @@ impl Round {
             → self.new.closed ≡ self.old.closed + 1 }
         ensures open { turned ≢ Turned.Closed → self.new.closed ≡ self.old.closed }
         ensures connections { self.new.connections ≡ self.old.connections }
+        ensures now { self.new.now ≡ self.old.now }
         ensures wanted { IsTrue self.new.wanted ↔ IsTrue self.old.wanted × (turned ≢ Turned.Closed) }
         ensures idle { IsFalse self.new.busy ↔ IsFalse self.old.busy × (turned ≡ Turned.Idle) }
     {
         let closed = turned == Turned::Closed;
         let _most = self.connections;
+        let _now = self.now;
         self.closed = self.closed.saturating_add(u64::from(closed));
         self.wanted = self.wanted && !closed;
         self.busy = self.busy || turned != Turned::Idle;
@@ -127,9 +129,9 @@ pub(crate) fn turn_each<S: Read + Write + Drop, C: Connections, T: Clock>(
     round: &mut Round,
 ) -> Result<(), DiskFault>
     ensures streams { AllPreserve S.remaining S.contents places.old places.new ended.old.items ended.new.items }
-    ensures reasons { StayReasoned ended.old.items ended.new.items }
-    ensures serves { StaysJoined C.Connections gateway.old gateway.new result places.old places.new
-        ended.old.items ended.new.items }
+    ensures reasons { StayReasoned round.old.now ended.old.items ended.new.items }
+    ensures serves { (refused : ℕ) → StaysJoined C.Connections gateway.old gateway.new result places.old places.new
+        ended.old.items ended.new.items refused refused }
     ensures counts { Counts (IsErr result) (C.failures gateway.old) (C.failures gateway.new) }
     ensures kept { Adds places.old places.new ended.old.items ended.new.items }
 
@@ -163,8 +165,8 @@ pub(crate) fn end_each<S: Read + Write + Drop, C: Connections>(
     ensures more { length ended.old.items ≤ length ended.new.items }
     ensures none { OnOk result (open_in places.new ≡ 0) }
     ensures before { count_closed ended.new.items ≡ count_closed ended.old.items }
-    ensures serves { AllEnded C.Connections gateway.old gateway.new result places.old places.new
-        ended.old.items ended.new.items }
+    ensures serves { (refused : ℕ) → AllEnded C.Connections gateway.old gateway.new result places.old places.new
+        ended.old.items ended.new.items refused refused }
     ensures counts { Counts (IsErr result) (C.failures gateway.old) (C.failures gateway.new) }
 {
     for (conn, place) in places.iter_mut().enumerate() {
@@ -182,8 +184,8 @@ pub(crate) fn free_each<S: Read + Write + Drop>(places: &mut [Place<S>], ended: 
     ensures once { AtMostOnce ended.old.items ended.new.items }
     ensures kept { length ended.new.items ≡ length ended.old.items + open_in places.old }
     ensures before { count_closed ended.new.items ≡ count_closed ended.old.items }
-    ensures left { (sure : Bool) (st : State) (past : List Marked)
-        → AllFell sure places.old ended.old.items st past → AllLeft sure ended.new.items st past }
+    ensures left { (sure : Bool) (refused : ℕ) (st : State) (past : List Marked)
+        → AllFell sure places.old ended.old.items refused st past → AllLeft sure ended.new.items refused st past }
 {
     for (conn, place) in places.iter_mut().enumerate() {
         drop(place.free(conn, Reason::Over, ended));

@@ -2,14 +2,14 @@
 ghost use Rattle.std.specs.Prelude.{◌≡◌, ◌↔◌, ◌<◌, ◌≤◌, ◌+◌, ◌^◌, ℕ, List, [], Bool, is_some, length};
 ghost use Rattle.std.specs.Prelude.{IfSome, IsErr, IsFalse, IsNone, IsTrue, None, OnOk};
 ghost use Rattle.upload_rules.specs.Answers.{Counts};
-ghost use Rattle.gateway_serve.specs.Acceptors.{HasServed, LetsInBy, TakesTurns, one_when};
+ghost use Rattle.gateway_serve.specs.Acceptors.{HasServed, LetsInBy, TakesTurns, done_of, done_with, one_when};
 ghost use Rattle.gateway_serve.specs.Counted.{count_closed, open_in};
 ghost use Rattle.gateway_serve.specs.Joined.{StaysJoined, AllEnded, LetsGo, IsFreeAt, SamePlaces, ended_of, places_of};
 ghost use Rattle.gateway_serve.specs.Longest.{IsLongest};
-ghost use Rattle.gateway_serve.specs.Reasons.{AllReasoned, StayReasoned, EndsReasoned, IsLeftReasoned};
+ghost use Rattle.gateway_serve.specs.Reasons.{AllReasoned, EndsReasoned, IsLeftReasoned};
 ghost use Rattle.gateway_serve.specs.Streams.{AllHave, AllHad, AllPreserve};
 ghost use Rattle.gateway_serve.specs.Turns.{HasRoom, IsCounted, IsUnvisited, HasNoPlace, NoneIsFree, RestStays};
-ghost use Rattle.gateway_serve.specs.Turns.{closed_of, door_of, opened_by};
+ghost use Rattle.gateway_serve.specs.Turns.{closed_of, door_of, opened_by, refused_by, times_of};
 
 use crate::acceptors::Acceptor;
 use crate::doors::Door;
@@ -23,7 +23,7 @@ use std::alloc::Global;
 use std::io::{Read, Write};
 use std::net::OpenStream;
 use std::thread;
-use std::time::Clock;
+use std::time::{Clock, Duration};
 use tus_session::{Connections, MOST_OPEN};
 
 /// The connections that are open, and how many were closed.
@@ -34,6 +34,8 @@ pub(crate) struct Server<S> {
     /// By the connections' numbers. There are at most `MOST_OPEN` places; another one is made when it is needed.
     places: Vec<Place<S>>,
     pub(crate) ended: Trace<Seen>,
+    /// at which each turn began
+    pub(crate) times: Trace<Duration>,
     /// the sockets of connections that the session closed
     drains: Drains<S>,
     closed: u64,
@@ -50,12 +52,15 @@ impl<S: Read + Write + OpenStream + Drop> Server<S> {
         ensures clients { (before : List Bool) → LetsInBy before before 0 (door_of result) }
         ensures closed { closed_of result ≡ 0 }
         ensures opened { opened_by result ≡ 0 }
+        ensures refused { refused_by result ≡ 0 }
+        ensures times { times_of result ≡ [] }
     {
         Server {
             alloc,
             door: Door::new(watch.now),
             places: Vec::new(alloc),
             ended: Trace::new(),
+            times: Trace::new(),
             drains: Drains::new(alloc),
             closed: 0,
             busy: false,
@@ -74,14 +79,15 @@ impl<S: Read + Write + OpenStream + Drop> Server<S> {
         turns: u64,
     ) -> Result<(), DiskFault>
         requires { IsUnvisited self.old }
-        ensures reasons { AllReasoned (ended_of self.old) → IsLeftReasoned (ended_of self.new) }
+        ensures reasons { AllReasoned (times_of self.old) (ended_of self.old)
+            → IsLeftReasoned (times_of self.new) (ended_of self.new) }
         ensures streams { AllHave S.remaining S.contents (places_of self.old)
             → AllHad S.remaining S.contents (ended_of self.old) → AllHad S.remaining S.contents (ended_of self.new) }
         ensures serves { LetsGo C.Connections gateway.old gateway.new result (places_of self.old)
-            (ended_of self.old) (ended_of self.new) }
+            (ended_of self.old) (ended_of self.new) (refused_by self.old) (refused_by self.new) }
         ensures counts { Counts (IsErr result) (C.failures gateway.old) (C.failures gateway.new) }
         ensures clients { HasServed (A.answers acceptor.old) (A.answers acceptor.new) turns connections
-            (door_of self.new).clients (ended_of self.new) (IsErr result) }
+            (done_of (door_of self.new)) (door_of self.new).clients (ended_of self.new) (IsErr result) }
     {
         match self.take_turns(clock, acceptor, gateway, connections, turns) {
             Ok(()) => Ok(()),
@@ -102,14 +108,15 @@ impl<S: Read + Write + OpenStream + Drop> Server<S> {
         turns: u64,
     ) -> Result<(), DiskFault>
         requires { IsUnvisited self.old }
-        ensures reasons { AllReasoned (ended_of self.old) → EndsReasoned (ended_of self.new) }
+        ensures reasons { AllReasoned (times_of self.old) (ended_of self.old)
+            → EndsReasoned (times_of self.new) (ended_of self.new) }
         ensures streams { AllPreserve S.remaining S.contents (places_of self.old) (places_of self.new)
             (ended_of self.old) (ended_of self.new) }
         ensures serves { AllEnded C.Connections gateway.old gateway.new result (places_of self.old) (places_of self.new)
-            (ended_of self.old) (ended_of self.new) }
+            (ended_of self.old) (ended_of self.new) (refused_by self.old) (refused_by self.new) }
         ensures counts { Counts (IsErr result) (C.failures gateway.old) (C.failures gateway.new) }
         ensures clients { TakesTurns (A.answers acceptor.old) (A.answers acceptor.new) turns connections
-            (door_of self.new).clients (ended_of self.new) (IsErr result) }
+            (done_of (door_of self.new)) (door_of self.new).clients (ended_of self.new) (IsErr result) }
         ensures counted { IsCounted self.new }
         ensures none { OnOk result (open_in (places_of self.new) ≡ 0) }
         ensures stops { count_closed (ended_of self.new) ≤ connections }
@@ -136,12 +143,12 @@ impl<S: Read + Write + OpenStream + Drop> Server<S> {
     ) -> Result<(), DiskFault>
         requires room { HasRoom (door_of self.old).clients }
         requires waits { (door_of self.old).clients.waits + 1 < 2 ^ 64 }
-        ensures reasons { StayReasoned (ended_of self.old) (ended_of self.new) }
+        ensures reasons { AllReasoned (times_of self.old) (ended_of self.old)
+            → AllReasoned (times_of self.new) (ended_of self.new) }
         ensures streams { AllPreserve S.remaining S.contents (places_of self.old) (places_of self.new)
             (ended_of self.old) (ended_of self.new) }
         ensures serves { StaysJoined C.Connections gateway.old gateway.new result (places_of self.old)
-            (places_of self.new)
-            (ended_of self.old) (ended_of self.new) }
+            (places_of self.new) (ended_of self.old) (ended_of self.new) (refused_by self.old) (refused_by self.new) }
         ensures counts { Counts (IsErr result) (C.failures gateway.old) (C.failures gateway.new) }
         ensures clients { (before : List Bool) (turns : ℕ)
             → LetsInBy before (A.answers acceptor.old) turns (door_of self.old)
@@ -153,6 +160,7 @@ impl<S: Read + Write + OpenStream + Drop> Server<S> {
             → length (ended_of self.new) ≤ connections }
     {
         let opened = self.door.clients.opened;
+        self.times = self.times.and(&self.watch.now);
         self.door.ask(acceptor, self.busy, self.watch.now);
         self.seat(gateway)?;
         let mut round = self.round(opened, connections);
@@ -202,12 +210,11 @@ impl<S: Read + Write + OpenStream + Drop> Server<S> {
     // socket is closed.
     fn seat<C: Connections>(&mut self, gateway: &mut C) -> Result<(), DiskFault>
         requires { HasRoom (door_of self.old).clients }
-        ensures reasons { StayReasoned (ended_of self.old) (ended_of self.new) }
+        ensures times { times_of self.new ≡ times_of self.old }
         ensures streams { AllPreserve S.remaining S.contents (places_of self.old) (places_of self.new)
             (ended_of self.old) (ended_of self.new) }
         ensures serves { StaysJoined C.Connections gateway.old gateway.new result (places_of self.old)
-            (places_of self.new)
-            (ended_of self.old) (ended_of self.new) }
+            (places_of self.new) (ended_of self.old) (ended_of self.new) (refused_by self.old) (refused_by self.new) }
         ensures counts { Counts (IsErr result) (C.failures gateway.old) (C.failures gateway.new) }
         ensures clients { (before answers : List Bool) (turns : ℕ) → LetsInBy before answers turns (door_of self.old)
             → LetsInBy before answers turns (door_of self.new) }
@@ -239,6 +246,7 @@ impl<S: Read + Write + OpenStream + Drop> Server<S> {
         ensures same { SamePlaces (places_of self.old) (places_of self.new) }
         ensures open { open_in (places_of self.new) ≡ open_in (places_of self.old) }
         ensures rest { RestStays self.old self.new }
+        ensures done { done_of (door_of self.new) ≡ done_with result (done_of (door_of self.old)) }
         ensures waits { one_when (is_some (door_of self.old).waiting)
             ≡ one_when (is_some result) + one_when (is_some (door_of self.new).waiting) }
         ensures takes { IsTrue (is_some (door_of self.new).waiting)
@@ -248,7 +256,7 @@ impl<S: Read + Write + OpenStream + Drop> Server<S> {
             return None;
         }
         let conn = self.free_place()?;
-        Some((conn, self.door.open()?))
+        Some((conn, self.door.let_in()?))
     }
 
     // The number of the first place that is free.
@@ -260,6 +268,7 @@ impl<S: Read + Write + OpenStream + Drop> Server<S> {
         ensures door { door_of self.new ≡ door_of self.old }
         ensures ended { ended_of self.new ≡ ended_of self.old }
         ensures closed { closed_of self.new ≡ closed_of self.old }
+        ensures times { times_of self.new ≡ times_of self.old }
     {
         match first_free(&self.places) {
             Some(conn) => Some(conn),
@@ -276,6 +285,7 @@ impl<S: Read + Write + OpenStream + Drop> Server<S> {
         ensures door { door_of self.new ≡ door_of self.old }
         ensures ended { ended_of self.new ≡ ended_of self.old }
         ensures closed { closed_of self.new ≡ closed_of self.old }
+        ensures times { times_of self.new ≡ times_of self.old }
     {
         let conn = self.places.len();
         if conn >= MOST_OPEN {

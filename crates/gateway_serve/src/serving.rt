@@ -8,7 +8,7 @@ ghost use Rattle.gateway_serve.specs.Served.{ServesPart, AllServed, AllLeft};
 ghost use Rattle.gateway_serve.specs.Streams.{AllHad};
 
 use crate::acceptors::Acceptor;
-use crate::doors::Clients;
+use crate::doors::{AtDoor, Clients};
 use crate::idle::{Watch, time};
 use crate::server::Server;
 use crate::sockets::Seen;
@@ -16,7 +16,7 @@ use common::{DiskFault, Trace};
 use std::alloc::Global;
 use std::io::{Read, Write};
 use std::net::OpenStream;
-use std::time::Clock;
+use std::time::{Clock, Duration};
 use tus_session::Connections;
 
 /// What serving came to.
@@ -25,6 +25,10 @@ pub struct Outcome<C> {
     pub gateway: C,
     /// What became of the clients that the listener gave.
     pub clients: Clients,
+    /// What was done for them, turn by turn, which only clauses read.
+    pub door: Trace<AtDoor>,
+    /// The time at the beginning of each turn, as the clock showed it, which only clauses read.
+    pub times: Trace<Duration>,
     /// The sockets that served them, which only clauses read.
     pub ended: Trace<Seen>,
     /// `DiskFault` where a call of the session was refused with it: serving stopped there.
@@ -82,7 +86,8 @@ where
     // if the reason is that the session closed the connection, or that it was late between requests or in one.
     ensures serves { (sure : Bool) (st : State) → C.represents gateway sure st
         → ServesPart C.Connections sure gateway result.gateway st result.served
-        (AllServed sure result.ended.items st) (AllLeft sure result.ended.items st) }
+        (AllServed sure result.ended.items result.clients.refused st)
+        (AllLeft sure result.ended.items result.clients.refused st) }
     ensures counts { Counts (IsErr result.served) (C.failures gateway) (C.failures result.gateway) }
 
     // Each of these sockets had a stream of its own, as it was accepted. Until its connection was closed that was read
@@ -97,22 +102,24 @@ where
     //   but not because it would have waited or was interrupted;
     // - nothing came or went for as long as it may be idle at what it was at;
     // - serving was over: at most one for each number of a connection, and one more if the disk failed.
-    ensures reasons { IsLeftReasoned result.ended.items }
+    ensures reasons { IsLeftReasoned result.times.items result.ended.items }
 
     // Each client that the listener gave got a connection, which is one of these sockets, or was refused one by the
     // session, or waited for a place at the end, which one does at most. Unless the disk failed or so many connections
     // were closed before, it took so many turns, and no more connections were closed than that: in at least every 32nd
     // turn in which no client waited it asked the listener.
-    ensures clients { HasServed (A.answers acceptor.old) (A.answers acceptor.new) turns connections result.clients
-        result.ended.items (IsErr result.served) }
+    ensures clients { HasServed (A.answers acceptor.old) (A.answers acceptor.new) turns connections result.door.items
+        result.clients result.ended.items (IsErr result.served) }
 {
     let mut gateway = gateway;
     let mut server = Server::new(alloc, Watch::new(time(clock)));
     let served = server.serve(clock, acceptor, &mut gateway, connections, turns);
-    let Server { door, ended, .. } = server;
+    let Server { door, times, ended, .. } = server;
     Outcome {
         gateway,
         clients: door.clients,
+        door: door.done,
+        times,
         ended,
         served,
     }

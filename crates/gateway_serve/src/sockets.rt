@@ -8,6 +8,7 @@ use crate::reasons::Reason;
 use common::Trace;
 use std::io::{self, ErrorKind, Read, Write};
 use std::marker::Model;
+use std::time::Duration;
 
 /// What the latest call of a stream answered.
 #[derive(Clone, Copy, Drop)]
@@ -143,6 +144,15 @@ impl<S> Untouched<S> {
     }
 }
 
+/// The times of a connection, as its server's clock showed them.
+#[derive(Clone, Copy, Debug, PartialEq, Eq, Drop)]
+pub struct Spell {
+    /// When it was opened.
+    pub opened: Duration,
+    /// When something last came or went.
+    pub moved: Duration,
+}
+
 /// What is seen of a socket that served its connection. Only clauses read it.
 #[derive(Drop)]
 pub struct Seen {
@@ -154,6 +164,8 @@ pub struct Seen {
     pub went: Trace<u8>,
     /// What the latest call of its stream answered.
     pub latest: Latest,
+    /// The times of its connection.
+    pub spell: Spell,
     /// Why it ended.
     pub reason: Reason,
 }
@@ -163,8 +175,8 @@ impl<S> Socket<S> {
 
     /// What is seen of the socket, which served the connection with this number and ends for this reason, and its
     /// stream. No byte of the connection comes or goes over it any more.
-    pub(crate) fn ended(self, conn: usize, reason: Reason) -> (Seen, S)
-        ensures seen { result.0 ≡ current conn self reason }
+    pub(crate) fn ended(self, conn: usize, spell: Spell, reason: Reason) -> (Seen, S)
+        ensures seen { result.0 ≡ current conn self spell reason }
         ensures stream { result.1 ≡ stream_of self }
     {
         let Socket {
@@ -178,6 +190,7 @@ impl<S> Socket<S> {
             came,
             went,
             latest,
+            spell,
             reason,
         };
         (seen, stream)

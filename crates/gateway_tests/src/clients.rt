@@ -178,7 +178,7 @@ pub(crate) fn served(
         gateway,
         served,
         clients,
-        ended: _,
+        ..
     } = serve_on(
         clock,
         alloc,

@@ -1,6 +1,6 @@
 //! The lines that a log writes for given bytes in and out, over scripted streams.
 
-use gateway_log::{Log, Logged, Stock};
+use gateway_log::{Log, Logged, Progress, Stock};
 use std::alloc::Global;
 use std::cell::Cell;
 use std::io::{self, Read, Write};
@@ -376,7 +376,7 @@ fn lines_of_a_log(rt: HostRuntime) {
 }
 
 #[test]
-fn stock_is_shown_in_the_line_of_a_minute(rt: HostRuntime) {
+fn stock_and_progress_are_shown(rt: HostRuntime) {
     let alloc = rt.alloc();
     let written = Cell::new(Vec::new(alloc));
     let sends: Cell<&'static [u8]> = Cell::new(b"");
@@ -404,12 +404,21 @@ fn stock_is_shown_in_the_line_of_a_minute(rt: HostRuntime) {
     let head = b"PATCH /files/1 HTTP/1.1\r\nUpload-Offset: 0\r\nContent-Length: 3\r\n\r\n";
     reads(&rt, &sends, &mut stream, head, 512);
     log.end();
-    drop(stream);
     let wanted =
         "minute connections=1 requests=1 2xx=0 4xx=0 5xx=0 in=64 out=0 bodies=1 free_blocks=7 \
         free_slots=511 incomplete=1\n";
-    let lines = written.replace(Vec::new(alloc));
-    assert!(rt; lines.starts_with(&timed(&rt, alloc, wanted)));
+    assert_eq!(rt; taken(alloc, &written), timed(&rt, alloc, wanted));
+    // The line of a body that is cut waits until the log is told how far its upload is. The client had waited, too.
+    drop(stream);
+    assert_eq!(rt; log.cut_upload(), Some(1));
+    log.tell_cut(Some(Progress {
+        accepted: 2,
+        declared: Some(3),
+    }));
+    assert_eq!(rt; log.cut_upload(), None);
+    log.end();
+    let wanted = "1 127.0.0.1:7 PATCH /files/1 offset=0 body=3 status=none in=64 out=0 ms=0 wait=5000 now=2/3\n";
+    assert_eq!(rt; taken(alloc, &written), timed(&rt, alloc, wanted));
 }
 
 /// What was written since the last call.

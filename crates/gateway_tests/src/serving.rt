@@ -97,8 +97,7 @@ fn served<R: Abort + Clock, D: Disk + Drop>(
     let Outcome {
         gateway,
         served,
-        clients: _,
-        ended: _,
+        ..
     } = serve_on(rt, alloc, &mut acceptor, gateway, connections, 1000);
     (gateway.into_disk(), served.is_ok())
 }

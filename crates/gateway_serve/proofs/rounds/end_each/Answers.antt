@@ -9,10 +9,10 @@ use Rattle.gateway_serve.specs.declared.reasons.Reason.TheVariants.{Over}
 use Rattle.gateway_serve.proofs.rounds.end_each.Goals as goal
 
 pub returns-in-Err-clause-serves : goal.returns-in-Err-clause-serves
-returns-in-Err-clause-serves g c =
+returns-in-Err-clause-serves g c = λ refused.
     among_all {T = Unit {0}} g.C.Connections _ c.loop-conn.gateway c.end.new.gateway (Err c.in-Err.fault) _
     c.loop-conn.places c.loop-conn.conn c.index-places-conn.result c.end.new.self _ c.loop-conn.ended.items
-    c.end.new.ended.items c.loop-conn.invariant.1 c.in-Err.ensures.serves c.end.ensures.others
+    c.end.new.ended.items refused refused (c.loop-conn.invariant.1 refused) c.in-Err.ensures.serves c.end.ensures.others
     (omega (arith, c.loop-conn-test.true, c.loop-conn.auto.places))
 
 pub returns-in-Err-clause-streams : goal.returns-in-Err-clause-streams
@@ -24,7 +24,7 @@ returns-in-Err-clause-streams g c =
 pub loop-conn-init : goal.loop-conn-init
 loop-conn-init g c = (
   refl,
-  λ sure before st past went joins. (past, went, joins),
+  λ refused sure before st past went joins. (past, went, joins),
   λ have had. (have, had),
   λ k lt. absurd (omega (arith, lt)),
   none,
@@ -38,9 +38,10 @@ loop-conn-preserved g c =
     let inside : c.loop-conn.conn < length c.loop-conn.places =
     omega (arith, c.loop-conn-test.true, c.loop-conn.auto.places) in (
       uncounted (λ fails. absurd (cc)) c.in-Ok.ensures.counts ∙ c.loop-conn.invariant.0,
-      among_all {T = Unit {0}} g.C.Connections _ c.loop-conn.gateway c.end.new.gateway (Ok tt) _ c.loop-conn.places
-          c.loop-conn.conn c.index-places-conn.result c.end.new.self _ c.loop-conn.ended.items
-          c.end.new.ended.items c.loop-conn.invariant.1 c.in-Ok.ensures.serves c.end.ensures.others
+      λ refused. among_all {T = Unit {0}} g.C.Connections _ c.loop-conn.gateway c.end.new.gateway (Ok tt) _
+          c.loop-conn.places c.loop-conn.conn c.index-places-conn.result c.end.new.self _ c.loop-conn.ended.items
+          c.end.new.ended.items refused refused (c.loop-conn.invariant.1 refused) c.in-Ok.ensures.serves
+          c.end.ensures.others
           inside,
       among_preserve g.S.Read.remaining g.S.Write.contents _ c.loop-conn.places c.loop-conn.conn
           c.index-places-conn.result c.end.new.self _ c.loop-conn.ended.items c.end.new.ended.items
@@ -87,13 +88,13 @@ returns-clause-none g c =
     none_open c.loop-conn.places (λ k inside. c.loop-conn.invariant.3 k (omega (arith, inside, most)))
 
 pub returns-clause-serves : goal.returns-clause-serves
-returns-clause-serves g c = λ sure before st past went joins.
-    let s = c.loop-conn.invariant.1 sure before st past went joins in
+returns-clause-serves g c = λ refused sure before st past went joins.
+    let s = c.loop-conn.invariant.1 refused sure before st past went joins in
     let most : length c.loop-conn.places ≤ c.loop-conn.conn =
     omega (arith, c.loop-conn-test.false, c.loop-conn.auto.places) in (
       s.0,
       s.1,
-      all_served sure c.loop-conn.places c.loop-conn.ended.items st s.0
+      all_served sure c.loop-conn.places c.loop-conn.ended.items refused st s.0
           (λ k lt. c.loop-conn.invariant.3 k (omega (arith, lt, most))) s.2,
     )
 

@@ -9,7 +9,7 @@ use Rattle.gateway_serve.proofs.rounds.free_each.Goals as goal
 
 pub loop-conn-init : goal.loop-conn-init
 loop-conn-init g c = (
-  λ sure st past all. none_left sure c.args.places.now c.args.ended.now.items st past all,
+  λ sure refused st past all. none_left sure c.args.places.now c.args.ended.now.items refused st past all,
   λ have had. (have, had),
   none,
   refl,
@@ -21,10 +21,10 @@ pub loop-conn-preserved : goal.loop-conn-preserved
 loop-conn-preserved g c =
     let inside : c.loop-conn.conn < length c.loop-conn.places =
     omega (arith, c.loop-conn-test.true, c.loop-conn.auto.places) in (
-      λ sure st past all. one_more_left sure c.loop-conn.conn c.loop-conn.places c.index-places-conn.result
+      λ sure refused st past all. one_more_left sure c.loop-conn.conn c.loop-conn.places c.index-places-conn.result
           c.free.new.self
           c.loop-conn.ended.items c.free.new.ended.items st past inside
-          c.free.ensures.ended c.free.ensures.waiting (c.loop-conn.invariant.0 sure st past all),
+          c.free.ensures.ended c.free.ensures.waiting (c.loop-conn.invariant.0 sure refused st past all),
       among_preserve g.S.Read.remaining g.S.Write.contents _ c.loop-conn.places c.loop-conn.conn
           c.index-places-conn.result c.free.new.self _ c.loop-conn.ended.items c.free.new.ended.items
           c.loop-conn.invariant.1 inside c.free.ensures.streams,
@@ -52,11 +52,13 @@ pub returns-clause-before : goal.returns-clause-before
 returns-clause-before g c = c.loop-conn.invariant.4
 
 pub returns-clause-left : goal.returns-clause-left
-returns-clause-left g c = λ sure st past all.
+returns-clause-left g c = λ sure refused st past all.
     let most : length c.loop-conn.places ≤ c.loop-conn.conn =
-    omega (arith, c.loop-conn-test.false, c.loop-conn.auto.places) in
-    all_left sure c.loop-conn.conn c.loop-conn.places c.loop-conn.ended.items st past most
-    (c.loop-conn.invariant.0 sure st past all)
+    omega (arith, c.loop-conn-test.false, c.loop-conn.auto.places) in (
+      all_left sure c.loop-conn.conn c.loop-conn.places c.loop-conn.ended.items st past most
+          (c.loop-conn.invariant.0 sure refused st past all),
+      all.1,
+    )
 
 pub returns-clause-once : goal.returns-clause-once
 returns-clause-once g c = (c.loop-conn.conn, c.loop-conn.invariant.2)

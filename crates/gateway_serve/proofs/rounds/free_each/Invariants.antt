@@ -10,7 +10,8 @@ use Rattle.gateway_serve.proofs.rounds.free_each.Given as goal
 
 abbrev pub invariant-loop-conn : goal.invariant-loop-conn
 invariant-loop-conn g l =
-    ((sure : Bool) (st : State) (past : List Marked) → AllFell sure l.fn.places l.fn.ended.items st past
+    ((sure : Bool) (refused : ℕ) (st : State) (past : List Marked)
+    → AllFell sure l.fn.places l.fn.ended.items refused st past
     → HalfLeft sure l.conn l.places l.ended.items st past)
     × AllPreserve g.S.Read.remaining g.S.Write.contents l.fn.places l.places l.fn.ended.items l.ended.items
     × EndedOnce l.fn.ended.items l.conn l.ended.items

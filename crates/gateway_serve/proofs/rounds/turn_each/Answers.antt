@@ -8,8 +8,8 @@ use Rattle.gateway_serve.proofs.Counted.{adds_on, closes, still_most}
 use Rattle.gateway_serve.proofs.rounds.turn_each.Goals as goal
 
 pub returns-then-round-clause-serves : goal.returns-then-round-clause-serves
-returns-then-round-clause-serves g c = λ sure before st past went joins.
-    let s = c.loop-conn.invariant.1 sure before st past went joins in (
+returns-then-round-clause-serves g c = λ refused sure before st past went joins.
+    let s = c.loop-conn.invariant.1 refused sure before st past went joins in (
       s.0,
       s.1,
       rw (set-get_or c.loop-conn.places c.loop-conn.conn c.index-places-conn.result) s.2,
@@ -23,10 +23,11 @@ returns-then-round-clause-streams g c = λ have had.
     )
 
 pub returns-in-Err-clause-serves : goal.returns-in-Err-clause-serves
-returns-in-Err-clause-serves g c =
+returns-in-Err-clause-serves g c = λ refused.
     among_all {T = Turned} g.C.Connections _ c.loop-conn.gateway c.turn.new.gateway (Err c.in-Err.fault) _
     c.loop-conn.places c.loop-conn.conn c.index-places-conn.result c.turn.new.self _ c.loop-conn.ended.items
-    c.turn.new.ended.items c.loop-conn.invariant.1 c.in-Err.ensures.serves c.turn.ensures.others
+    c.turn.new.ended.items refused refused (c.loop-conn.invariant.1 refused) c.in-Err.ensures.serves
+    c.turn.ensures.others
     (omega (arith, c.loop-conn-test.true, c.loop-conn.auto.places))
 
 pub returns-in-Err-clause-streams : goal.returns-in-Err-clause-streams
@@ -36,25 +37,30 @@ returns-in-Err-clause-streams g c =
     c.loop-conn.invariant.2 (omega (arith, c.loop-conn-test.true, c.loop-conn.auto.places)) c.turn.ensures.streams
 
 pub returns-in-Err-clause-reasons : goal.returns-in-Err-clause-reasons
-returns-in-Err-clause-reasons g c = λ all. c.turn.ensures.reasons (c.loop-conn.invariant.3 all)
+returns-in-Err-clause-reasons g c = λ times among all.
+    c.turn.ensures.reasons times (rw (c.tick.ensures.now ∙ c.loop-conn.invariant.6) among)
+    (c.loop-conn.invariant.3 times among all)
 
 pub loop-conn-preserved : goal.loop-conn-preserved
 loop-conn-preserved g c = (
   uncounted (λ fails. absurd (cc)) c.in-Ok.ensures.counts ∙ c.loop-conn.invariant.0,
-  among_all {T = Turned} g.C.Connections _ c.loop-conn.gateway c.turn.new.gateway (Ok c.in-Ok.turned) _
+  λ refused. among_all {T = Turned} g.C.Connections _ c.loop-conn.gateway c.turn.new.gateway (Ok c.in-Ok.turned) _
       c.loop-conn.places c.loop-conn.conn c.index-places-conn.result c.turn.new.self _ c.loop-conn.ended.items
-      c.turn.new.ended.items c.loop-conn.invariant.1 c.in-Ok.ensures.serves c.turn.ensures.others
+      c.turn.new.ended.items refused refused (c.loop-conn.invariant.1 refused) c.in-Ok.ensures.serves
+      c.turn.ensures.others
       (omega (arith, c.loop-conn-test.true, c.loop-conn.auto.places)),
   among_preserve g.S.Read.remaining g.S.Write.contents _ c.loop-conn.places c.loop-conn.conn
       c.index-places-conn.result c.turn.new.self _ c.loop-conn.ended.items c.turn.new.ended.items
       c.loop-conn.invariant.2 (omega (arith, c.loop-conn-test.true, c.loop-conn.auto.places)) c.turn.ensures.streams,
-  λ all. c.turn.ensures.reasons (c.loop-conn.invariant.3 all),
+  λ times among all. c.turn.ensures.reasons times (rw (c.tick.ensures.now ∙ c.loop-conn.invariant.6) among)
+      (c.loop-conn.invariant.3 times among all),
   adds_on _ c.loop-conn.places c.loop-conn.conn c.index-places-conn.result c.turn.new.self _ c.loop-conn.ended.items
       c.turn.new.ended.items (omega (arith, c.loop-conn-test.true, c.loop-conn.auto.places)) c.loop-conn.invariant.4
       c.turn.ensures.kept,
   c.add.ensures.connections ∙ c.loop-conn.invariant.5,
+  c.add.ensures.now ∙ c.loop-conn.invariant.6,
   λ same most.
-      let now = c.loop-conn.invariant.6 same most in
+      let now = c.loop-conn.invariant.7 same most in
       closes c.in-Ok.turned c.loop-conn.round.closed c.add.new.self.closed (length c.loop-conn.ended.items)
       (length c.turn.new.ended.items) c.args.round.now.connections
       (λ e. c.if-round.false (e ∙ sym c.loop-conn.invariant.5)) now.0 now.1
@@ -74,7 +80,7 @@ returns-in-Err-clause-kept g c =
 
 pub returns-in-Err-clause-stops : goal.returns-in-Err-clause-stops
 returns-in-Err-clause-stops g c = λ same most.
-    let now = c.loop-conn.invariant.6 same most in
+    let now = c.loop-conn.invariant.7 same most in
     still_most (get_or c.loop-conn.places c.loop-conn.conn c.index-places-conn.result) c.turn.new.self
     c.loop-conn.round.closed (length c.loop-conn.ended.items) (length c.turn.new.ended.items)
     c.args.round.now.connections (λ e. c.if-round.false (e ∙ sym c.loop-conn.invariant.5)) now.0 now.1

@@ -1,4 +1,4 @@
-use Rattle.std.proofs.Common.{◌≡◌, ◌≤◌, length, Result, Ok}
+use Rattle.std.proofs.Common.{◌≡◌, ◌≤◌, ℕ, length, Result, Ok}
 use Rattle.common.specs.declared.stop.DiskFault.{DiskFault}
 use Rattle.gateway_serve.specs.Counted.{Adds}
 use Rattle.gateway_serve.specs.Joined.{StaysJoined}
@@ -10,10 +10,12 @@ abbrev pub invariant-loop-conn : goal.invariant-loop-conn
 invariant-loop-conn g l =
     let on : Result (Unit {0}) DiskFault = Ok tt in
     (g.C.Connections.failures l.gateway ≡ g.C.Connections.failures l.fn.gateway)
-    × StaysJoined g.C.Connections l.fn.gateway l.gateway on l.fn.places l.places l.fn.ended.items l.ended.items
+    × ((refused : ℕ) → StaysJoined g.C.Connections l.fn.gateway l.gateway on l.fn.places l.places l.fn.ended.items
+    l.ended.items refused refused)
     × AllPreserve g.S.Read.remaining g.S.Write.contents l.fn.places l.places l.fn.ended.items l.ended.items
-    × StayReasoned l.fn.ended.items l.ended.items
+    × StayReasoned l.fn.round.now l.fn.ended.items l.ended.items
     × Adds l.fn.places l.places l.fn.ended.items l.ended.items
     × (l.round.connections ≡ l.fn.round.connections)
+    × (l.round.now ≡ l.fn.round.now)
     × (l.fn.round.closed ≡ length l.fn.ended.items → length l.fn.ended.items ≤ l.fn.round.connections
     → (l.round.closed ≡ length l.ended.items) × (length l.ended.items ≤ l.fn.round.connections))

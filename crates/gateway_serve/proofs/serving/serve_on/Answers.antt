@@ -11,8 +11,8 @@ returns-clause-serves g c = λ sure st represents.
       images = λ known. record
           { later = omega arith; limits = λ n t ms le left among. left };
     })
-    (new_joins sure (places_of c.new-server.result) (ended_of c.new-server.result) st c.new-server.ensures.places
-    c.new-server.ensures.ended)
+    (rw c.new-server.ensures.refused (new_joins sure (places_of c.new-server.result) (ended_of c.new-server.result) st
+    c.new-server.ensures.places c.new-server.ensures.ended))
 
 pub returns-clause-reasons : goal.returns-clause-reasons
 returns-clause-reasons g c =

@@ -1,4 +1,4 @@
-use Rattle.std.proofs.Common.{ℕ, List, Result, Ok, Err}
+use Rattle.std.proofs.Common.{ℕ, List, Result, Ok, Err, refl}
 use Rattle.common.specs.declared.stop.DiskFault.{DiskFault}
 use Rattle.tus_session.specs.History.{Came, Marked}
 use Rattle.gateway_serve.specs.Joined.{Alone, Joins, joint_of}
@@ -24,7 +24,7 @@ returns-in-Ok-clause-serves g c = λ sure before st past ended went joins.
     c.came-answer.result (Ok c.in-Ok.next) c.in-Ok.ensures.fault gives.1.now_represents
     (λ known. c.came-answer.ensures.crash _ (surely went known)) c.came-answer.ensures.falls
     (λ ok. (
-      alone_step sure st past (Came n piece) _,
+      alone_step sure st past (Came n piece) _ refl,
       came_link sure ended st past n c.came-answer.result gives.0
           (joint_of c.args.self.now) piece c.take.new.self c.came-answer.new.self c.in-Ok.next.stage c.in-Ok.next.taken
           ok c.left.ensures
@@ -45,7 +45,7 @@ returns-in-Err-clause-serves g c = λ sure before st past ended went joins.
     (λ known. c.came-answer.ensures.crash _ (surely went known)) c.came-answer.ensures.falls
     (λ ok. tt)
     (λ fails. (
-      alone_step sure st past (Came n piece) _,
+      alone_step sure st past (Came n piece) _ refl,
       came_down sure ended st past n c.came-answer.result gives.0
           (joint_of c.args.self.now) piece c.came-answer.new.self fails c.left.ensures gives.1.answer gives.2 joins,
     ))

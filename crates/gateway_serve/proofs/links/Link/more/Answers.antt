@@ -1,4 +1,4 @@
-use Rattle.std.proofs.Common.{ℕ, List, Result, Ok, Err}
+use Rattle.std.proofs.Common.{ℕ, List, Result, Ok, Err, refl}
 use Rattle.common.specs.declared.stop.DiskFault.{DiskFault}
 use Rattle.tus_session.specs.History.{More, Marked}
 use Rattle.tus_session.proofs.Limiting.{quiet_limits}
@@ -20,7 +20,7 @@ returns-in-Ok-clause-serves g c = λ sure before st past ended went joins.
     c.more.result (Ok c.in-Ok.next) c.in-Ok.ensures.fault gives.1.now_represents
     (λ known. quiet_limits _ _ c.more.ensures.crash) c.more.ensures.falls
     (λ ok. (
-      alone_step sure st past (More n) _,
+      alone_step sure st past (More n) _ refl,
       more_link sure ended st past n c.more.result gives.0
           (joint_of c.args.self.now) c.more.new.self c.in-Ok.next.stage ok
           gives.1.answer gives.2 c.in-Ok.ensures.stage joins,
@@ -39,7 +39,7 @@ returns-in-Err-clause-serves g c = λ sure before st past ended went joins.
     (λ known. quiet_limits _ _ c.more.ensures.crash) c.more.ensures.falls
     (λ ok. tt)
     (λ fails. (
-      alone_step sure st past (More n) _,
+      alone_step sure st past (More n) _ refl,
       more_fell sure ended st past n c.more.result gives.0
           (joint_of c.args.self.now) c.more.new.self fails gives.1.answer gives.2 joins,
     ))

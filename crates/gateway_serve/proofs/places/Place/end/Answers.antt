@@ -1,4 +1,4 @@
-use Rattle.std.proofs.Common.{◌≡◌, false, true, List}
+use Rattle.std.proofs.Common.{◌≡◌, false, true, List, refl}
 use Rattle.tus_session.specs.History.{Ended, Marked}
 use Rattle.gateway_serve.specs.Joined.{Alone, PlaceJoins, PlaceFell}
 use Rattle.gateway_serve.specs.Sockets.{current_of}
@@ -22,12 +22,12 @@ returns-clause-serves g c = λ sure before st past went joins.
     c.ended.result c.unless_failed.result c.unless_failed.ensures does.now_represents
     (λ known. c.ended.ensures.crash _ (surely went known)) c.ended.ensures.falls
     (λ ok. (
-      alone_step sure st past (Ended n) _,
+      alone_step sure st past (Ended n) _ refl,
       reported_place sure ended st past n c.args.reason c.args.self.now c.free.new.self ended'
           c.ended.result c.free.ensures.free c.free.ensures.ended c.requires c.free.ensures.waiting used ok joins,
     ))
     (λ fails. (
-      alone_step sure st past (Ended n) _,
+      alone_step sure st past (Ended n) _ refl,
       fallen_place sure ended st past n c.args.reason c.args.self.now c.free.new.self ended' _
           c.free.ensures.free c.free.ensures.ended c.requires c.free.ensures.waiting used joins,
     ))

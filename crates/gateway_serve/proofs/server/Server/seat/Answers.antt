@@ -4,6 +4,7 @@ use Rattle.tus_session.specs.History.{Opened}
 use Rattle.tus_session.specs.declared.errors.SessionError.{SessionError}
 use Rattle.tus_session.proofs.Limiting.{quiet_limits}
 use Rattle.gateway_serve.specs.Counted.{one_if_open}
+use Rattle.gateway_serve.specs.Turns.{refused_by}
 use Rattle.gateway_serve.specs.declared.doors.Clients.{Clients}
 use Rattle.gateway_serve.proofs.Counted.{counted_on, free_open, opens_one}
 use Rattle.gateway_serve.specs.Joined.{AllJoin, AllFell, places_of, ended_of}
@@ -16,23 +17,27 @@ returns-in_default-clause-serves g c = λ sure before st past went joins. (
   past,
   went,
   same_join sure (places_of c.args.self.now) (places_of c.next_place.new.self) (ended_of c.args.self.now)
-      (ended_of c.next_place.new.self) st past c.next_place.ensures.same c.next_place.ensures.rest.ended joins,
+      (ended_of c.next_place.new.self) st past (refused_by c.args.self.now) (refused_by c.next_place.new.self)
+      c.next_place.ensures.same c.next_place.ensures.rest.ended
+      (ap (λ (k : Clients). k.refused) c.next_place.ensures.rest.clients) joins,
 )
 
 pub returns-in-Ok-clause-serves : goal.returns-in-Ok-clause-serves
 returns-in-Ok-clause-serves g c = λ sure before st past went joins.
     let n = c.in-Some.conn in
     let ended = ended_of c.next_place.new.self in
+    let refused = refused_by c.next_place.new.self in
     let reported : Result (Unit {0}) DiskFault = Ok tt in
     let does = c.opened.ensures.does sure _ went.represents in
     let goes : GoesOn c.opened.result reported = (λ e. absurd (cc), λ f. let x = c.in-Ok.is in absurd (cc)) in
     let all = same_join sure (places_of c.args.self.now) (places_of c.next_place.new.self)
-    (ended_of c.args.self.now) ended st past c.next_place.ensures.same c.next_place.ensures.rest.ended joins in
+    (ended_of c.args.self.now) ended st past (refused_by c.args.self.now) refused c.next_place.ensures.same
+    c.next_place.ensures.rest.ended (ap (λ (k : Clients). k.refused) c.next_place.ensures.rest.clients) joins in
     served g.C.Connections sure before c.args.gateway.now c.opened.new.self st past (Opened n) went
     (λ known ms among. g.met.C.Connections.durable c.args.gateway.now _ ms (surely went known) among)
     _ (λ now. Unit {0}) c.opened.result reported goes does.now_represents
     (λ known. quiet_limits _ _ c.opened.ensures.crash) c.opened.ensures.falls
-    (λ ok. all_opened sure (places_of c.next_place.new.self) n ended st past c.opened.result does.answer all
+    (λ ok. all_opened sure (places_of c.next_place.new.self) n ended refused st past c.opened.result does.answer all
     c.in-Some.ensures.free.1 c.open.result c.in-Some.ensures.free.0 c.open.ensures.none tt c.in-Ok.is)
     (λ fails. tt)
 
@@ -40,18 +45,21 @@ pub returns-in-Err-clause-serves : goal.returns-in-Err-clause-serves
 returns-in-Err-clause-serves g c = λ sure before st past went joins.
     let n = c.in-Some.conn in
     let ended = ended_of c.next_place.new.self in
+    let refused = refused_by c.next_place.new.self in
     let answer : Result (Unit {0}) SessionError = Err c.in-Err.error in
     let does = c.in-Err.ensures.does sure _ went.represents in
     let all = same_join sure (places_of c.args.self.now) (places_of c.next_place.new.self)
-    (ended_of c.args.self.now) ended st past c.next_place.ensures.same c.next_place.ensures.rest.ended joins in
-    let unchanged = all_unopened sure (places_of c.next_place.new.self) n ended st past answer does.answer all
+    (ended_of c.args.self.now) ended st past (refused_by c.args.self.now) refused c.next_place.ensures.same
+    c.next_place.ensures.rest.ended (ap (λ (k : Clients). k.refused) c.next_place.ensures.rest.clients) joins in
+    let unchanged = all_unopened sure (places_of c.next_place.new.self) n ended refused st past answer does.answer all
     c.in-Some.ensures.free.1 c.in-Err.error refl in
     served g.C.Connections sure before c.args.gateway.now c.opened.new.self st past (Opened n) went
     (λ known ms among. g.met.C.Connections.durable c.args.gateway.now _ ms (surely went known) among)
-    (AllJoin sure (places_of c.next_place.new.self) ended st) (AllFell sure (places_of c.next_place.new.self) ended st)
+    (AllJoin sure (places_of c.next_place.new.self) ended (refused + 1) st)
+    (AllFell sure (places_of c.next_place.new.self) ended (refused + 1) st)
     answer c.unless_failed.result c.unless_failed.ensures does.now_represents
     (λ known. quiet_limits _ _ c.opened.ensures.crash) c.in-Err.ensures.falls
-    (λ ok. unchanged) (λ fails. all_fall sure (places_of c.next_place.new.self) ended st _ unchanged)
+    (λ ok. unchanged) (λ fails. all_fall sure (places_of c.next_place.new.self) ended (refused + 1) st _ unchanged)
 
 pub returns-in_default-clause-counted : goal.returns-in_default-clause-counted
 returns-in_default-clause-counted g c counted =

@@ -1,6 +1,7 @@
 use Rattle.std.proofs.Common.{List, ◌∷◌, inl, refl, arith}
 use Rattle.tus_session.specs.History.{Marked, Failed}
 use Rattle.gateway_serve.specs.Joined.{ended_of}
+use Rattle.gateway_serve.specs.Turns.{refused_by}
 use Rattle.gateway_serve.proofs.Lost.{none_more}
 use Rattle.gateway_serve.proofs.server.Server.serve.Goals as goal
 
@@ -30,7 +31,7 @@ returns-in-Err-clause-serves g c = λ sure before st past went joins.
       s.0,
       s.1,
       s.2,
-      c.free_each.ensures.left sure st now (rw c.deref_mut.ensures.value s.3),
+      c.free_each.ensures.left sure (refused_by c.take_turns.new.self) st now (rw c.deref_mut.ensures.value s.3),
     )
 
 pub returns-in-Ok-clause-clients : goal.returns-in-Ok-clause-clients

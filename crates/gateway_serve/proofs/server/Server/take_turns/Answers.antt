@@ -5,8 +5,8 @@ use Rattle.tus_session.proofs.Counting.{uncounted}
 use Rattle.gateway_serve.proofs.NextTurn.{counts_on, next_turn, taken_so}
 use Rattle.gateway_serve.proofs.Counted.{count_most, counted_by, none_counted}
 use Rattle.gateway_serve.proofs.Lost.{none_more}
-use Rattle.gateway_serve.specs.Acceptors.{passes_of}
-use Rattle.gateway_serve.specs.Turns.{door_of}
+use Rattle.gateway_serve.specs.Acceptors.{done_of, passes_of}
+use Rattle.gateway_serve.specs.Turns.{door_of, refused_by}
 use Rattle.gateway_serve.proofs.server.Server.take_turns.Goals.{then-loop-left-test+else-self-connections}
 use Rattle.gateway_serve.proofs.server.Server.take_turns.Goals.{else-loop-left-test}
 use Rattle.gateway_serve.proofs.server.Server.take_turns.Goals as goal
@@ -69,7 +69,8 @@ returns-clause-serves g c = λ sure before st past went joins.
     let s = c.loop-left.invariant.1 sure before st past went joins in
     let same = with_items_is c.loop-left.self.places c.end_each.new.places
     (omega (arith, c.end_each.auto.places, c.deref_mut.ensures.len)) in
-    rw same (c.end_each.ensures.serves sure before st s.0 s.1 (rw c.deref_mut.ensures.value s.2))
+    rw same (c.end_each.ensures.serves (refused_by c.loop-left.self) sure before st s.0 s.1
+    (rw c.deref_mut.ensures.value s.2))
 
 pub returns-clause-reasons : goal.returns-clause-reasons
 returns-clause-reasons g c = λ all. (
@@ -90,7 +91,7 @@ returns-in_err-turn-clause-clients g c = record {
   taken = c.args.turns - c.loop-left.left + 1;
   waits = is_some (door_of c.turn.new.self).waiting;
   lets = taken_so (g.A.Acceptor.answers c.args.acceptor.now) (g.A.Acceptor.answers c.turn.new.acceptor)
-      (c.args.turns - c.loop-left.left + 1) (door_of c.turn.new.self).clients
+      (c.args.turns - c.loop-left.left + 1) (done_of (door_of c.turn.new.self)) (door_of c.turn.new.self).clients
       (is_some (door_of c.turn.new.self).waiting) (passes_of (door_of c.turn.new.self).pace)
       (c.in_err-turn.ensures.clients (g.A.Acceptor.answers c.args.acceptor.now)
       (c.args.turns - c.loop-left.left) c.loop-left.invariant.5);
@@ -102,7 +103,7 @@ returns-clause-clients g c = record {
   taken = c.args.turns - c.loop-left.left;
   waits = is_some (door_of c.loop-left.self).waiting;
   lets = taken_so (g.A.Acceptor.answers c.args.acceptor.now) (g.A.Acceptor.answers c.loop-left.acceptor)
-      (c.args.turns - c.loop-left.left) (door_of c.loop-left.self).clients
+      (c.args.turns - c.loop-left.left) (done_of (door_of c.loop-left.self)) (door_of c.loop-left.self).clients
       (is_some (door_of c.loop-left.self).waiting) (passes_of (door_of c.loop-left.self).pace)
       c.loop-left.invariant.5;
   all = elim c.loop-left-test.branch [
@@ -119,7 +120,7 @@ returns-clause-clients g c = record {
 pub turn-requires-clause-room : goal.turn-requires-clause-room
 turn-requires-clause-room g c =
     (counts_on (g.A.Acceptor.answers c.args.acceptor.now) (g.A.Acceptor.answers c.loop-left.acceptor) c.args.turns
-    c.loop-left.left c.loop-left.self.door.clients (is_some c.loop-left.self.door.waiting)
+    c.loop-left.left (done_of c.loop-left.self.door) c.loop-left.self.door.clients (is_some c.loop-left.self.door.waiting)
     (passes_of c.loop-left.self.door.pace) c.loop-left.invariant.5 (omega (arith, c.loop-left-test.true))
     c.loop-left.invariant.4 (omega (arith, c.ranges.turns.fits))).0
 

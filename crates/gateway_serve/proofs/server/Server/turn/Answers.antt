@@ -1,6 +1,9 @@
-use Rattle.std.proofs.Common.{◌+◌, arith}
+use Rattle.std.proofs.Common.{◌+◌, inl, sym, arith}
 use Rattle.std.proofs.lemmas.List.{with_items_is}
 use Rattle.tus_session.proofs.Counting.{uncounted}
+use Rattle.gateway_serve.specs.Joined.{ended_of}
+use Rattle.gateway_serve.specs.Turns.{refused_by, times_of}
+use Rattle.gateway_serve.proofs.Lost.{all_with_time}
 use Rattle.gateway_serve.proofs.Counted.{counted_by}
 use Rattle.gateway_serve.proofs.server.Server.turn.Goals as goal
 
@@ -14,10 +17,11 @@ returns-clause-streams g c = λ have had.
 
 pub returns-clause-serves : goal.returns-clause-serves
 returns-clause-serves g c = λ sure before st past went joins.
-    let s = c.in_ok-seat.ensures.serves sure before st past went joins in
+    let s = c.in_ok-seat.ensures.serves sure before st past went (rw c.ask.ensures.refused joins) in
     let same = with_items_is c.seat.new.self.places c.turn_each-taken.new.places
     (omega (arith, c.turn_each-taken.auto.places, c.deref_mut.ensures.len)) in
-    rw same (c.turn_each-taken.ensures.serves sure before st s.0 s.1 (rw c.deref_mut.ensures.value s.2))
+    rw same (c.turn_each-taken.ensures.serves (refused_by c.seat.new.self) sure before st s.0 s.1
+    (rw c.deref_mut.ensures.value s.2))
 
 pub returns-clause-clients : goal.returns-clause-clients
 returns-clause-clients g c = λ before turns lets.
@@ -49,7 +53,10 @@ returns-clause-counted g c counted =
     (rw c.deref_mut.ensures.value at c.turn_each-taken.ensures.kept))
 
 pub returns-clause-reasons : goal.returns-clause-reasons
-returns-clause-reasons g c = λ all. c.turn_each-taken.ensures.reasons (c.in_ok-seat.ensures.reasons all)
+returns-clause-reasons g c = λ all.
+    let longer = all_with_time c.args.self.now.watch.now (times_of c.args.self.now) (ended_of c.args.self.now) all in
+    c.turn_each-taken.ensures.reasons _ (inl (sym c.round-round.ensures.now))
+    (rw (sym c.in_ok-seat.ensures.ended, sym c.in_ok-seat.ensures.times) at longer)
 
 pub returns-clause-counts : goal.returns-clause-counts
 returns-clause-counts g c =
