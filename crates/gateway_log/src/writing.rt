@@ -105,14 +105,14 @@ impl<'a, T: Clock, W: Write + Drop> Log<'a, T, W> {
 
     /// Logs the body that was cut, if its line waits, with what its upload has, where that is known.
     pub fn tell_cut(&self, progress: Option<Progress>) {
-        let Some(Cut {
+        let Some(cut) = self.cut.replace(None) else {
+            return;
+        };
+        let Cut {
             client,
             spent,
             mut exchange,
-        }) = self.cut.replace(None)
-        else {
-            return;
-        };
+        } = cut;
         exchange.reply.offset = progress.map(|progress| progress.accepted);
         exchange.reply.length = progress.and_then(|progress| progress.declared);
         self.add_exchange(client, spent, &exchange);

@@ -150,7 +150,9 @@ impl<S: Read + Write> Link<S> {
     fn stay(&self, tick: Tick) -> Stay
         ensures { result ≡ stay_of self.now tick }
     {
-        let request = self.request.unwrap_or(Request::new(Part::Head, self.spell.moved));
+        let request = self
+            .request
+            .unwrap_or(Request::new(Part::Head, self.spell.moved));
         Stay {
             at: self.at(),
             wanted: tick.wanted,

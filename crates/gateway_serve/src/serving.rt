@@ -114,7 +114,12 @@ where
     let mut gateway = gateway;
     let mut server = Server::new(alloc, Watch::new(time(clock)));
     let served = server.serve(clock, acceptor, &mut gateway, connections, turns);
-    let Server { door, times, ended, .. } = server;
+    let Server {
+        door,
+        times,
+        ended,
+        ..
+    } = server;
     Outcome {
         gateway,
         clients: door.clients,

@@ -417,7 +417,8 @@ fn stock_and_progress_are_shown(rt: HostRuntime) {
     }));
     assert_eq!(rt; log.cut_upload(), None);
     log.end();
-    let wanted = "1 127.0.0.1:7 PATCH /files/1 offset=0 body=3 status=none in=64 out=0 ms=0 wait=5000 now=2/3\n";
+    let wanted =
+        "1 127.0.0.1:7 PATCH /files/1 offset=0 body=3 status=none in=64 out=0 ms=0 wait=5000 now=2/3\n";
     assert_eq!(rt; taken(alloc, &written), timed(&rt, alloc, wanted));
 }
 
