@@ -19,9 +19,9 @@ mod stages;
 mod stays;
 
 pub use acceptors::{Acceptor, Listening};
-pub use doors::Clients;
+pub use doors::{AtDoor, Clients};
 pub use laws::known_talks;
 pub use reasons::{Gone, Reason};
 pub use serving::{Outcome, serve_on};
-pub use sockets::{Latest, Seen};
+pub use sockets::{Latest, Seen, Spell};
 pub use stays::{At, Stay};
