@@ -168,8 +168,8 @@ pub same_join : {S : Type 0} (sure : Bool) (old new : List (Place S)) (ended end
     (past : List Marked) (refused refused' : ℕ)
     → SamePlaces old new → ended' ≡ ended → refused' ≡ refused → AllJoin sure old ended refused st past
     → AllJoin sure new ended' refused' st past
-same_join {S} sure old new ended ended' st past refused refused' same is as all =
-    (λ n. rw (is, same n) (all.0 n), as ∙ all.1)
+same_join {S} sure old new ended ended' st past refused refused' same is kept all =
+    (λ n. rw (is, same n) (all.0 n), kept ∙ all.1)
 
 -- A CONNECTION IS OPENED, in a place that is free
 module _ {S : Type 0} (sure : Bool) (places : List (Place S)) (n : ℕ) (ended : List Seen) (refused : ℕ) (st : State)

@@ -89,7 +89,7 @@ module _ (before answers : List Bool) (turns : ℕ) (done : List AtDoor) (client
   pub let_in_one : (clients' : Clients) (waits' : Bool) (passes' : ℕ) → one_when waits ≡ 1 + one_when waits'
       → clients'.opened + clients'.refused ≡ clients.opened + clients.refused + 1 → clients'.waits ≡ clients.waits
       → passes' ≡ passes → LetsIn before answers turns (LetIn ∷ done) clients' waits' passes'
-  let_in_one clients' waits' passes' one more same as =
+  let_in_one clients' waits' passes' one more same left =
       let two = waited_before waits waits' one in
       record {
         waiting = rw two.1 (let_in done (rw two.0 at l.waiting));
@@ -98,14 +98,15 @@ module _ (before answers : List Bool) (turns : ℕ) (done : List AtDoor) (client
         each = omega (arith, l.each, one, more);
         waited = same ∙ l.waited;
         most = omega (arith, l.most, same);
-        often = omega (arith, l.often, same, as);
+        often = omega (arith, l.often, same, left);
       }
 
   -- or none was
   pub none_let_in : (done' : List AtDoor) (clients' : Clients) (waits' : Bool) (passes' : ℕ) → done' ≡ done
       → clients' ≡ clients → one_when waits ≡ one_when waits' → passes' ≡ passes
       → LetsIn before answers turns done' clients' waits' passes'
-  none_let_in done' clients' waits' passes' is same one as = rw (is, same, as, same_when waits' waits (sym one)) l
+  none_let_in done' clients' waits' passes' is same one left =
+      rw (is, same, left, same_when waits' waits (sym one)) l
 
 -- each answer gave one client at most
 given_few : (since : List Bool) → count_given since ≤ length since
