@@ -50,6 +50,7 @@ impl<S: Drop> Door<S> {
         ensures opened { result.clients.opened ≡ 0 }
         ensures refused { result.clients.refused ≡ 0 }
     {
+        let pace = Pace::new(now);
         Door {
             clients: Clients {
                 opened: 0,
@@ -57,7 +58,7 @@ impl<S: Drop> Door<S> {
                 waits: 0,
             },
             done: Trace::new(),
-            pace: Pace::new(now),
+            pace,
             waiting: None,
         }
     }

@@ -159,11 +159,11 @@ impl<S: Read + Write + OpenStream + Drop> Server<S> {
         ensures stops { closed_of self.old ≡ length (ended_of self.old) → length (ended_of self.old) ≤ connections
             → length (ended_of self.new) ≤ connections }
     {
-        let opened = self.door.clients.opened;
-        self.times = self.times.and(&self.watch.now);
-        self.door.ask(acceptor, self.busy, self.watch.now);
+        let (now, opened) = (self.watch.now, self.door.clients.opened);
+        self.times = self.times.and(&now);
+        self.door.ask(acceptor, self.busy, now);
         self.seat(gateway)?;
-        let mut round = self.round(opened, connections);
+        let mut round = self.round(now, opened, connections);
         let taken = turn_each(
             clock,
             &mut self.places,
@@ -172,15 +172,15 @@ impl<S: Read + Write + OpenStream + Drop> Server<S> {
             &mut self.drains,
             &mut round,
         );
-        let flows = self.drains.turn(self.watch.now, self.busy);
+        let flows = self.drains.turn(now, self.busy);
         self.busy = round.busy || flows;
         self.closed = round.closed;
         taken
     }
 
-    // The turn of all places, where so many connections were opened before it.
-    fn round(&self, opened: u64, connections: u64) -> Round
-        ensures now { result.now ≡ self.now.watch.now }
+    // The turn of all places at this time, where so many connections were opened before it.
+    fn round(&self, now: Duration, opened: u64, connections: u64) -> Round
+        ensures now { result.now ≡ now }
         ensures was_busy { result.was_busy ≡ self.now.busy }
         ensures wanted { result.wanted ≡ is_some (door_of self.now).waiting }
         ensures busy { IsTrue result.busy ↔ (opened < (door_of self.now).clients.opened) }
@@ -192,7 +192,7 @@ impl<S: Read + Write + OpenStream + Drop> Server<S> {
     {
         let wanted = self.door.waits();
         Round {
-            now: self.watch.now,
+            now,
             was_busy: self.busy,
             wanted,
             longest: if wanted {

@@ -1,10 +1,12 @@
-use Rattle.std.proofs.Common.{◌≡◌, Result, Ok, Err, refl, ap, arith, length}
+use Rattle.std.proofs.Common.{◌≡◌, ◌+◌, Result, Ok, Err, is_some, refl, ap, arith, length}
 use Rattle.common.specs.declared.stop.DiskFault.{DiskFault}
 use Rattle.tus_session.specs.History.{Opened}
 use Rattle.tus_session.specs.declared.errors.SessionError.{SessionError}
 use Rattle.tus_session.proofs.Limiting.{quiet_limits}
 use Rattle.gateway_serve.specs.Counted.{one_if_open}
-use Rattle.gateway_serve.specs.Turns.{refused_by}
+use Rattle.gateway_serve.specs.Acceptors.{done_of, passes_of}
+use Rattle.gateway_serve.specs.Turns.{door_of, refused_by}
+use Rattle.gateway_serve.proofs.NextTurn.{let_in_one}
 use Rattle.gateway_serve.specs.declared.doors.Clients.{Clients}
 use Rattle.gateway_serve.proofs.Counted.{counted_on, free_open, opens_one}
 use Rattle.gateway_serve.specs.Joined.{AllJoin, AllFell, places_of, ended_of}
@@ -84,3 +86,25 @@ pub returns-in-Err-clause-counted : goal.returns-in-Err-clause-counted
 returns-in-Err-clause-counted g c counted =
     counted_on (ap (λ (k : Clients). k.opened) c.next_place.ensures.rest.clients)
     (ap length c.next_place.ensures.rest.ended) c.next_place.ensures.open counted
+
+pub returns-in-Ok-clause-clients : goal.returns-in-Ok-clause-clients
+returns-in-Ok-clause-clients g c = λ before answers turns lets.
+    let old = door_of c.args.self.now in
+    let mid = door_of c.next_place.new.self in
+    let same = c.next_place.ensures.rest.clients in
+    rw (rw c.in-Some.is at c.next_place.ensures.done) (let_in_one before answers turns (done_of old) old.clients
+    (is_some old.waiting) (passes_of old.pace) lets _ (is_some mid.waiting) (passes_of mid.pace)
+    (rw c.in-Some.is at c.next_place.ensures.waits)
+    (omega (arith, ap (λ (k : Clients). k.opened) same, ap (λ (k : Clients). k.refused) same))
+    (ap (λ (k : Clients). k.waits) same) (ap passes_of c.next_place.ensures.rest.pace))
+
+pub returns-in-Err-clause-clients : goal.returns-in-Err-clause-clients
+returns-in-Err-clause-clients g c = λ before answers turns lets.
+    let old = door_of c.args.self.now in
+    let mid = door_of c.next_place.new.self in
+    let same = c.next_place.ensures.rest.clients in
+    rw (rw c.in-Some.is at c.next_place.ensures.done) (let_in_one before answers turns (done_of old) old.clients
+    (is_some old.waiting) (passes_of old.pace) lets _ (is_some mid.waiting) (passes_of mid.pace)
+    (rw c.in-Some.is at c.next_place.ensures.waits)
+    (omega (arith, ap (λ (k : Clients). k.opened) same, ap (λ (k : Clients). k.refused) same))
+    (ap (λ (k : Clients). k.waits) same) (ap passes_of c.next_place.ensures.rest.pace))

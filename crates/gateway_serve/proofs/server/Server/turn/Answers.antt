@@ -1,4 +1,6 @@
-use Rattle.std.proofs.Common.{◌+◌, inl, sym, arith}
+use Rattle.std.proofs.Common.{◌≡◌, ◌+◌, ◌∷◌, ◌∙◌, ap, inl, arith}
+use Rattle.common.specs.declared.trace.Trace.{Trace}
+use Rattle.std.specs.declared.time.Duration.{Duration}
 use Rattle.std.proofs.lemmas.List.{with_items_is}
 use Rattle.tus_session.proofs.Counting.{uncounted}
 use Rattle.gateway_serve.specs.Joined.{ended_of}
@@ -55,9 +57,18 @@ returns-clause-counted g c counted =
 pub returns-clause-reasons : goal.returns-clause-reasons
 returns-clause-reasons g c = λ all.
     let longer = all_with_time c.args.self.now.watch.now (times_of c.args.self.now) (ended_of c.args.self.now) all in
-    c.turn_each-taken.ensures.reasons _ (inl (sym c.round-round.ensures.now))
-    (rw (sym c.in_ok-seat.ensures.ended, sym c.in_ok-seat.ensures.times) at longer)
+    let is : times_of c.seat.new.self ≡ c.args.self.now.watch.now ∷ times_of c.args.self.now =
+    c.in_ok-seat.ensures.times ∙ ap (λ (t : Trace Duration). t.items) c.and-self.ensures in
+    c.turn_each-taken.ensures.reasons (times_of c.seat.new.self) (rw is (inl c.round-round.ensures.now))
+    (rw (is, c.in_ok-seat.ensures.ended) longer)
 
 pub returns-clause-counts : goal.returns-clause-counts
 returns-clause-counts g c =
     rw (uncounted (λ fails. absurd (cc)) c.in_ok-seat.ensures.counts) at c.turn_each-taken.ensures.counts
+
+pub returns-in_err-seat-clause-reasons : goal.returns-in_err-seat-clause-reasons
+returns-in_err-seat-clause-reasons g c = λ all.
+    let longer = all_with_time c.args.self.now.watch.now (times_of c.args.self.now) (ended_of c.args.self.now) all in
+    let is : times_of c.seat.new.self ≡ c.args.self.now.watch.now ∷ times_of c.args.self.now =
+    c.in_err-seat.ensures.times ∙ ap (λ (t : Trace Duration). t.items) c.and-self.ensures in
+    rw (is, c.in_err-seat.ensures.ended) longer
