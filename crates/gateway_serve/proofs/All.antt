@@ -13,7 +13,7 @@ use Rattle.gateway_serve.specs.Conversations.{Conversation, AreTalks, AreRefused
 use Rattle.gateway_serve.specs.Sockets as sockets
 use Rattle.gateway_serve.specs.Sockets.{Pairs, current_of}
 use Rattle.gateway_serve.specs.declared.sockets.Seen.{Seen}
-use Rattle.gateway_serve.specs.Served.{AllServed, AllLeft}
+use Rattle.gateway_serve.specs.Served.{AllServed}
 use Rattle.gateway_serve.specs.Joined.{Joins, Alone, PlaceJoins, PlaceFell, GoesAt, StaysJoined, OthersStay, AllJoin}
 use Rattle.gateway_serve.specs.Joined.{AllFell, PlaceWaits, SamePlaces, IsNew, joint_of, nothing_yet, with_place}
 use Rattle.gateway_serve.specs.declared.places.Place.{Place}

@@ -4,7 +4,10 @@ use Rattle.std.proofs.lemmas.List.{get_or_default}
 use Rattle.std.specs.Io.KnownBytes.{Consumes, Appends, Keeps}
 use Rattle.gateway_serve.specs.declared.sockets.Seen.{Seen}
 use Rattle.std.specs.declared.io.ErrorKind.{ErrorKind}
-use Rattle.gateway_serve.specs.Bytes.{bytes_come, went_of, stream_of, latest_of}
+use Rattle.std.specs.declared.time.Duration.{Duration}
+use Rattle.gateway_serve.specs.Bytes.{bytes_come, went_of, stream_of, latest_of, spell_of}
+use Rattle.gateway_serve.specs.Gone.{opened_at, moved_at}
+use Rattle.gateway_serve.specs.declared.sockets.Spell.{Spell}
 use Rattle.gateway_serve.specs.Joined.{Joint, joint_of, nothing_yet}
 use Rattle.gateway_serve.specs.Streams.{Carried, untouched, read, not_read, written, not_written}
 use Rattle.gateway_serve.specs.Streams.{IsOf, StaysOf, PlaceHas, PlacePreserves, AllHave, AllPreserve}
@@ -18,56 +21,64 @@ use Rattle.gateway_serve.proofs.All.{set_all}
 
 module _ {S : Type 0} (remaining contents : S → Option (List ℕ)) where
   -- A SOCKET
-  carried_by : (accepted s : S) (came came' went went' : List ℕ) (last last' : Latest) → came' ≡ came → went' ≡ went
-      → last' ≡ last → Carried remaining contents accepted s came went last
-      → Carried remaining contents accepted s came' went' last'
-  carried_by accepted s came came' went went' last last' e f h k = rw (e, f, h) k
+  carried_by : (accepted s : S) (came came' went went' : List ℕ) (last last' : Latest) (spell spell' : Spell)
+      → came' ≡ came → went' ≡ went → last' ≡ last → spell' ≡ spell
+      → Carried remaining contents accepted s came went last spell
+      → Carried remaining contents accepted s came' went' last' spell'
+  carried_by accepted s came came' went went' last last' spell spell' e f h i k = rw (e, f, h, i) k
 
-  pub read_stays : (old new : Socket S) (bytes : List ℕ) (n : ℕ) → bytes_come new ≡ bytes_come old ++ bytes
-      → went_of new ≡ went_of old → latest_of new ≡ Was.Read n → length bytes ≡ n
+  pub read_stays : (old new : Socket S) (bytes : List ℕ) (n : ℕ) (now : Duration)
+      → bytes_come new ≡ bytes_come old ++ bytes → went_of new ≡ went_of old → latest_of new ≡ Was.Read n
+      → spell_of new ≡ moved_at now (spell_of old) → length bytes ≡ n
       → Consumes (remaining (stream_of old)) (remaining (stream_of new)) bytes
       → StaysOf remaining contents old new
-  read_stays old new bytes n e f last count does = λ accepted k.
+  read_stays old new bytes n now e f last spell count does = λ accepted k.
       carried_by accepted (stream_of new) (bytes_come old ++ bytes) (bytes_come new) (went_of old) (went_of new)
-      (Was.Read (length bytes)) (latest_of new) e f (last ∙ ap Was.Read (sym count))
-      (read (stream_of old) (stream_of new) (bytes_come old) (went_of old) bytes (latest_of old) k does)
+      (Was.Read (length bytes)) (latest_of new) (moved_at now (spell_of old)) (spell_of new) e f
+      (last ∙ ap Was.Read (sym count)) spell
+      (read (stream_of old) (stream_of new) (bytes_come old) (went_of old) bytes (latest_of old) (spell_of old) now k
+      does)
 
   pub not_read_stays : (old new : Socket S) (kind : ErrorKind) → bytes_come new ≡ bytes_come old
-      → went_of new ≡ went_of old
-      → latest_of new ≡ Was.Failed kind → Keeps (remaining (stream_of old)) (remaining (stream_of new))
+      → went_of new ≡ went_of old → latest_of new ≡ Was.Failed kind → spell_of new ≡ spell_of old
+      → Keeps (remaining (stream_of old)) (remaining (stream_of new))
       → StaysOf remaining contents old new
-  not_read_stays old new kind e f last does = λ accepted k.
+  not_read_stays old new kind e f last spell does = λ accepted k.
       carried_by accepted (stream_of new) (bytes_come old) (bytes_come new) (went_of old) (went_of new)
-      (Was.Failed kind)
-      (latest_of new) e f last
-      (not_read (stream_of old) (stream_of new) (bytes_come old) (went_of old) (latest_of old) kind k does)
+      (Was.Failed kind) (latest_of new) (spell_of old) (spell_of new) e f last spell
+      (not_read (stream_of old) (stream_of new) (bytes_come old) (went_of old) (latest_of old) (spell_of old) kind k
+      does)
 
-  pub written_stays : (old new : Socket S) (bytes : List ℕ) (n : ℕ) → bytes_come new ≡ bytes_come old
-      → went_of new ≡ went_of old ++ bytes → latest_of new ≡ Was.Written n → length bytes ≡ n
+  pub written_stays : (old new : Socket S) (bytes : List ℕ) (n : ℕ) (now : Duration)
+      → bytes_come new ≡ bytes_come old → went_of new ≡ went_of old ++ bytes → latest_of new ≡ Was.Written n
+      → spell_of new ≡ moved_at now (spell_of old) → length bytes ≡ n
       → Appends (contents (stream_of old)) (contents (stream_of new)) bytes
       → StaysOf remaining contents old new
-  written_stays old new bytes n e f last count does = λ accepted k.
+  written_stays old new bytes n now e f last spell count does = λ accepted k.
       carried_by accepted (stream_of new) (bytes_come old) (bytes_come new) (went_of old ++ bytes) (went_of new)
-      (Was.Written (length bytes)) (latest_of new) e f (last ∙ ap Was.Written (sym count))
-      (written (stream_of old) (stream_of new) (bytes_come old) (went_of old) bytes (latest_of old) k does)
+      (Was.Written (length bytes)) (latest_of new) (moved_at now (spell_of old)) (spell_of new) e f
+      (last ∙ ap Was.Written (sym count)) spell
+      (written (stream_of old) (stream_of new) (bytes_come old) (went_of old) bytes (latest_of old) (spell_of old) now
+      k does)
 
   pub not_written_stays : (old new : Socket S) (kind : ErrorKind) → bytes_come new ≡ bytes_come old
-      → went_of new ≡ went_of old → latest_of new ≡ Was.Failed kind
+      → went_of new ≡ went_of old → latest_of new ≡ Was.Failed kind → spell_of new ≡ spell_of old
       → Keeps (contents (stream_of old)) (contents (stream_of new))
       → StaysOf remaining contents old new
-  not_written_stays old new kind e f last does = λ accepted k.
+  not_written_stays old new kind e f last spell does = λ accepted k.
       carried_by accepted (stream_of new) (bytes_come old) (bytes_come new) (went_of old) (went_of new)
-      (Was.Failed kind)
-      (latest_of new) e f last
-      (not_written (stream_of old) (stream_of new) (bytes_come old) (went_of old) (latest_of old) kind k does)
+      (Was.Failed kind) (latest_of new) (spell_of old) (spell_of new) e f last spell
+      (not_written (stream_of old) (stream_of new) (bytes_come old) (went_of old) (latest_of old) (spell_of old) kind k
+      does)
 
   -- A PLACE
-  pub new_is_of : (accepted : S) (l : Link S) → stream_of l.socket ≡ accepted → latest_of l.socket ≡ Was.None
-      → joint_of l ≡ nothing_yet → IsOf remaining contents accepted l.socket
-  new_is_of accepted l is last new =
+  pub new_is_of : (accepted : S) (l : Link S) (now : Duration) → stream_of l.socket ≡ accepted
+      → latest_of l.socket ≡ Was.None → spell_of l.socket ≡ opened_at now → joint_of l ≡ nothing_yet
+      → IsOf remaining contents accepted l.socket
+  new_is_of accepted l now is last spell new =
       carried_by accepted (stream_of l.socket) [] (bytes_come l.socket) [] (went_of l.socket) Was.None
-      (latest_of l.socket) (ap (λ (j : Joint). j.came) new) (ap (λ (j : Joint). j.went) new) last
-      (rw is untouched)
+      (latest_of l.socket) (opened_at now) (spell_of l.socket) (ap (λ (j : Joint). j.came) new)
+      (ap (λ (j : Joint). j.went) new) last spell (rw is (untouched now))
 
   -- ALL PLACES
   pub set_has : (places : List (Place S)) (n : ℕ) (p' : Place S) → n < length places → PlaceHas remaining contents p'

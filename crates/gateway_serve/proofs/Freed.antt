@@ -47,7 +47,7 @@ others_current n s ended e = λ k ne. rw (e, other_number k n ne) refl
 pub others_stay : {S : Type 0} (n : ℕ) (reason : Reason) (p : Place S) (ended : List Seen)
     → OthersStay n ended (with_place n reason p ended)
 others_stay n reason Free ended = λ k ne. refl
-others_stay n reason (Open l) ended = others_current n (current n l.socket l.spell reason) ended refl
+others_stay n reason (Open l) ended = others_current n (current n l.socket reason) ended refl
 
 -- what is quietly ended has written all
 abbrev IfWhole : Reason → Joint → Type 0
@@ -113,7 +113,7 @@ module _ (sure : Bool) (ended : List Seen) (st : State) (past : List Marked) (n 
       → PlaceJoins sure p' (current_of n ended') st ((Ended n, mark_of answer) ∷ past) n
   reported_place reason Free p' ended' answer free with may few used ok is = absurd (used refl)
   reported_place reason (Open l) p' ended' answer free with may few used ok is =
-      let all = reported_pairs l.socket.latest l.spell reason (mark_of answer) (joint_of l) (if_whole reason l may)
+      let all = reported_pairs l.socket.latest l.socket.spell reason (mark_of answer) (joint_of l) (if_whole reason l may)
       (not_closed reason (Open l) may) few is in
       rw (free, with) (all.0, all.1, all.2, reported_none answer ok ∙ sym is.apart)
 
@@ -123,7 +123,7 @@ module _ (sure : Bool) (ended : List Seen) (st : State) (past : List Marked) (n 
       → PlaceFell sure p' (current_of n ended') st ((Ended n, m) ∷ past) n
   fallen_place reason Free p' ended' m free with may few used is = absurd (used refl)
   fallen_place reason (Open l) p' ended' m free with may few used is =
-      rw (free, with) (reported_pairs l.socket.latest l.spell reason m (joint_of l) (if_whole reason l may)
+      rw (free, with) (reported_pairs l.socket.latest l.socket.spell reason m (joint_of l) (if_whole reason l may)
       (not_closed reason (Open l) may) few is)
 
   -- WITHOUT A WORD to the session
@@ -134,8 +134,8 @@ module _ (sure : Bool) (ended : List Seen) (st : State) (past : List Marked) (n 
   unreported_place (Open l) few is = (
     is.latest ∷ is.others,
     is.talks,
-    rw (first_current n (current n l.socket l.spell Why.Over) ended refl) (
-      fits l.socket.latest l.spell Why.Over (joint_of l) is is.latest refl refl (λ e. is.disconnected) (λ w. absurd w) few,
+    rw (first_current n (current n l.socket Why.Over) ended refl) (
+      fits l.socket.latest l.socket.spell Why.Over (joint_of l) is is.latest refl refl (λ e. is.disconnected) (λ w. absurd w) few,
       loosely (current_of n ended) is.others is.pairs,
     ),
   )

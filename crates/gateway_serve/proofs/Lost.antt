@@ -1,5 +1,5 @@
 -- Why connections ended.
-use Rattle.std.proofs.Common.{◌≡◌, ◌≢◌, ◌⊎◌, ◌<◌, ◌≤◌, inl, inr, refl, ℕ, ◌+◌, List, [], ◌∷◌}
+use Rattle.std.proofs.Common.{◌≡◌, ◌⊎◌, ◌≤◌, inl, inr, refl, ℕ, ◌+◌, List, [], ◌∷◌}
 use Rattle.std.proofs.Common.{length, arith}
 use Rattle.std.specs.declared.io.ErrorKind.{ErrorKind}
 use Rattle.gateway_serve.specs.declared.sockets.Seen.{Seen}
@@ -23,8 +23,6 @@ use Rattle.gateway_serve.specs.declared.stages.Left.{Left}
 use Rattle.gateway_serve.specs.declared.stages.Left.TheVariants as Is
 use Rattle.gateway_serve.specs.declared.places.Place.{Place}
 use Rattle.gateway_serve.specs.declared.places.Place.TheVariants.{Free, Open}
-use Rattle.gateway_serve.specs.declared.places.Turned.{Turned}
-use Rattle.gateway_serve.specs.declared.places.Turned.TheVariants as Came
 
 -- a read or write failed, and that is the latest call
 pub failed_lost : (left : Left) (latest : Latest) (kind : ErrorKind) → latest ≡ Was.Failed kind
@@ -55,7 +53,7 @@ lost_by {S} mid new left (Is.Lost gone) I same ends is = elim is [
 -- so its socket ended for that reason, at a time that the clock showed
 pub lost_reason : {S : Type 0} (times : List Duration) (n : ℕ) (l : Link S) (tick : Tick) (gone : Gone)
     → IsAmong tick.now times → IsLostBy l tick gone
-    → HasReason times (current n l.socket l.spell (Why.Lost gone)) (Why.Lost gone)
+    → HasReason times (current n l.socket (Why.Lost gone)) (Why.Lost gone)
 lost_reason times n l tick gone among (inl ends) = inl ends
 lost_reason times n l tick gone among (inr late) = inr (rw late.0 (late.1, refl, refl, among))
 
@@ -84,7 +82,7 @@ all_with_time now times (s ∷ ended) all =
 one_ended : {S : Type 0} (before : List Seen) (n : ℕ) (p : Place S) (ended : List Seen) → EndedOnce before n ended
     → EndedOnce before (n + 1) (with_place n Over p ended)
 one_ended before n Free ended is = free n ended is
-one_ended before n (Open l) ended is = one_more (current n l.socket l.spell Over) ended refl is
+one_ended before n (Open l) ended is = one_more (current n l.socket Over) ended refl is
 
 pub ended_once : {S : Type 0} (before : List Seen) (n : ℕ) (p : Place S) (ended ended' : List Seen)
     → ended' ≡ with_place n Over p ended → EndedOnce before n ended → EndedOnce before (n + 1) ended'

@@ -18,13 +18,16 @@ stream_of s = s.stream
 abbrev pub latest_of : {S : Type 0} → Socket S → Latest
 latest_of s = s.latest
 
+abbrev pub spell_of : {S : Type 0} → Socket S → Spell
+spell_of s = s.spell
+
 -- what is seen of it, where it served the connection with this number and ended for this reason
-abbrev pub current : {S : Type 0} → ℕ → Socket S → Spell → Reason → Seen
-current n s spell reason = record {
+abbrev pub current : {S : Type 0} → ℕ → Socket S → Reason → Seen
+current n s reason = record {
   conn = n;
   came = s.came;
   went = s.went;
   latest = latest_of s;
-  spell = spell;
+  spell = spell_of s;
   reason = reason;
 }

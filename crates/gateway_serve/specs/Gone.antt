@@ -27,6 +27,17 @@ abbrev pub after_write : Result ℕ Error → Latest
 after_write (Ok n) = Was.Written n
 after_write (Err e) = Was.Failed (error_kind e)
 
+-- and its times: it was opened, and something last came or went
+abbrev pub opened_at : Duration → Spell
+opened_at now = record { opened = now; moved = now }
+
+abbrev pub moved_at : Duration → Spell → Spell
+moved_at now spell = record { opened = spell.opened; moved = now }
+
+abbrev pub moved_by : Result ℕ Error → Duration → Spell → Spell
+moved_by (Ok n) now spell = moved_at now spell
+moved_by (Err e) now spell = spell
+
 -- THE REASONS by what the latest call of the stream answered: a read gave nothing, a read or write failed, or a write
 -- took nothing. That a connection's time is over is none of the stream's
 abbrev pub EndsBy : Gone → Latest → Type 0

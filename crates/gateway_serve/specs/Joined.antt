@@ -157,7 +157,7 @@ IsNew {S} p = (l : Link S) × (p ≡ Open l) × (joint_of l ≡ nothing_yet)
 
 -- the sockets, with that of a link that ends for this reason
 abbrev pub with_link : {S : Type 0} → ℕ → Reason → Link S → List Seen → List Seen
-with_link n reason l ended = current n l.socket l.spell reason ∷ ended
+with_link n reason l ended = current n l.socket reason ∷ ended
 
 abbrev pub with_place : {S : Type 0} → ℕ → Reason → Place S → List Seen → List Seen
 with_place n reason Free ended = ended

@@ -18,7 +18,7 @@ if_between Body moved = None
 if_between Reply moved = None
 
 abbrev pub link_between_since : {S : Type 0} → Link S → Option Duration
-link_between_since l = if_between (at_of l) l.spell.moved
+link_between_since l = if_between (at_of l) l.socket.spell.moved
 
 abbrev pub between_since : {S : Type 0} → Place S → Option Duration
 between_since Free = None

@@ -18,10 +18,10 @@ use Rattle.std.specs.declared.time.Duration.{Duration}
 
 -- when a link was opened, and when something last came or went
 abbrev pub opened_of : {S : Type 0} → Link S → Duration
-opened_of l = l.spell.opened
+opened_of l = l.socket.spell.opened
 
 abbrev pub moved_of : {S : Type 0} → Link S → Duration
-moved_of l = l.spell.moved
+moved_of l = l.socket.spell.moved
 
 -- how a link is at the time of a turn
 abbrev pub begun_by : Option Request → Duration → Duration

@@ -1,5 +1,5 @@
 -- What serving measures of a request.
-use Rattle.std.specs.Prelude.{◌≡◌, ◌+◌, ◌/◌, ◌&&◌, ℕ, min, nat_le, Bool, true, false, if◌then◌else◌, Option, Some, None}
+use Rattle.std.specs.Prelude.{◌+◌, ◌/◌, ◌&&◌, ℕ, min, nat_le, Bool, true, false, if◌then◌else◌, Option, Some, None}
 use Rattle.std.specs.declared.time.Duration.{Duration}
 use Rattle.tus_session.specs.declared.at.At as session
 use Rattle.tus_session.specs.declared.at.At.TheVariants as at

@@ -3,7 +3,10 @@ use Rattle.std.specs.Prelude.{ℕ, List, [], ◌∷◌, ◌++◌, length, Option
 use Rattle.std.specs.Io.KnownBytes.{Consumes, Appends, Keeps}
 use Rattle.gateway_serve.specs.declared.sockets.Seen.{Seen}
 use Rattle.std.specs.declared.io.ErrorKind.{ErrorKind}
-use Rattle.gateway_serve.specs.Bytes.{bytes_come, went_of, stream_of, latest_of}
+use Rattle.std.specs.declared.time.Duration.{Duration}
+use Rattle.gateway_serve.specs.Bytes.{bytes_come, went_of, stream_of, latest_of, spell_of}
+use Rattle.gateway_serve.specs.Gone.{opened_at, moved_at}
+use Rattle.gateway_serve.specs.declared.sockets.Spell.{Spell}
 use Rattle.gateway_serve.specs.declared.sockets.Latest.{Latest}
 use Rattle.gateway_serve.specs.declared.sockets.Latest.TheVariants as Was
 use Rattle.gateway_serve.specs.declared.sockets.Socket.{Socket}
@@ -13,28 +16,30 @@ use Rattle.gateway_serve.specs.declared.places.Place.TheVariants.{Free, Open}
 
 -- THE STREAM was accepted so, and is so now. Since then it was read and written and nothing else: the reads gave all
 -- these bytes, and the writes took all those, each in order. What it has left and what it holds are as it gives them.
--- The latest of these calls answered so: it gave or took so many bytes, or failed
+-- The latest of these calls answered so: it gave or took so many bytes, or failed. It was opened then, and something
+-- last came or went then
 pub data Carried {S : Type 0} (remaining contents : S → Option (List ℕ)) (accepted : S)
-    : S → List ℕ → List ℕ → Latest → Type 0 where
-  untouched : Carried remaining contents accepted accepted [] [] Was.None
-  read : (s s' : S) (came went bytes : List ℕ) (before : Latest)
-      → Carried remaining contents accepted s came went before
+    : S → List ℕ → List ℕ → Latest → Spell → Type 0 where
+  untouched : (now : Duration) → Carried remaining contents accepted accepted [] [] Was.None (opened_at now)
+  read : (s s' : S) (came went bytes : List ℕ) (before : Latest) (spell : Spell) (now : Duration)
+      → Carried remaining contents accepted s came went before spell
       → Consumes (remaining s) (remaining s') bytes
-      → Carried remaining contents accepted s' (came ++ bytes) went (Was.Read (length bytes))
-  not_read : (s s' : S) (came went : List ℕ) (before : Latest) (kind : ErrorKind)
-      → Carried remaining contents accepted s came went before → Keeps (remaining s) (remaining s')
-      → Carried remaining contents accepted s' came went (Was.Failed kind)
-  written : (s s' : S) (came went bytes : List ℕ) (before : Latest)
-      → Carried remaining contents accepted s came went before → Appends (contents s) (contents s') bytes
-      → Carried remaining contents accepted s' came (went ++ bytes) (Was.Written (length bytes))
-  not_written : (s s' : S) (came went : List ℕ) (before : Latest) (kind : ErrorKind)
-      → Carried remaining contents accepted s came went before → Keeps (contents s) (contents s')
-      → Carried remaining contents accepted s' came went (Was.Failed kind)
+      → Carried remaining contents accepted s' (came ++ bytes) went (Was.Read (length bytes)) (moved_at now spell)
+  not_read : (s s' : S) (came went : List ℕ) (before : Latest) (spell : Spell) (kind : ErrorKind)
+      → Carried remaining contents accepted s came went before spell → Keeps (remaining s) (remaining s')
+      → Carried remaining contents accepted s' came went (Was.Failed kind) spell
+  written : (s s' : S) (came went bytes : List ℕ) (before : Latest) (spell : Spell) (now : Duration)
+      → Carried remaining contents accepted s came went before spell → Appends (contents s) (contents s') bytes
+      → Carried remaining contents accepted s' came (went ++ bytes) (Was.Written (length bytes)) (moved_at now spell)
+  not_written : (s s' : S) (came went : List ℕ) (before : Latest) (spell : Spell) (kind : ErrorKind)
+      → Carried remaining contents accepted s came went before spell → Keeps (contents s) (contents s')
+      → Carried remaining contents accepted s' came went (Was.Failed kind) spell
 
 module _ {S : Type 0} (remaining contents : S → Option (List ℕ)) where
   -- a socket has the stream that was accepted, of which its bytes came, and to which its bytes went
   abbrev pub IsOf : S → Socket S → Type 0
-  IsOf accepted s = Carried remaining contents accepted (stream_of s) (bytes_come s) (went_of s) (latest_of s)
+  IsOf accepted s =
+      Carried remaining contents accepted (stream_of s) (bytes_come s) (went_of s) (latest_of s) (spell_of s)
 
   -- and it still does
   abbrev pub StaysOf : Socket S → Socket S → Type 0
@@ -52,6 +57,7 @@ module _ {S : Type 0} (remaining contents : S → Option (List ℕ)) where
   -- A SOCKET THAT ENDED had a stream that was accepted
   abbrev pub Had : Seen → Type 0
   Had s = (accepted : S) × (gone : S) × Carried remaining contents accepted gone s.came.items s.went.items s.latest
+      s.spell
 
   -- each of them had its own
   abbrev pub AllHad : List Seen → Type 0

@@ -7,8 +7,8 @@ ghost use Rattle.upload_rules.specs.Answers.{Limits, Quiet, Counts};
 ghost use Rattle.tus_session.specs.History.{State, Came, More};
 ghost use Rattle.tus_session.specs.Connections.{GivesFor, Falls, mark_of};
 ghost use Rattle.tus_session.specs.Images.{shown_by};
-ghost use Rattle.gateway_serve.specs.Bytes.{bytes_come, went_of, stream_of, latest_of};
-ghost use Rattle.gateway_serve.specs.Gone.{after_read, after_write};
+ghost use Rattle.gateway_serve.specs.Bytes.{bytes_come, went_of, stream_of, latest_of, spell_of};
+ghost use Rattle.gateway_serve.specs.Gone.{after_read, after_write, moved_by};
 ghost use Rattle.gateway_serve.specs.Waiting.{FewWait, HasRoom};
 ghost use Rattle.gateway_serve.specs.declared.buffers.TheConstants.{PIECE};
 
@@ -16,6 +16,7 @@ use crate::sockets::Socket;
 use std::alloc::Global;
 use std::io::{self, Read, Write};
 use std::marker::Model;
+use std::time::Duration;
 use tus_session::{Answer, Connections, SessionError};
 
 /// The most bytes that are read at once.
@@ -64,8 +65,12 @@ impl Input {
         &self.bytes[self.taken..self.end]
     }
 
-    /// Reads the next bytes, in place of those that were read before: how many. None are read at the socket's end.
-    pub(crate) fn read<S: Read + Write>(&mut self, socket: &mut Socket<S>) -> io::Result<usize>
+    /// Reads now the next bytes, in place of those that were read before: how many. None are read at the socket's end.
+    pub(crate) fn read<S: Read + Write>(
+        &mut self,
+        socket: &mut Socket<S>,
+        now: Duration,
+    ) -> io::Result<usize>
         ensures count { IfOk result (λ n. length self.new ≡ n) }
         ensures few { length self.new ≤ PIECE }
         ensures came { IfOk result (λ n. bytes_come socket.new ≡ bytes_come socket.old ++ self.new) }
@@ -73,6 +78,7 @@ impl Input {
         ensures same { OnErr result (bytes_come socket.new ≡ bytes_come socket.old) }
         ensures none { OnErr result (self.new ≡ []) }
         ensures latest { latest_of socket.new ≡ after_read result }
+        ensures spell { spell_of socket.new ≡ moved_by result now (spell_of socket.old) }
         ensures bytes { IfOk result (λ n.
             Consumes (S.remaining (stream_of socket.old)) (S.remaining (stream_of socket.new)) self.new) }
         ensures end { IfOk result (λ n. n ≡ 0 → IsAtEnd (S.remaining (stream_of socket.new))) }
@@ -80,7 +86,7 @@ impl Input {
     {
         self.taken = 0;
         self.end = 0;
-        match socket.read(&mut self.bytes) {
+        match socket.read(&mut self.bytes, now) {
             Ok(count) => {
                 self.end = count;
                 Ok(count)
@@ -143,8 +149,12 @@ impl Output {
         self.left().len() < MOST_WAITING
     }
 
-    /// Writes a prefix part of what is left: how many bytes.
-    pub(crate) fn write<S: Read + Write>(&mut self, socket: &mut Socket<S>) -> io::Result<usize>
+    /// Writes now a prefix part of what is left: how many bytes.
+    pub(crate) fn write<S: Read + Write>(
+        &mut self,
+        socket: &mut Socket<S>,
+        now: Duration,
+    ) -> io::Result<usize>
         ensures count { IfOk result (λ n. length (take n self.old) ≡ n) }
         ensures rest { IfOk result (λ n. self.new ≡ drop n self.old) }
         ensures went { IfOk result (λ n. went_of socket.new ≡ went_of socket.old ++ take n self.old) }
@@ -152,11 +162,12 @@ impl Output {
         ensures none { OnErr result (went_of socket.new ≡ went_of socket.old) }
         ensures same { OnErr result (self.new ≡ self.old) }
         ensures latest { latest_of socket.new ≡ after_write result }
+        ensures spell { spell_of socket.new ≡ moved_by result now (spell_of socket.old) }
         ensures bytes { IfOk result (λ n.
             Appends (S.contents (stream_of socket.old)) (S.contents (stream_of socket.new)) (take n self.old)) }
         ensures err { OnErr result (Keeps (S.contents (stream_of socket.old)) (S.contents (stream_of socket.new))) }
     {
-        match socket.write(&self.bytes[self.written..]) {
+        match socket.write(&self.bytes[self.written..], now) {
             Ok(count) => {
                 self.written += count;
                 if self.written == self.bytes.len() {

@@ -6,12 +6,12 @@ ghost use Rattle.gateway_serve.specs.Joined.{Goes, IsOver, MayWrite, WritesPiece
 ghost use Rattle.gateway_serve.specs.Joined.{nothing_yet, with_link};
 ghost use Rattle.gateway_serve.specs.Joined.{at_of};
 ghost use Rattle.gateway_serve.specs.Waiting.{FewWait, HasRoom};
-ghost use Rattle.gateway_serve.specs.Bytes.{stream_of, latest_of};
+ghost use Rattle.gateway_serve.specs.Bytes.{stream_of, latest_of, spell_of};
 ghost use Rattle.gateway_serve.specs.Streams.{StaysOf, socket_of};
-ghost use Rattle.gateway_serve.specs.Gone.{EndsBy, IfLost};
+ghost use Rattle.gateway_serve.specs.Gone.{EndsBy, IfLost, opened_at};
 ghost use Rattle.gateway_serve.specs.declared.sockets.Latest.{Latest};
 ghost use Rattle.gateway_serve.specs.Longest.{link_between_since};
-ghost use Rattle.gateway_serve.specs.Reasons.{IsOutOfTime, IsLostBy, moved_of, opened_of, stay_of};
+ghost use Rattle.gateway_serve.specs.Reasons.{IsOutOfTime, IsLostBy, stay_of};
 ghost use Rattle.gateway_serve.specs.Requests.{measured_by};
 ghost use Rattle.gateway_serve.specs.Stays as stays;
 
@@ -19,7 +19,7 @@ use crate::buffers::{Input, Output, PIECE};
 use crate::idle::{Pace, Tick, is_long};
 use crate::reasons::{Gone, Reason};
 use crate::requests::{Part, Request, request_after};
-use crate::sockets::{Seen, Socket, Spell, Untouched};
+use crate::sockets::{Seen, Socket, Untouched};
 use crate::stages::{Left, Stage, left_after, next_after};
 use crate::stays::{At, Stay};
 use common::{DiskFault, Trace};
@@ -35,7 +35,6 @@ pub(crate) struct Link<S> {
     input: Input,
     output: Output,
     stage: Stage,
-    spell: Spell,
     /// the request of which a part comes
     request: Option<Request>,
     pace: Pace,
@@ -48,7 +47,7 @@ impl<S> Link<S> {
         ensures waiting { FewWait self.output }
     {
         let _few = self.output.left();
-        let (seen, stream) = self.socket.ended(conn, self.spell, reason);
+        let (seen, stream) = self.socket.ended(conn, reason);
         *ended = ended.and(&seen);
         stream
     }
@@ -60,18 +59,13 @@ impl<S: Read + Write> Link<S> {
         ensures stream { stream_of (socket_of result) ≡ accepted }
         ensures latest { latest_of (socket_of result) ≡ Latest.None }
         ensures none { joint_of result ≡ nothing_yet }
-        ensures opened { opened_of result ≡ now }
-        ensures moved { moved_of result ≡ now }
+        ensures spell { spell_of (socket_of result) ≡ opened_at now }
     {
         Link {
-            socket: accepted.into_socket(),
+            socket: accepted.into_socket(now),
             input: Input::new(),
             output: Output::new(alloc),
             stage: Stage::Taking,
-            spell: Spell {
-                opened: now,
-                moved: now,
-            },
             request: None,
             pace: Pace::new(now),
         }
@@ -82,7 +76,7 @@ impl<S: Read + Write> Link<S> {
         ensures { result ≡ link_between_since self.now }
     {
         match self.at() {
-            At::Between => Some(self.spell.moved),
+            At::Between => Some(self.socket.spell().moved),
             At::Head | At::Body | At::Reply => None,
         }
     }
@@ -126,7 +120,7 @@ impl<S: Read + Write> Link<S> {
     {
         let moved = !matches!(left, Left::Idle);
         self.pace.asked(moved, tick.now);
-        let stay = self.stay_after(moved, tick);
+        let stay = self.stay(tick);
         if may_be_late(left, stay.at) && stay.is_over() {
             return Left::Lost(Gone::Late(stay));
         }
@@ -134,31 +128,20 @@ impl<S: Read + Write> Link<S> {
         left
     }
 
-    // How it is at the time of a turn in which something came or went, or not.
-    fn stay_after(&mut self, moved: bool, tick: Tick) -> Stay
-        ensures stay { result ≡ stay_of self.new tick }
-        ensures socket { socket_of self.new ≡ socket_of self.old }
-        ensures same { joint_of self.new ≡ joint_of self.old }
-    {
-        if moved {
-            self.spell.moved = tick.now;
-        }
-        self.stay(tick)
-    }
-
     // How it is at the time of a turn.
     fn stay(&self, tick: Tick) -> Stay
         ensures { result ≡ stay_of self.now tick }
     {
+        let spell = self.socket.spell();
         let request = self
             .request
-            .unwrap_or(Request::new(Part::Head, self.spell.moved));
+            .unwrap_or(Request::new(Part::Head, spell.moved));
         Stay {
             at: self.at(),
             wanted: tick.wanted,
             longest: tick.longest,
-            opened: self.spell.opened,
-            moved: self.spell.moved,
+            opened: spell.opened,
+            moved: spell.moved,
             begun: request.begun,
             since: request.since,
             brought: request.brought,
@@ -206,7 +189,7 @@ impl<S: Read + Write> Link<S> {
         ensures counts { Counts (IsErr result) (C.failures gateway.old) (C.failures gateway.new) }
     {
         if !self.output.left().is_empty() {
-            return Ok(self.write());
+            return Ok(self.write(now));
         }
         match self.stage {
             Stage::Closed => Ok(Left::Closed),
@@ -216,14 +199,14 @@ impl<S: Read + Write> Link<S> {
     }
 
     // Writes of what is left as much as the socket takes.
-    #[tactic(auto, using(crate::proofs::Carries::written_stays, crate::proofs::Lost::failed_lost))]
-    fn write(&mut self) -> Left
+    #[tactic(auto, using(crate::proofs::Lost::failed_lost))]
+    fn write(&mut self, now: Duration) -> Left
         ensures lost { IfLost result (λ gone. EndsBy gone (latest_of (socket_of self.new))) }
         ensures stream { StaysOf S.remaining S.contents (socket_of self.old) (socket_of self.new) }
         ensures part { WritesPiece (joint_of self.old) (joint_of self.new) }
         ensures unclosed { result ≢ Left.Closed }
     {
-        match self.output.write(&mut self.socket) {
+        match self.output.write(&mut self.socket, now) {
             Ok(0) => Left::Lost(Gone::Stuck),
             Ok(_) => Left::Open,
             Err(error) => left_after(&error),
@@ -263,7 +246,7 @@ impl<S: Read + Write> Link<S> {
         ensures counts { Counts (IsErr result) (C.failures gateway.old) (C.failures gateway.new) }
     {
         match self.take_in(clock, gateway, conn, now) {
-            Ok(left) => Ok(self.write_given(left)),
+            Ok(left) => Ok(self.write_given(left, now)),
             Err(fault) => Err(fault),
         }
     }
@@ -282,7 +265,7 @@ impl<S: Read + Write> Link<S> {
         ensures unclosed { result ≢ Ok Left.Closed }
         ensures counts { Counts (IsErr result) (C.failures gateway.old) (C.failures gateway.new) }
     {
-        if let Some(left) = self.read() {
+        if let Some(left) = self.read(now) {
             return Ok(left);
         }
         match self.give(clock, gateway, conn, now) {
@@ -292,7 +275,7 @@ impl<S: Read + Write> Link<S> {
     }
 
     // Writes of what the session gave as much as the socket takes, unless the turn left the connection otherwise.
-    fn write_given(&mut self, left: Left) -> Left
+    fn write_given(&mut self, left: Left, now: Duration) -> Left
         ensures lost { IfLost left (λ gone. EndsBy gone (latest_of (socket_of self.old)))
             → IfLost result (λ gone. EndsBy gone (latest_of (socket_of self.new))) }
         ensures stream { StaysOf S.remaining S.contents (socket_of self.old) (socket_of self.new) }
@@ -302,7 +285,7 @@ impl<S: Read + Write> Link<S> {
         if !matches!(left, Left::Open) || self.output.left().is_empty() {
             return left;
         }
-        match self.write() {
+        match self.write(now) {
             // Bytes were given to the session.
             Left::Idle => Left::Open,
             after => after,
@@ -311,8 +294,8 @@ impl<S: Read + Write> Link<S> {
 
     // Reads what the socket has now, where the session took all that was read before. Where there is nothing to give:
     // what that leaves of the connection.
-    #[tactic(auto, using(crate::proofs::Carries::read_stays, crate::proofs::Lost::failed_lost))]
-    fn read(&mut self) -> Option<Left>
+    #[tactic(auto, using(crate::proofs::Lost::failed_lost))]
+    fn read(&mut self, now: Duration) -> Option<Left>
         ensures lost { IfSome result (λ left. IfLost left (λ gone. EndsBy gone (latest_of (socket_of self.new)))) }
         ensures stream { StaysOf S.remaining S.contents (socket_of self.old) (socket_of self.new) }
         ensures part { ReadsPiece (joint_of self.old) (joint_of self.new) }
@@ -321,7 +304,7 @@ impl<S: Read + Write> Link<S> {
         if !self.input.left().is_empty() {
             return None;
         }
-        match self.input.read(&mut self.socket) {
+        match self.input.read(&mut self.socket, now) {
             Ok(0) => Some(Left::Lost(Gone::Ended)),
             Ok(_) => None,
             Err(error) => Some(left_after(&error)),

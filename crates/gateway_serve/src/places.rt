@@ -42,7 +42,6 @@ pub(crate) enum Turned {
 
 impl<S: Read + Write + Drop> Place<S> {
     /// A connection that was opened now for a socket.
-    #[tactic(auto, using(crate::proofs::Carries::new_is_of))]
     pub(crate) fn open(alloc: Global, accepted: Untouched<S>, now: Duration) -> Self
         ensures stream { PlaceIsOf S.remaining S.contents accepted result }
         ensures none { IsNew result }

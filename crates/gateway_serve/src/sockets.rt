@@ -23,127 +23,6 @@ pub enum Latest {
     Failed(ErrorKind),
 }
 
-/// A stream whose bytes are seen.
-#[derive(Drop)]
-pub(crate) struct Socket<S> {
-    stream: S,
-    came: Trace<u8>,
-    went: Trace<u8>,
-    latest: Latest,
-}
-
-// A stream of which nothing is known but that it is one: so nothing is read of it or written to it.
-impl<S> Socket<S> {
-    ghost use Rattle.gateway_serve.specs.Bytes.{bytes_come, went_of, stream_of, latest_of};
-
-    /// Nothing came, and nothing went.
-    pub(crate) fn new(stream: S) -> Self
-        ensures stream { stream_of result ≡ stream }
-        ensures came { bytes_come result ≡ [] }
-        ensures went { went_of result ≡ [] }
-        ensures latest { latest_of result ≡ Latest.None }
-    {
-        Socket {
-            stream,
-            came: Trace::new(),
-            went: Trace::new(),
-            latest: Latest::None,
-        }
-    }
-}
-
-impl<S: Read + Write> Socket<S> {
-    ghost use Rattle.gateway_serve.specs.Bytes.{bytes_come, went_of, stream_of, latest_of};
-    ghost use Rattle.gateway_serve.specs.Gone.{after_read, after_write};
-
-    /// Reads into the prefix of `buf`: how many bytes.
-    pub(crate) fn read(&mut self, buf: &mut [u8]) -> io::Result<usize>
-        ensures bound { ReadsAtMost result buf.new }
-        ensures came { IfOk result (λ n. bytes_come self.new ≡ bytes_come self.old ++ take n buf.new) }
-        ensures none { OnErr result (bytes_come self.new ≡ bytes_come self.old) }
-        ensures went { went_of self.new ≡ went_of self.old }
-        ensures latest { latest_of self.new ≡ after_read result }
-        ensures bytes { ReadConsumes (S.remaining (stream_of self.old)) (S.remaining (stream_of self.new)) result
-            buf.new }
-    {
-        match self.stream.read(buf) {
-            Ok(count) => {
-                self.came = self.came.then(&buf[..count]);
-                self.latest = Latest::Read(count);
-                Ok(count)
-            }
-            Err(error) => {
-                self.latest = Latest::Failed(error.kind());
-                Err(error)
-            }
-        }
-    }
-
-    /// Writes a prefix part of the bytes: how many.
-    pub(crate) fn write(&mut self, bytes: &[u8]) -> io::Result<usize>
-        ensures bound { WritesAtMost result bytes.now }
-        ensures went { IfOk result (λ n. went_of self.new ≡ went_of self.old ++ take n bytes.now) }
-        ensures none { OnErr result (went_of self.new ≡ went_of self.old) }
-        ensures came { bytes_come self.new ≡ bytes_come self.old }
-        ensures latest { latest_of self.new ≡ after_write result }
-        ensures bytes { WriteAppends (S.contents (stream_of self.old)) (S.contents (stream_of self.new)) result
-            bytes.now }
-    {
-        match self.stream.write(bytes) {
-            Ok(count) => {
-                self.went = self.went.then(&bytes[..count]);
-                self.latest = Latest::Written(count);
-                Ok(count)
-            }
-            Err(error) => {
-                self.latest = Latest::Failed(error.kind());
-                Err(error)
-            }
-        }
-    }
-}
-
-/// A socket that was accepted and waits for a place: nothing was read of it, and nothing was written to it.
-#[derive(Drop)]
-pub(crate) struct Untouched<S> {
-    socket: Socket<S>,
-}
-
-impl<S> Model for Untouched<S> {
-    ghost use Rattle.std.specs.Prelude.{◌≡◌, []};
-    ghost use Rattle.gateway_serve.specs.Bytes.{bytes_come, went_of, stream_of, latest_of};
-    ghost use Rattle.gateway_serve.specs.declared.sockets.Latest.TheVariants.{None};
-
-    ghost Value = { S };
-
-    ghost view = { λ u. stream_of u.socket };
-
-    ghost invariant = { λ u. (bytes_come u.socket ≡ []) × (went_of u.socket ≡ []) × (latest_of u.socket ≡ None) };
-}
-
-impl<S> Untouched<S> {
-    ghost use Rattle.gateway_serve.specs.Bytes.{bytes_come, went_of, stream_of, latest_of};
-
-    /// A stream as it was accepted.
-    pub(crate) fn of(stream: S) -> Self
-        ensures { result ≡ stream }
-    {
-        Untouched {
-            socket: Socket::new(stream),
-        }
-    }
-
-    /// The socket, for a connection.
-    pub(crate) fn into_socket(self) -> Socket<S>
-        ensures stream { stream_of result ≡ self }
-        ensures came { bytes_come result ≡ [] }
-        ensures went { went_of result ≡ [] }
-        ensures latest { latest_of result ≡ Latest.None }
-    {
-        self.socket
-    }
-}
-
 /// The times of a connection, as its server's clock showed them.
 #[derive(Clone, Copy, Debug, PartialEq, Eq, Drop)]
 pub struct Spell {
@@ -151,6 +30,140 @@ pub struct Spell {
     pub opened: Duration,
     /// When something last came or went.
     pub moved: Duration,
+}
+
+/// A stream whose bytes are seen.
+#[derive(Drop)]
+pub(crate) struct Socket<S> {
+    stream: S,
+    came: Trace<u8>,
+    went: Trace<u8>,
+    latest: Latest,
+    spell: Spell,
+}
+
+// A stream of which nothing is known but that it is one: so nothing is read of it or written to it.
+impl<S> Socket<S> {
+    ghost use Rattle.gateway_serve.specs.Bytes.{bytes_come, went_of, stream_of, latest_of, spell_of};
+    ghost use Rattle.gateway_serve.specs.Gone.{opened_at};
+
+    /// Of a connection that was opened now. Nothing came, and nothing went.
+    fn new(stream: S, now: Duration) -> Self
+        ensures stream { stream_of result ≡ stream }
+        ensures came { bytes_come result ≡ [] }
+        ensures went { went_of result ≡ [] }
+        ensures latest { latest_of result ≡ Latest.None }
+        ensures spell { spell_of result ≡ opened_at now }
+    {
+        Socket {
+            stream,
+            came: Trace::new(),
+            went: Trace::new(),
+            latest: Latest::None,
+            spell: Spell {
+                opened: now,
+                moved: now,
+            },
+        }
+    }
+
+    /// The times of its connection.
+    pub(crate) fn spell(&self) -> Spell
+        ensures { result ≡ spell_of self.now }
+    {
+        self.spell
+    }
+}
+
+impl<S: Read + Write> Socket<S> {
+    ghost use Rattle.gateway_serve.specs.Bytes.{bytes_come, went_of, stream_of, latest_of, spell_of};
+    ghost use Rattle.gateway_serve.specs.Gone.{after_read, after_write, moved_by};
+
+    /// Reads now into the prefix of `buf`: how many bytes.
+    pub(crate) fn read(&mut self, buf: &mut [u8], now: Duration) -> io::Result<usize>
+        ensures bound { ReadsAtMost result buf.new }
+        ensures came { IfOk result (λ n. bytes_come self.new ≡ bytes_come self.old ++ take n buf.new) }
+        ensures none { OnErr result (bytes_come self.new ≡ bytes_come self.old) }
+        ensures went { went_of self.new ≡ went_of self.old }
+        ensures latest { latest_of self.new ≡ after_read result }
+        ensures spell { spell_of self.new ≡ moved_by result now (spell_of self.old) }
+        ensures bytes { ReadConsumes (S.remaining (stream_of self.old)) (S.remaining (stream_of self.new)) result
+            buf.new }
+    {
+        match self.stream.read(buf) {
+            Ok(count) => {
+                self.came = self.came.then(&buf[..count]);
+                self.latest = Latest::Read(count);
+                self.spell.moved = now;
+                Ok(count)
+            }
+            Err(error) => {
+                self.latest = Latest::Failed(error.kind());
+                Err(error)
+            }
+        }
+    }
+
+    /// Writes now a prefix part of the bytes: how many.
+    pub(crate) fn write(&mut self, bytes: &[u8], now: Duration) -> io::Result<usize>
+        ensures bound { WritesAtMost result bytes.now }
+        ensures went { IfOk result (λ n. went_of self.new ≡ went_of self.old ++ take n bytes.now) }
+        ensures none { OnErr result (went_of self.new ≡ went_of self.old) }
+        ensures came { bytes_come self.new ≡ bytes_come self.old }
+        ensures latest { latest_of self.new ≡ after_write result }
+        ensures spell { spell_of self.new ≡ moved_by result now (spell_of self.old) }
+        ensures bytes { WriteAppends (S.contents (stream_of self.old)) (S.contents (stream_of self.new)) result
+            bytes.now }
+    {
+        match self.stream.write(bytes) {
+            Ok(count) => {
+                self.went = self.went.then(&bytes[..count]);
+                self.latest = Latest::Written(count);
+                self.spell.moved = now;
+                Ok(count)
+            }
+            Err(error) => {
+                self.latest = Latest::Failed(error.kind());
+                Err(error)
+            }
+        }
+    }
+}
+
+/// A stream that was accepted and waits for a place: nothing is read of it, and nothing is written to it.
+#[derive(Drop)]
+pub(crate) struct Untouched<S> {
+    stream: S,
+}
+
+impl<S> Model for Untouched<S> {
+    ghost Value = { S };
+
+    ghost view = { λ u. u.stream };
+}
+
+impl<S> Untouched<S> {
+    ghost use Rattle.std.specs.Prelude.{◌≡◌, []};
+    ghost use Rattle.gateway_serve.specs.Bytes.{bytes_come, went_of, stream_of, latest_of, spell_of};
+    ghost use Rattle.gateway_serve.specs.Gone.{opened_at};
+
+    /// A stream as it was accepted.
+    pub(crate) fn of(stream: S) -> Self
+        ensures { result ≡ stream }
+    {
+        Untouched { stream }
+    }
+
+    /// The socket, for a connection that is opened now.
+    pub(crate) fn into_socket(self, now: Duration) -> Socket<S>
+        ensures stream { stream_of result ≡ self }
+        ensures came { bytes_come result ≡ [] }
+        ensures went { went_of result ≡ [] }
+        ensures latest { latest_of result ≡ Latest.None }
+        ensures spell { spell_of result ≡ opened_at now }
+    {
+        Socket::new(self.stream, now)
+    }
 }
 
 /// What is seen of a socket that served its connection. Only clauses read it.
@@ -175,8 +188,8 @@ impl<S> Socket<S> {
 
     /// What is seen of the socket, which served the connection with this number and ends for this reason, and its
     /// stream. No byte of the connection comes or goes over it any more.
-    pub(crate) fn ended(self, conn: usize, spell: Spell, reason: Reason) -> (Seen, S)
-        ensures seen { result.0 ≡ current conn self spell reason }
+    pub(crate) fn ended(self, conn: usize, reason: Reason) -> (Seen, S)
+        ensures seen { result.0 ≡ current conn self reason }
         ensures stream { result.1 ≡ stream_of self }
     {
         let Socket {
@@ -184,6 +197,7 @@ impl<S> Socket<S> {
             came,
             went,
             latest,
+            spell,
         } = self;
         let seen = Seen {
             conn,
