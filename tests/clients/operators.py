@@ -10,8 +10,8 @@ random bytes in every encoding; it names the label, the mode or the index file t
 a character without a code. `list` says what is free, names the texts with U+FFFD and the file names, and `--json` says
 the same as the records in the spool's bytes. `format` makes a spool of a file that isn't there or has nothing but
 zeros, and of any other that is none only with `--overwrite`; where there is no room it leaves no new file. `delete
---incomplete` prints what it would delete, and deletes exactly
-that with `--yes`. Each refusal of a command has its status, its line, and a second line that says what to do. While a
+--incomplete` prints what it would delete, and deletes exactly that with `--yes`. tools/read-spool lists a copy and
+gives its texts as the program does, and of a damaged one what is left. Each refusal of a command has its status, its line, and a second line that says what to do. While a
 gateway serves a spool each command by hand is told that it is in use, and after it is ended the spool can be had at
 once. The log's line of a minute has what is left in the spool. It takes a minute.
 """
@@ -28,7 +28,7 @@ import time
 from pathlib import Path
 
 from growths import patch, post
-from harness import ENCODINGS, Server, Wrong, holds, parser_of, random_bytes, rng_of, same
+from harness import ENCODINGS, ROOT, Server, Wrong, holds, parser_of, random_bytes, rng_of, same
 from spools import Spool
 
 BLOCKS = 64
@@ -223,6 +223,35 @@ def try_lists(program):
     return len(records)
 
 
+def reads(status, *words):
+    """What tools/read-spool prints, and what it says of it."""
+    ran = subprocess.run([ROOT / "tools/read-spool", *map(str, words)], capture_output=True, timeout=60)
+    same(f"the status of read-spool {words}, {ran.stderr!r}", ran.returncode, status)
+    return ran.stdout, ran.stderr.decode()
+
+
+def try_reader(program):
+    """tools/read-spool gives the lines and the texts that the program does; of a spool whose row is damaged what is
+    left, with zeros in the place of a lost block."""
+    copy, into = program.folder / "listed", program.folder / "read"
+    into.mkdir()
+    same("the lines", reads(0, copy)[0].decode(), program.does("list", "listed")[0].decode().lower())
+    reads(0, copy, "--into", into)
+    for record in Spool(copy.read_bytes()).records():
+        text = text_of(Spool(copy.read_bytes()), record.number)
+        same(f"the text of {record.number}", reads(0, copy, record.number)[0], text)
+        same(f"the file of {record.number}", (into / f"{record.number}.txt").read_bytes(), text)
+    spool, damaged = Spool(copy.read_bytes()), program.folder / "broken"
+    row = next(at for at, owner in zip(spool.rows_at(), spool.owners()) if owner == (4, 1))
+    damaged.write_bytes(spool.data[: row + 3] + b"\0" + spool.data[row + 4 :])
+    out, said = reads(1, damaged, 4)
+    same("what is left", out, b"x" * 4096 + bytes(4096) + b"x" * 1808)
+    holds(said, said.endswith("2 Damaged\n4: no block has ordinal 1: bytes 4096 on are zeros\n"))
+    damaged.write_bytes(bytes(4096) + spool.data[4096:])
+    holds("nothing is found without the first page", "first page" in reads(1, damaged)[1])
+    return 3
+
+
 def try_deletions(program):
     """`delete --incomplete` deletes what it printed, and nothing before `--yes`."""
     program.made("deleted", *script_of_uploads())
@@ -384,6 +413,7 @@ def main():
             "folders of index files": try_indexes(program, rng),
             "texts": try_texts(program, rng),
             "uploads listed": try_lists(program),
+            "copies read": try_reader(program),
             "uploads deleted": try_deletions(program),
             "refusals": try_refusals(program),
             "files that format is given": try_formats(program),
