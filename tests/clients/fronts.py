@@ -24,12 +24,13 @@ from pathlib import Path
 import browser
 from harness import OCTETS, TUS, Client, format_spool, holds, indexes_in, memory, parser_of
 from harness import curl, fields, random_sample, rng_of, same
-from proxies import FRONT, NGINX, PORTS, Caddy, Instance, Nginx, has, lines_for
+from proxies import FRONT, LABELLED, NGINX, PORTS, Caddy, Instance, Nginx, has, lines_for
 
 PAGES = 8090
 # The page's origin that nginx is told, and one that it isn't: both are the same server.
 NAMED, OTHER = f"http://127.0.0.1:{PAGES}", f"http://localhost:{PAGES}"
 USER, PASSWORD = "archive", "a word"
+LABEL = {"Upload-Metadata": LABELLED}
 ORIGIN = "access-control-allow-origin"
 # More than the gateway has places.
 SENDERS = 20
@@ -86,7 +87,7 @@ def by_preflight():
     holds("its headers are allowed", {"content-type", "tus-resumable", "upload-offset"} <= set(allowed))
     holds("another origin isn't", ORIGIN not in asks_before(url, OTHER)[1])
     same("OPTIONS that is no preflight", reply_of("OPTIONS", url, {"Origin": NAMED})[1]["tus-version"], "1.0.0")
-    for wanted, headers in ((201, {"Upload-Length": 0}), (400, {})):
+    for wanted, headers in ((201, {"Upload-Length": 0, **LABEL}), (400, LABEL)):
         status, lines = reply_of("POST", url, {**TUS, **headers, "Origin": NAMED})
         same("a POST's status and origin", (status, lines.get(ORIGIN)), (wanted, NAMED))
         shown = lines["access-control-expose-headers"].split(", ")
@@ -196,6 +197,9 @@ def for_browsers(rng, folder):
         hidden = {**TUS, "X-HTTP-Method-Override": "DELETE"}
         same("the status of a DELETE by its other name", client.status("POST", path, hidden), 405)
         same("the text", client.ask(200, "GET", path, ALONG)[1], sample.text)
+        for metadata in ({}, {"Upload-Metadata": "filename ZnJvbQ==,fromage YQ=="}):
+            unlabelled = client.status("POST", "/files", {**TUS, **metadata, "Upload-Length": "1"})
+            same(f"the status of a POST with {metadata}", unlabelled, 400)
         same("the status of a piece that is too large", status_of_piece(path, PIECE), 413)
         samples = [random_sample(rng, "utf-8") for _ in range(SENDERS)]
         same("whether another is served beside slow ones, and what is kept", slow_senders(samples), (True, 0))
@@ -228,7 +232,7 @@ def for_groups(rng, folder):
     try:
         for group, other in ("ab", "ba"):
             of_group(random_sample(rng, "koi8-r"), group, other)
-        same("the status of a group that isn't there", Client(FRONT).status("POST", "/c/files", TUS), 404)
+        same("the status of a group that isn't there", Client(FRONT).status("POST", "/c/files", {**TUS, **LABEL}), 404)
     finally:
         nginx.stop()
     print("for groups: with a group's password uploads go to its own gateway; they are read and deleted there alone")
@@ -240,6 +244,7 @@ def of_group(sample, group, other):
     made = {**TUS, "Upload-Length": length, "Upload-Metadata": sample.metadata()}
     for who in ({}, knows(other)):
         same("the status without its password", client.status("POST", f"/{group}/files", {**made, **who}), 401)
+    same("the status without a label", client.status("POST", f"/{group}/files", {**TUS, **knows(group)}), 400)
     path = client.ask(201, "POST", f"/{group}/files", {**made, **knows(group)})[0]["Location"]
     holds(f"{path} is of {group}", path.startswith(f"/{group}/files/"))
     client.ask(204, "PATCH", path, {**OCTETS, **knows(group), "Upload-Offset": "0"}, sample.data)

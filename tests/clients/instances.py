@@ -14,7 +14,7 @@ from pathlib import Path
 
 from harness import ENCODINGS, TUS, Client, format_spool, has_tuspy, header, holds, indexes_in, memory, parser_of
 from harness import curl, fields, random_sample, rng_of, same
-from proxies import FRONT, PORTS, Instance, Nginx, instance_of, lines_for
+from proxies import FRONT, LABELLED, PORTS, Instance, Nginx, instance_of, lines_for
 
 UPLOADS = 42
 BY_TUSPY = 8
@@ -51,7 +51,7 @@ def all_there(sent, but=None):
 
 def location_names_no_host(names):
     """Behind another name and port `Location` is a path still."""
-    headers = {**TUS, "Upload-Length": "0", "Host": "texts.example.org:444"}
+    headers = {**TUS, "Upload-Length": "0", "Upload-Metadata": LABELLED, "Host": "texts.example.org:444"}
     reply = curl("-i", "-X", "POST", *fields(headers), f"http://127.0.0.1:{FRONT}/files").decode()
     place = header(reply.replace("\r", ""), "Location")
     holds(f"Location: {place}", place.startswith("/") and instance_of(place) in names)

@@ -13,6 +13,8 @@ from harness import EVER, ROOT, Server, holds, same
 NGINX = ROOT / "packaging/nginx"
 CADDY = ROOT / "packaging/caddy/Caddyfile"
 FRONT = 8080
+# Metadata with a label, utf-8.
+LABELLED = "filename YQ==,from dXRmLTg="
 PORTS = {"a": 8081, "b": 8082, "c": 8083, "d": 8084}
 
 
