@@ -2,7 +2,7 @@
 
 usage: fronts.py [--program PATH] [--indexes DIR] [--seed N]
 
-The ports 8080, 8081, 8082 and 8090 have to be free. With packaging/nginx/wovelatsa-cors.conf a page of an origin that
+The ports 8081, 8082, 8088 and 8090 have to be free. With packaging/nginx/wovelatsa-cors.conf a page of an origin that
 it names uploads in two pieces, by curl's preflight and by chromium where it is there, and one of another origin can't.
 `proxy_request_buffering off` keeps what came of a cut body, and slow senders take the gateway's places; with `on` it is
 the other way about. Behind wovelatsa-browsers.conf an endpoint may end with a slash, and what a browser sends along

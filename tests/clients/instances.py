@@ -2,10 +2,10 @@
 
 usage: instances.py [--program PATH] [--indexes DIR] [--seed N]
 
-The ports 8080 to 8084 have to be free. Uploads go to any gateway and are found again under its name, in pieces and by
-tuspy where it is there; `Location` is right behind another name and port; one gateway is ended hard, the others go on,
-and it comes back with all that was acknowledged; one is filled, so that it refuses new uploads, and taken out, and its
-own stay reachable.
+The ports 8081 to 8084 and 8088 have to be free. Uploads go to any gateway and are found again under its name, in pieces
+and by tuspy where it is there; `Location` is right behind another name and port; one gateway is ended hard, the others
+go on, and it comes back with all that was acknowledged; one is filled, so that it refuses new uploads, and taken out,
+and its own stay reachable.
 """
 
 import io

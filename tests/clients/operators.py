@@ -11,9 +11,10 @@ a character without a code. `list` says what is free, names the texts with U+FFF
 the same as the records in the spool's bytes. `format` makes a spool of a file that isn't there or has nothing but
 zeros, and of any other that is none only with `--overwrite`; where there is no room it leaves no new file. `delete
 --incomplete` prints what it would delete, and deletes exactly that with `--yes`. tools/read-spool lists a copy and
-gives its texts as the program does, and of a damaged one what is left. Each refusal of a command has its status, its line, and a second line that says what to do. While a
-gateway serves a spool each command by hand is told that it is in use, and after it is ended the spool can be had at
-once. The log's line of a minute has what is left in the spool. It takes a minute.
+gives its texts as the program does, and of a damaged one what is left. Each refusal of a command has its status, its
+line, and a second line that says what to do. While a gateway serves a spool each command by hand is told that it is in
+use, and after it is ended the spool can be had at once. The log's line of a minute has what is left in the spool. It
+takes a minute.
 """
 
 import json

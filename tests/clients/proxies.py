@@ -12,7 +12,7 @@ from harness import EVER, ROOT, Server, holds, same
 
 NGINX = ROOT / "packaging/nginx"
 CADDY = ROOT / "packaging/caddy/Caddyfile"
-FRONT = 8080
+FRONT = 8088
 # Metadata with a label, utf-8.
 LABELLED = "filename YQ==,from dXRmLTg="
 PORTS = {"a": 8081, "b": 8082, "c": 8083, "d": 8084}
@@ -28,7 +28,7 @@ class Instance(Server):
 
 
 class Nginx:
-    """nginx in a folder of its own, with these lines."""
+    """nginx in a folder of its own, with these lines. Its logs are there too."""
 
     def __init__(self, folder, lines):
         self.folder = Path(folder)
@@ -39,7 +39,7 @@ class Nginx:
         paths = "".join(f"{it}_temp_path {folder}/{it};\n" for it in kinds)
         head = f"pid {folder}/pid;\nerror_log {folder}/error.log;\nevents {{}}\n"
         self.write("nginx.conf", f"{head}http {{\naccess_log off;\n{paths}include {folder}/lines.conf;\n}}\n")
-        self.write("lines.conf", lines)
+        self.write("lines.conf", lines.replace("/var/log/nginx", str(folder)))
         self.run()
         wait_for(FRONT)
 
