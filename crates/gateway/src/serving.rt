@@ -52,8 +52,10 @@ pub(crate) fn serve_file<'a>(
     let Outcome {
         gateway,
         clients,
+        door: _,
+        times: _,
+        ended: _,
         served,
-        ..
     } = serve_on(rt, alloc, &mut acceptor, gateway, connections, turns);
     // If standard error can't be written, the count isn't reported.
     drop(report_served(&mut rt.stderr(), clients.opened));
@@ -275,8 +277,11 @@ where
     for _ in 0..u64::MAX {
         let Outcome {
             gateway: next,
+            clients: _,
+            door: _,
+            times: _,
+            ended: _,
             served,
-            ..
         } = serve_on(rt, alloc, acceptor, gateway, u64::MAX, u64::MAX);
         gateway = next;
         if served.is_err() {

@@ -178,7 +178,9 @@ pub(crate) fn served(
         gateway,
         served,
         clients,
-        ..
+        door: _,
+        times: _,
+        ended: _,
     } = serve_on(
         clock,
         alloc,

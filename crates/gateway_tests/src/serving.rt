@@ -97,7 +97,10 @@ fn served<R: Abort + Clock, D: Disk + Drop>(
     let Outcome {
         gateway,
         served,
-        ..
+        clients: _,
+        door: _,
+        times: _,
+        ended: _,
     } = serve_on(rt, alloc, &mut acceptor, gateway, connections, 1000);
     (gateway.into_disk(), served.is_ok())
 }
