@@ -1,5 +1,6 @@
 """Gateways at ports of their own, and the proxies before them, with the lines of packaging/."""
 
+import getpass
 import os
 import shutil
 import signal
@@ -37,7 +38,9 @@ class Nginx:
             self.write(f"snippets/{it}", (NGINX / it).read_text())
         kinds = ("client_body", "proxy", "fastcgi", "uwsgi", "scgi")
         paths = "".join(f"{it}_temp_path {folder}/{it};\n" for it in kinds)
-        head = f"pid {folder}/pid;\nerror_log {folder}/error.log;\nevents {{}}\n"
+        # Its workers read password files in a folder of this user's.
+        user = f"user {getpass.getuser()};\n" if os.geteuid() == 0 else ""
+        head = f"{user}pid {folder}/pid;\nerror_log {folder}/error.log;\nevents {{}}\n"
         self.write("nginx.conf", f"{head}http {{\naccess_log off;\n{paths}include {folder}/lines.conf;\n}}\n")
         self.write("lines.conf", lines.replace("/var/log/nginx", str(folder)))
         self.run()
