@@ -3,8 +3,10 @@
 usage: logs.py [--program PATH] [--indexes DIR] [--seed N] [--short]
 
 Clients hide the length of a body from the log (behind blanks, in a line that is longer than the log stores, behind a
-second field), and send requests in it: the log has a line for each reply and no other. Then sixteen clients read a text
-slowly while one more waits: lines, and unless it is to be short the line of a minute, are in the log a moment later.
+second field), and send requests in it: the log has a line for each reply and no other. The line of a body that is cut
+says how far its upload is, and that of a client which waited for its place how long it did. The log's file is copied
+and cut, as logrotate does with `copytruncate`, and goes on from its beginning. Then sixteen clients read a text slowly
+while one more waits: lines, and unless it is to be short the line of a minute, are in the log a moment later.
 """
 
 import re
@@ -32,7 +34,7 @@ class Logged:
         self.process = subprocess.Popen(
             [program, "up", str(spool), "--listen", "127.0.0.1:0", "--log"],
             stdout=subprocess.PIPE,
-            stderr=open(log, "wb"),
+            stderr=open(log, "ab"),
             text=True,
         )
         self.port = int(re.search(r":(\d+)\s*$", self.process.stdout.readline()).group(1))
@@ -94,6 +96,47 @@ def forges(gateway):
     raw.close()
     time.sleep(MOST_LATE)
     same("the lines of these", told(gateway.lines(), since), wanted)
+    return offset
+
+
+def cuts(gateway, offset):
+    """A body that is cut after five bytes of eleven."""
+    since, raw = len(gateway.lines()), connected(gateway.port)
+    headers = {**OCTETS, "Upload-Offset": str(offset), "Content-Length": "11"}
+    raw.sendall(request("PATCH", "/files/1", headers) + b"abcde")
+    time.sleep(0.2)
+    raw.close()
+    time.sleep(MOST_LATE)
+    ends = [line.split(" ms=")[1].partition(" ")[2] for line in gateway.lines()[since:] if "status=none" in line]
+    same("the end of the line of a cut body", ends, [f"now={offset + 5}/100000"])
+
+
+def waits_long(gateway):
+    """A client that waits until sixteen heads have been slow for two seconds."""
+    slow = [connected(gateway.port) for _ in range(PLACES)]
+    for it in slow:
+        it.sendall(b"GET /files/1 HT")
+    time.sleep(0.5)
+    raw, began = connected(gateway.port), time.monotonic()
+    same("HEAD after a wait", asked(raw, request("HEAD", "/files/1", TUS)), "200")
+    took = 1000 * (time.monotonic() - began)
+    for it in (raw, *slow):
+        it.close()
+    time.sleep(MOST_LATE)
+    told = [int(found[1]) for found in map(re.compile(r".* HEAD .* wait=(\d+)").match, gateway.lines()) if found]
+    holds(f"waits of {told} ms, where a client saw {took:.0f} ms", len(told) == 1 and took - 500 <= told[0] <= took)
+
+
+def rotates(gateway):
+    """The log's file is copied and cut."""
+    copy = gateway.log.with_suffix(".1")
+    copy.write_bytes(gateway.log.read_bytes())
+    gateway.log.write_bytes(b"")
+    raw = connected(gateway.port)
+    same("OPTIONS", asked(raw, request("OPTIONS", "/files", {})), "204")
+    raw.close()
+    time.sleep(MOST_LATE)
+    same("the lines then", [" OPTIONS /files status=204 " in line for line in gateway.lines()], [True])
 
 
 def fills(gateway, short):
@@ -146,11 +189,14 @@ def main():
         format_spool(words.program, spool, 16_384, indexes_in(folder, words.indexes))
         gateway = Logged(words.program, spool, Path(folder, "log"))
         try:
-            forges(gateway)
+            cuts(gateway, forges(gateway))
+            waits_long(gateway)
+            rotates(gateway)
             late = fills(gateway, words.short)
         finally:
             gateway.end()
-    print(f"{len(HIDES)} bodies with requests in them: no line too many; full, a line came after {late:.1f} s")
+    print(f"{len(HIDES)} bodies with requests in them: no line too many; a cut body, a wait and a cut file told; full, a")
+    print(f"line came after {late:.1f} s")
 
 
 if __name__ == "__main__":
