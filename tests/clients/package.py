@@ -29,6 +29,7 @@ from roots import PATIENCE, SETTINGS, UNITS, Debian, Gateway
 # The version that the older package is given; the newer one has its own.
 OLD = "1.0.0"
 PROGRAM = "/usr/bin/gateway"
+READER = "/usr/share/wovelatsa/tools/read-spool"
 HOME = "/var/lib/wovelatsa"
 DOCUMENTS = "/usr/share/doc/wovelatsa"
 ENABLED = "/etc/systemd/system/multi-user.target.wants"
@@ -43,7 +44,7 @@ READ, SCRIPTS = ("conffiles", "control", "md5sums"), ("postinst", "postrm", "pre
 RUNNING = "Type Environment EnvironmentFile ExecStart SyslogIdentifier Restart RestartSec".split()
 RUNNING += ["RestartPreventExitStatus"]
 # What tools/package reads of the repository.
-READ_BY_IT = "README.md crates.txt docs packaging tools".split()
+READ_BY_IT = "CONTRIBUTING.md README.md crates.txt docs indexes packaging tests tools".split()
 AUTHOR = ["-c", "user.name=Nobody", "-c", "user.email=nobody@example.org"]
 # Installs, and says then whose processes there are: where no other is, of which nothing is asked.
 INSTALLING = "dpkg --install /root/package.deb >&2 && stat --format %U /proc/[0-9]*"
@@ -146,7 +147,7 @@ def taken():
 
 def mode_of(place):
     """The mode that a place of the package has to have."""
-    return "drwxr-xr-x" if place.endswith("/") else "-rwxr-xr-x" if place == PROGRAM else "-rw-r--r--"
+    return "drwxr-xr-x" if place.endswith("/") else "-rwxr-xr-x" if place in (PROGRAM, READER) else "-rw-r--r--"
 
 
 def contents(deb, program, folder):
