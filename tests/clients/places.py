@@ -113,9 +113,15 @@ class Busy:
 
     def __init__(self, port, paths):
         self.port, self.over = port, threading.Event()
+        self.answered = threading.Semaphore(0)
         self.threads = [threading.Thread(target=self.send, args=(path,), daemon=True) for path in paths]
         for it in self.threads:
             it.start()
+
+    def settle(self):
+        """Waits until each has a place: before that, a new client waits for those that came before it, too."""
+        for _ in self.threads:
+            holds("a busy client has a reply", self.answered.acquire(timeout=60))
 
     def send(self, path):
         raw = socket.create_connection(("127.0.0.1", self.port), timeout=90)
@@ -132,6 +138,8 @@ class Busy:
 
     def read(self, raw):
         try:
+            raw.recv(65_536)
+            self.answered.release()
             while raw.recv(65_536):
                 pass
         except OSError:
@@ -178,7 +186,7 @@ def beside_busy(words, folder, indexes):
             paths = [client.create(Sample("utf-8", b"a" * 1_000_000, b"")) for _ in range(count)]
             client.close()
             busy = Busy(server.port, paths)
-            time.sleep(1)
+            busy.settle()
             waits[count, millis] = longest_wait(server.port, paths[0], words.seconds)
             busy.leave()
         finally:
