@@ -29,7 +29,7 @@ COUNTS = {
     "streams.py": [],
     "closes.py": ["--trials", "10", "--short"],
     "exports.py": [],
-    "operators.py": ["--indexes", str(HERE.parent.parent / "bench")],
+    "operators.py": ["--indexes", str(HERE.parent.parent / "indexes")],
 }
 
 # What stands for the right program and does nothing wrong.

@@ -213,7 +213,7 @@ def try_format(images, indexes, before):
     spool.unlink(missing_ok=True)
     if before is not None:
         spool.write_bytes(before)
-    words = ["format", "--blocks", BLOCKS, "--indexes", indexes]
+    words = ["format", "--blocks", BLOCKS, "--indexes", indexes, *(["--overwrite"] if before else [])]
     ran, calls = Log(images.folder, spool).run(images.program, *words)
     same("format: its status", ran.returncode, 0)
     whole = spool.read_bytes()
