@@ -64,7 +64,7 @@ WANTED = [
     ("the folder not synced", "syncs.py", "format:"),
     ("data alone synced", "syncs.py", "format:"),
     ("no library reaches it", "power.py", "the changes acknowledged"),
-    ("no sync", "power.py", "changes were acknowledged, not"),
+    ("no sync", "power.py", "changes were acknowledged, not|the spool isn.t whole, and it was told"),
     ("the journal not synced", "power.py", "an opening ends with status 2|the uploads|the text of"),
     ("the open gate not synced", "power.py", "an opening ends with status 2|the uploads|the text of"),
     ("the closed gate not synced", "power.py", "an opening ends with status 2|the uploads|the text of"),
