@@ -195,8 +195,8 @@ def main():
             late = fills(gateway, words.short)
         finally:
             gateway.end()
-    print(f"{len(HIDES)} bodies with requests in them: no line too many; a cut body, a wait and a cut file told; full, a")
-    print(f"line came after {late:.1f} s")
+    print(f"{len(HIDES)} bodies with requests in them: no line too many; a cut body, a wait and a cut file told;")
+    print(f"full, a line came after {late:.1f} s")
 
 
 if __name__ == "__main__":
