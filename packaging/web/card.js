@@ -21,6 +21,7 @@ export class Card {
         Object.assign(this, { page, file, upload, made: null, form: null, running: null, quarter: 0 });
         const { element, parts } = made("card");
         Object.assign(this, { element, parts });
+        element.setAttribute("aria-label", this.name);
         parts.title.textContent = this.name;
         parts.about.textContent = texts.about(file?.size ?? upload.size, file?.lastModified ?? upload.time);
         parts.progress.setAttribute("aria-label", texts.progressOf(this.name));
@@ -32,7 +33,7 @@ export class Card {
     }
 
     listen() {
-        const { form, pause, leave, anew, again, wrong } = this.parts;
+        const { form, pause, leave, quit, anew, again, wrong } = this.parts;
         form.onsubmit = (event) => {
             event.preventDefault();
             this.start();
@@ -42,8 +43,9 @@ export class Card {
         anew.onclick = () => this.startAnew();
         wrong.onclick = () => this.startAnew();
         again.onclick = () => this.page.choose();
-        leave.onclick = () => this.leave();
-        this.parts["leave-end"].onclick = () => this.leave();
+        for (const it of [leave, quit, this.parts["leave-end"]]) {
+            it.onclick = () => this.leave();
+        }
     }
 
     focus() {
@@ -61,7 +63,7 @@ export class Card {
     has(file) {
         const { file: own, upload } = this;
         const known = own ? { file: own.name, size: own.size, time: own.lastModified } : upload;
-        return !upload?.done && isFileOf(known, file);
+        return known && !upload?.done && isFileOf(known, file);
     }
 
     show(part) {
@@ -72,14 +74,13 @@ export class Card {
 
     /** Shows what stands, and which buttons there are. */
     tell(text, ...buttons) {
-        const { pause, again, anew } = this.parts;
         this.show("course");
         put(this.parts.state, text);
         this.parts.look.hidden = true;
-        pause.hidden = !buttons.includes("pause");
-        this.parts["go-on"].hidden = !buttons.includes("go-on");
-        again.hidden = !buttons.includes("again");
-        put(anew, buttons.includes("giveUp") ? texts.giveUp : buttons.includes("begin") ? texts.begin : "");
+        for (const it of ["pause", "go-on", "again", "quit"]) {
+            this.parts[it].hidden = !buttons.includes(it);
+        }
+        put(this.parts.anew, buttons.includes("giveUp") ? texts.giveUp : buttons.includes("begin") ? texts.begin : "");
     }
 
     alert(text) {
@@ -96,9 +97,10 @@ export class Card {
     async look(notice) {
         this.tell(texts.reading);
         this.parts.progress.hidden = true;
+        put(this.parts["course-label"]);
         this.alert(this.file.size > LARGEST ? texts.tooLarge : notice);
         if (this.file.size > LARGEST) {
-            return this.tell("");
+            return this.tell("", "quit");
         }
         try {
             const sample = await sampleOf(this.file);
@@ -108,7 +110,7 @@ export class Card {
             this.page.says(texts.saysChoices(this.name, choices.length));
         } catch (error) {
             this.alert(error instanceof DOMException ? texts.unreadable : String(error));
-            this.tell("", "begin");
+            this.tell("", "quit");
         }
     }
 
@@ -157,7 +159,7 @@ export class Card {
     async under(does) {
         this.running = new AbortController();
         this.alert("");
-        this.parts["course-label"].textContent = texts.begun(this.made?.from ?? this.upload.from, this.stores);
+        put(this.parts["course-label"], texts.begun(this.made?.from ?? this.upload.from, this.stores));
         this.showProgress();
         const { signal } = this.running;
         try {
@@ -214,10 +216,13 @@ export class Card {
             return this.says(texts.paused(offset, size));
         }
         this.alert(whyOf(error));
-        const gone = error instanceof Another || error instanceof Unreadable || [8, 10, 34].includes(error.number);
-        const ends = gone || ENDING.includes(error.number);
-        this.tell(texts.stopped(offset, size), ends ? "" : "go-on", this.upload && !gone ? "giveUp" : "begin");
-        this.gone = gone && !(error instanceof Unreadable);
+        this.gone = isGone(error);
+        if (error instanceof Unreadable) {
+            this.file = null;
+            return this.tell(texts.stopped(offset, size), "again", "giveUp");
+        }
+        const ends = ENDING.includes(error.number) || this.gone;
+        this.tell(texts.stopped(offset, size), ends ? "" : "go-on", this.upload && !this.gone ? "giveUp" : "begin");
     }
 
     remember() {
@@ -230,7 +235,7 @@ export class Card {
 
     /** Asks how far a remembered upload is. */
     async ask() {
-        this.parts["course-label"].textContent = texts.begun(this.upload.from, this.upload.to);
+        put(this.parts["course-label"], texts.begun(this.upload.from, this.upload.to));
         this.tell(texts.asking);
         if (this.upload.done) {
             return this.showEnd();
@@ -256,12 +261,14 @@ export class Card {
             return this.waitForFile(texts.unasked);
         }
         this.alert(whyOf(error));
-        this.gone = error.number === 8 || error instanceof Another;
+        this.gone = isGone(error);
         return this.tell("", "again", this.gone ? "begin" : "giveUp");
     }
 
     waitForFile(text) {
-        this.tell(text, "again", "giveUp");
+        if (!this.file) {
+            this.tell(text, "again", "giveUp");
+        }
     }
 
     /** Takes the file of a remembered upload: its lines are shown once more before it is gone on with. */
@@ -277,7 +284,7 @@ export class Card {
             return this.alert(texts.unreadable);
         }
         this.alert("");
-        this.tell(this.parts.state.textContent, "go-on", "giveUp");
+        this.tell(texts.stopped(this.upload.offset, this.upload.size), "go-on", "giveUp");
         this.parts.anew.textContent = texts.otherLabel;
         showLines(this.parts.looked, this.lines);
         this.parts.look.hidden = false;
@@ -300,7 +307,8 @@ export class Card {
             Object.assign(this, { upload: null, quarter: 0, gone: false });
         }
         if (!this.file) {
-            return this.page.leaves(this);
+            this.alert(notice);
+            return notice ? this.tell("", "quit") : this.page.leaves(this);
         }
         await this.look(notice);
         return this.focus();
@@ -356,6 +364,11 @@ export class Card {
         const references = to === "UTF-8" || counts.references === 0 ? "" : texts.references(counts.references);
         return `${texts.lostAtEnd(counts.lost, counts.chars)} ${references}`;
     }
+}
+
+/** Whether an upload can't be there any more. */
+function isGone(error) {
+    return error instanceof Another || error.number === 8;
 }
 
 function isForbidden(status) {

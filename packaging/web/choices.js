@@ -81,7 +81,7 @@ export class Choices {
     }
 
     noteOf() {
-        const controls = Math.min(...this.choices.map((it) => controlsOf(it.text)));
+        const controls = controlsOf(this.choices[0].text);
         const notes = [this.isWhole ? "" : texts.sampleOnly, controls > 0 ? texts.binary(controls) : ""];
         return notes.filter((it) => it !== "").join(" ");
     }

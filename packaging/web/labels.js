@@ -71,6 +71,7 @@ export function rank(bytes, { start = true, end = true } = {}) {
     }
     for (const choice of choices) {
         Object.assign(choice, measured(choice.text));
+        choice.strangeness -= isFaultyUtf8(choice) ? LOST * choice.lost : 0;
         choice.names.sort((one, other) => preference(one) - preference(other));
     }
     return choices.sort(before);
@@ -80,6 +81,11 @@ function before(one, other) {
     const [name, otherName] = [one.names[0], other.names[0]];
     return one.strangeness - other.strangeness || one.foreign - other.foreign
         || preference(name) - preference(otherName);
+}
+
+/** Whether it is UTF-8 with fewer faults than characters of several bytes, which no other encoding has by chance. */
+function isFaultyUtf8({ names, text, lost }) {
+    return names[0] === "UTF-8" && (text.match(/[^\0-\x7f\ufffd]/gu) ?? []).length > lost;
 }
 
 /** Of names that give the same text so far, those of Windows first: more of their codes have a character. */

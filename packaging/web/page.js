@@ -2,7 +2,7 @@
 
 import { Card } from "./card.js";
 import { fill } from "./dom.js";
-import { hasChanged, remembered } from "./store.js";
+import { hasChanged, isFileOf, remembered } from "./store.js";
 import { texts } from "./texts.js";
 
 const cards = [];
@@ -52,15 +52,24 @@ function take(file) {
         return known.file ? known : (known.take(file), known);
     }
     const card = new Card(page, file, null);
-    const before = cards.find((it) => it.upload && !it.upload.done && hasChanged(it.upload, file));
+    const notice = noticeOf(file);
     add(card, true);
-    card.look(before ? texts.changed(before.upload.begun) : "");
+    card.look(notice);
     return card;
 }
 
+/** What is to be known of a file that was sent before, or changed since a part of it was. */
+function noticeOf(file) {
+    const uploads = cards.map((it) => it.upload).filter((it) => it);
+    const done = uploads.find((it) => it.done && isFileOf(it, file));
+    const old = uploads.find((it) => !it.done && hasChanged(it, file));
+    return done ? texts.already(done.begun) : old ? texts.changed(old.begun) : "";
+}
+
 function takeAll(chosen) {
-    const taken = Array.from(chosen, take);
-    taken[0]?.focus();
+    // Each new card goes to the top, and so the last file first.
+    const taken = Array.from(chosen).reverse().map(take);
+    taken.at(-1)?.focus();
 }
 
 files.addEventListener("change", () => {

@@ -3,8 +3,8 @@
 const SAMPLE = 1 << 20;
 // How many lines a preview has: the first ones, and then those that have more than ASCII.
 const FIRST = 3;
-const TELLING = 9;
-const COLUMNS = 160;
+const TELLING = 6;
+const COLUMNS = 120;
 const RUNS = /\ufffd+|[\0-\x08\x0b-\x1f\x7f-\x9f\u202a-\u202e\u2066-\u2069\ufeff]+/g;
 
 /** The first MiB of a file that has more than plain ASCII, or its first one: which label is right shows only there. */

@@ -56,21 +56,22 @@ export const texts = {
     fewer: "Fewer ways to read it",
     more: (many) => `Show ${count(many, "other way", "other ways")} to read it`,
     sampleOnly: "The file is long: one MiB of it was looked at, the first that isn’t plain ASCII.",
-    noCount: "Between encodings of one byte a wrong choice makes other letters and loses nothing that can be counted. " +
-        "Only reading shows it.",
-    binary: (many) => `There are ${count(many, "control character", "control characters")} in it (\\x00 and the like), ` +
+    noCount: "Between encodings of one byte a wrong choice makes other letters and loses nothing that can be " +
+        "counted. Only reading shows it.",
+    binary: (many) => `There are ${count(many, "control character", "control characters")} in it (\\x00 and such), ` +
         "so perhaps it is no text. Documents of word processors and PDF files have to be saved as plain text first.",
     tooLarge: "The file has more than 1 GiB, the most that the server takes. Cut it behind a line feed and send the " +
         "parts one by one.",
     changed: (begun) => `An upload of a file of this name was begun ${dates.format(begun)}, and the file has changed ` +
         "since. That upload isn’t continued; this would be a new one.",
+    already: (begun) => `This file was uploaded already, ${dates.format(begun)}. This would be another upload.`,
 
     // How it is stored.
     settings: "How it is stored",
     label: "Send it as",
     to: "Encoding of the stored text",
     mode: "Characters that this encoding lacks",
-    html: "are written as references (&#NUMBER;)",
+    html: "become references (&#…;)",
     fatal: "stop the upload",
     name: "Name of the text",
     lacks: (many, to, whole) => {
@@ -107,8 +108,9 @@ export const texts = {
 
     // The end.
     reads: "Reading the stored text …",
-    complete: "Uploaded. Now read the stored text, before the original goes.",
-    taken: "Uploaded, and taken out: the server has passed the text on and deleted it here.",
+    complete: "Uploaded. Read the stored text before you delete the original.",
+    taken: "Uploaded to the last byte, and gone from the server since: whoever takes texts out has it. Ask there " +
+        "before you delete the original.",
     stored: "The first telling lines of the stored text",
     previewed: "The lines as they were chosen",
     lostAtEnd: (lost, chars) => `The stored text has ${count(chars, "character", "characters")}, ` +
@@ -132,18 +134,19 @@ export const texts = {
     // Why something stopped, and what to do: by the gateway's number (X-Refusal), or else by the status.
     lostLine: `The line or the server was lost. ${goOn}`,
     another: `Under its number the server now has another upload, so this one is gone. ${anew}`,
-    changedFile: `The file has changed or can’t be read any more. ${anew}`,
+    changedFile: "The file has changed or can’t be read any more. If it is the same, choose it again to go on. If " +
+        "not, give this upload up and choose the file anew.",
     unknown: (status, number_) => `The server refused (status ${status}, number ${number_}). Tell who runs it.`,
     refusals: {
-        6: "The text has a character that the chosen encoding of the stored text lacks. What came before that piece is " +
-            "stored. Press “Give up”, and choose UTF-8 or references.",
+        6: "The text has a character that the chosen encoding of the stored text lacks. What came before that piece " +
+            "is stored. Press “Give up”, and choose UTF-8 or references.",
         8: `The upload is gone: it was deleted on the server. ${anew}`,
         9: `Somebody else sends the same upload, in another window perhaps. Close that one. ${goOn}`,
-        10: `The file is longer than was announced, so it has changed. ${anew}`,
-        11: `The server has no place for one more upload, since texts weren’t taken out yet. Wait some minutes, or ask ` +
-            `who runs it. ${goOn}`,
+        10: "The file is longer than was announced, so it has changed. Give this upload up and choose the file anew.",
+        11: "The server has no place for one more upload, since texts weren’t taken out yet. Wait some minutes, or " +
+            `ask who runs it. ${goOn}`,
         12: "The file has more than 1 GiB. Cut it behind a line feed and send the parts one by one.",
-        17: `The server’s disk space for texts is used up. What is stored stays. Wait until texts were taken out, or ` +
+        17: "The server’s disk space for texts is used up. What is stored stays. Wait until texts were taken out, or " +
             `ask who runs it. ${goOn}`,
         18: "The server couldn’t read the request: something between here and there changes it. Tell who runs it.",
         19: "The request was too long for the server: perhaps too many cookies. Tell who runs it.",
@@ -156,11 +159,13 @@ export const texts = {
         26: "The server found a number missing or wrong in the request. Tell who runs it.",
         27: "The server couldn’t read the name or the labels. Press “Choose anew” and give it another, shorter name.",
         28: "The server doesn’t have this encoding. Press “Choose anew” and choose another one, or ask who runs it.",
-        34: `The server knows another length of this upload, so the file has changed. ${anew}`,
+        34: "The server knows another length of this upload, so the file has changed. Give this upload up and choose " +
+            "the file anew.",
     },
     statuses: {
-        0: `The server sends this page elsewhere: perhaps you have to sign in again. Reload the page after that. ${goOn}`,
-        401: `The server asks who you are. Reload the page and sign in. ${goOn}`,
+        0: "The server sends this page elsewhere: perhaps you have to sign in again. Reload the page, sign in, and " +
+            "choose the file again.",
+        401: "The server asks who you are. Reload the page, sign in, and choose the file again.",
         403: "You may not do this here. Ask who runs the server.",
         404: "There is no gateway at this address. Tell who runs the server.",
         413: "The proxy takes no pieces of this size. Tell who runs it: it has to allow 1 MB and more.",

@@ -33,9 +33,12 @@ WIDE, NARROW = (860, 900), (360, 740)
 # A line on which a piece takes half a second, in bytes a second, and how long things may take, in seconds.
 SLOW, PATIENCE = 2_000_000, 60
 RUSSIAN = "Съешь ещё этих мягких французских булок, да выпей чаю.\nШирокая электрификация южных губерний.\n"
-# What each document has before its own scripts: its faults, its cards and their parts.
+# What each document has before its own scripts: its faults, the statuses that it got, its cards and their parts.
 HELPERS = """
 window.faults = [];
+window.statuses = [];
+const asked = fetch;
+window.fetch = (...words) => asked(...words).then(it => (statuses.push(it.status), it));
 addEventListener("securitypolicyviolation", it => faults.push(it.violatedDirective + " " + it.blockedURI));
 addEventListener("error", it => faults.push(it.message));
 addEventListener("unhandledrejection", it => faults.push(String(it.reason)));
@@ -54,10 +57,11 @@ class Shown(browser.Browser):
 
     def __init__(self, folder, pictures=None):
         super().__init__(folder, URL)
-        self.pictures = pictures
+        self.pictures, self.states = pictures, 0
         for domain in ("Page", "Network", "DOM"):
             self.call(f"{domain}.enable")
         self.call("Page.addScriptToEvaluateOnNewDocument", source=HELPERS)
+        self.call("Emulation.setScrollbarsHidden", hidden=True)
         self.sized(*WIDE)
         self.load()
 
@@ -108,6 +112,11 @@ class Shown(browser.Browser):
         words = f"(it => {{ it.value = {json.dumps(value)}; it.onchange?.(); }})"
         self.value(f"{words}(part({json.dumps(name)}, '{what}'))")
 
+    def select_to(self, name, label):
+        """Selects the encoding of the stored text by its label."""
+        options = f"[...part({json.dumps(name)}, 'to').options].map(it => it.value)"
+        self.select(name, "to", next(it for it in self.value(options) if it.lower() == label))
+
     def lines(self, name, label):
         """The lines of a file under a label, as they are shown."""
         return self.value(f"choiceOf({json.dumps(name)}, '{label}').querySelector('pre').innerText")
@@ -120,8 +129,8 @@ class Shown(browser.Browser):
         self.value(f"choiceOf({words}, '{label}').querySelector('input').click()")
 
     def line(self, speed):
-        """How fast the line is, in bytes a second; 0 is as fast as it can be."""
-        words = {"offline": False, "latency": 0, "downloadThroughput": -1, "uploadThroughput": speed or -1}
+        """How fast the line is, in bytes a second; 0 is as fast as it can be, and None is no line."""
+        words = {"offline": speed is None, "latency": 0, "downloadThroughput": -1, "uploadThroughput": speed or -1}
         self.call("Network.emulateNetworkConditions", **words)
 
     def sent(self, name):
@@ -141,6 +150,7 @@ class Shown(browser.Browser):
 
     def picture(self, state):
         """Looks at a state in a wide and a narrow window: nothing is wider than the window."""
+        self.states += 1
         for kind, size in (("wide", WIDE), ("narrow", NARROW)):
             self.sized(*size)
             width = self.value("document.scrollingElement.scrollWidth")
@@ -216,17 +226,31 @@ def each_encoding(place):
         shown.choose(place.file(name, sample.data))
         shown.pick(name, sample.label)
         if sample.to != "utf-8":
-            output = shown.value(f"[...part('{name}', 'to').options].find(it => it.value.toLowerCase() === '{label}').value")
-            shown.select(name, "to", output)
+            shown.select_to(name, label)
         shown.press(name, "send")
         place.stored(name, sample.text)
-    text = "Grüße aus Łódź – привет"
-    for name, data, wanted in (("marked.txt", b"\xff\xfe" + text.encode("utf-16-le"), text), ("plain.txt", b"A.\n", "A.\n")):
+
+
+def few_choices(place):
+    """A byte order mark names the encoding, and ASCII alone is one choice beside both of UTF-16."""
+    shown, text = place.shown, "Grüße aus Łódź – привет"
+    marked = ("marked.txt", "utf-16le", b"\xff\xfe" + text.encode("utf-16-le"), text, 1)
+    for name, label, data, wanted, choices in (marked, ("plain.txt", "utf-8", b"A.\n", "A.\n", 3)):
         shown.choose(place.file(name, data))
-        shown.pick(name, "utf-16le" if "mark" in name else "utf-8")
-        same(f"how many choices {name} has", shown.value(f"choices('{name}').length"), 1 if "mark" in name else 3)
+        shown.pick(name, label)
+        same(f"how many choices {name} has", shown.value(f"choices('{name}').length"), choices)
         shown.press(name, "send")
         place.stored(name, wanted.encode())
+
+
+def beyond_the_sample(place):
+    """What is looked at of a long file: the first MiB that isn't ASCII, and of equal names the widest."""
+    late = "A line.\n" * 200_000 + RUSSIAN
+    euro = "Grüße, é, à.\n" * 100_000 + "5 €\n"
+    files = ("late.txt", "koi8-r", "koi8_r", late), ("euro.txt", "iso-8859-15", "cp1252", euro)
+    for name, label, codec, text in files:
+        place.begin(name, text.encode(codec), label)
+        place.stored(name, text.encode())
 
 
 def seen_beforehand(place):
@@ -301,8 +325,20 @@ def killed(place):
     place.stored("killed.txt", sample.text)
 
 
+def line_lost(place):
+    """The line is lost while a file comes, and is there again."""
+    shown, sample = place.shown, japanese(place.rng, 2_500_000)
+    shown.line(SLOW)
+    place.begin("line.txt", sample.data, "shift_jis")
+    shown.until_sent("line.txt", 0.25)
+    shown.line(None)
+    shown.says("line.txt", "state", "Trying again in")
+    shown.line(0)
+    place.stored("line.txt", sample.text)
+
+
 def reloaded(place):
-    """The page is reloaded while a file comes, and then the browser is ended: it is gone on with from what is stored."""
+    """The page is reloaded while a file comes, and then the browser is ended: it goes on from what is stored."""
     shown, sample = place.shown, japanese(place.rng, 4_000_000)
     shown.line(SLOW)
     place.begin("reloaded.txt", sample.data, "shift_jis")
@@ -322,7 +358,9 @@ def reloaded(place):
     stored = place.client.offset(place.upload("reloaded.txt"))
     holds(f"{stored} bytes are whole pieces", stored % PIECE == 0 and stored >= 2 * PIECE)
     shown.end()
+    states = shown.states
     place.shown = shown = Shown(place.folder, shown.pictures)
+    shown.states = states
     shown.says("reloaded.txt", "state", "Not finished")
     shown.choose(place.folder / "reloaded.txt")
     shown.press("reloaded.txt", "go-on")
@@ -356,6 +394,7 @@ def overtaken(place):
     place.client.patch(path, offset, piece)
     shown.line(0)
     place.stored("overtaken.txt", sample.text)
+    holds("it was refused with 409", 409 in shown.value("statuses"))
     shown.line(SLOW)
     place.begin("gone.txt", sample.data, "shift_jis")
     shown.until_sent("gone.txt", 0.25)
@@ -380,7 +419,7 @@ def taken_out(place):
     shown.value(lost + "it.last = true; localStorage[key] = JSON.stringify(it); })")
     place.client.delete(path)
     shown.load()
-    shown.says("taken.txt", "verdict", "taken out")
+    shown.says("taken.txt", "verdict", "gone from the server")
     shown.picture("taken")
     shown.leave("taken.txt")
     same("what is remembered", place.uploads(), 0)
@@ -433,7 +472,7 @@ def by_keyboard(place):
     shown.key("Tab", 9)
     same("a radio button", shown.value("document.activeElement.type"), "radio")
     shown.key(" ", 32, " ")
-    same("it is chosen", shown.value("document.activeElement.checked && namesOf(choices('keys.txt')[0])[0]"), "windows-1251")
+    same("it is chosen", shown.value("choices('keys.txt').findIndex(it => it.querySelector(':checked'))"), 0)
     shown.key("Enter", 13, "\r")
     shown.finished("keys.txt")
     shown.until("the end is said", "document.getElementById('says').textContent.includes('Uploaded')")
@@ -441,6 +480,18 @@ def by_keyboard(place):
     place.stored("keys.txt", RUSSIAN.encode())
     unnamed = "[...document.querySelectorAll('input, select')].filter(it => !it.labels.length && !it.ariaLabel).length"
     same("controls without a label", shown.value(unnamed), 0)
+
+
+def refusals(place):
+    """Each refusal of the table in PROTOCOL.md has a text, and so has each part of the page that is to be filled."""
+    table = (ROOT / "docs/PROTOCOL.md").read_text().partition("## Refusals")[2]
+    numbers = sorted(int(it) for it in re.findall(r"^\| (\d+) \|", table, re.MULTILINE))
+    texts = "import('./texts.js').then(it => Object.keys(it.texts.refusals).map(Number))"
+    same("the refusals that have a text", sorted(place.shown.value(texts)), numbers)
+    empty = "[document, ...[...document.querySelectorAll('template')].map(it => it.content)].flatMap(it =>"
+    empty += " [...it.querySelectorAll('[data-text]')].map(one => one.dataset.text))"
+    names = place.shown.value(f"import('./texts.js').then(it => {empty}.filter(one => !it.texts[one]))")
+    same("texts that aren't there", names, [])
 
 
 def forbidden(place, nginx):
@@ -460,7 +511,8 @@ def forbidden(place, nginx):
     place.texts += 1
 
 
-CASES = (each_encoding, seen_beforehand, lossy, killed, reloaded, at_once, overtaken, taken_out, full, changed, by_keyboard)
+CASES = [each_encoding, few_choices, beyond_the_sample, seen_beforehand, lossy, killed, line_lost, reloaded]
+CASES += [at_once, overtaken, taken_out, full, changed, by_keyboard, refusals]
 
 
 def run(place, nginx):
@@ -499,8 +551,9 @@ def main():
                 place.shown.close()
             nginx.stop()
             gateway.kill()
-    print(f"{place.texts} texts by the page, in 21 encodings: every one right; {len(CASES) + 1} cases, each in a wide and a")
-    print("narrow window, without a fault of the page's policy")
+    cases, states = len(CASES) + 1, place.shown.states
+    print(f"{place.texts} texts by the page, in 21 encodings: every one right; {cases} cases, {states} states, each in")
+    print("a wide and a narrow window, without a fault of the page's policy")
 
 
 if __name__ == "__main__":
