@@ -254,7 +254,7 @@ export class Card {
     }
 
     cannotAsk(error) {
-        if (error.status === 404 && this.upload.last) {
+        if (error.number === 8 && this.upload.last) {
             return this.finish("taken");
         }
         if (error instanceof Lost) {

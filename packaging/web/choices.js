@@ -74,7 +74,7 @@ export class Choices {
         if (choice.marked) {
             return `${texts.byMark} ${lost}`;
         }
-        if (this.choices[0] === choice && /^[\t\n\r\x20-\x7e]*$/.test(choice.text)) {
+        if (choice.names.includes("UTF-8") && /^[\t\n\r\x20-\x7e]*$/.test(choice.text)) {
             return `${texts.plain} ${lost}`;
         }
         return others.length === 0 ? lost : `${texts.also(others)}; ${lost}`;

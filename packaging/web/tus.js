@@ -47,7 +47,7 @@ export async function create(endpoint, size, metadata, signal, waits) {
     for (let failures = 0; ; failures += 1) {
         try {
             const reply = await ask("POST", endpoint, { headers, signal });
-            return new URL(reply.headers.get("Location"), endpoint).href;
+            return new URL(reply.headers.get("Location") ?? refuse(reply), endpoint).href;
         } catch (error) {
             if (!passes(error)) {
                 throw error;
@@ -105,7 +105,7 @@ export async function send(upload, file, signal, told) {
             offset = await sendPiece(upload, file, offset, signal, told);
             failures = 0;
         } catch (error) {
-            if (error.status === 404 && upload.last) {
+            if (error.number === 8 && upload.last) {
                 return "taken";
             }
             if (!passes(error)) {
@@ -146,7 +146,12 @@ async function sendPiece(upload, file, offset, signal, told) {
     try {
         const headers = { ...TUS, "Content-Type": "application/offset+octet-stream", "Upload-Offset": String(offset) };
         const reply = await ask("PATCH", upload.url, { headers, body, signal });
-        return Number(reply.headers.get("Upload-Offset"));
+        const reached = Number(reply.headers.get("Upload-Offset"));
+        if (reached > offset) {
+            return reached;
+        }
+        // Something on the way took the body off.
+        throw new Lost(`${reached} after ${offset}`);
     } catch (error) {
         // A refusal changes nothing, so the last byte doesn't count.
         if (error instanceof Refusal) {
@@ -191,8 +196,9 @@ async function ask(method, url, { headers = {}, body, signal }) {
     if (PASSING.includes(reply.status)) {
         throw new Lost(`status ${reply.status}`);
     }
-    if (!reply.ok) {
-        throw new Refusal(reply.status, Number(reply.headers.get("X-Refusal") ?? 0));
-    }
-    return reply;
+    return reply.ok ? reply : refuse(reply);
+}
+
+function refuse(reply) {
+    throw new Refusal(reply.status, Number(reply.headers.get("X-Refusal") ?? 0));
 }
