@@ -116,8 +116,9 @@ export class Card {
 
     /** Sends what was chosen. The browser says itself that a choice is missing. */
     start() {
-        if (this.form.made) {
-            this.made = this.form.made;
+        const made = this.form?.made;
+        if (made) {
+            Object.assign(this, { made, form: null });
             this.begin();
         }
     }

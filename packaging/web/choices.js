@@ -2,7 +2,7 @@
 // counts once its own lines are shown and somebody chose it; nothing is chosen beforehand.
 
 import { fillSelect, made, put, showLines } from "./dom.js";
-import { OUTPUTS } from "./labels.js";
+import { OUTPUTS, decoded } from "./labels.js";
 import { controlsOf, linesOf } from "./preview.js";
 import { lacking } from "./repertoire.js";
 import { texts } from "./texts.js";
@@ -23,6 +23,12 @@ export class Choices {
         parts.to.onchange = () => this.showLacking();
         parts.more.onclick = () => this.showOthers(parts.others.hidden);
         put(parts.note, this.noteOf());
+        // Many files, each with twenty texts of a MiB, would fill the memory: they are decoded again where needed.
+        choices.forEach((it) => delete it.text);
+    }
+
+    textOf(choice) {
+        return decoded(choice.names[0], this.sample.bytes, this.sample);
     }
 
     /** What is to be sent as what: null while nothing is chosen. */
@@ -33,7 +39,7 @@ export class Choices {
             to: to.value,
             mode: mode.value,
             name: name.value.trim(),
-            lines: linesOf(this.chosen.text),
+            lines: linesOf(this.textOf(this.chosen)),
         };
     }
 
@@ -102,7 +108,7 @@ export class Choices {
     showLacking() {
         const { to, lacks, moded } = this.parts;
         moded.hidden = to.value === "UTF-8";
-        const shown = this.chosen && !moded.hidden;
-        put(lacks, shown ? texts.lacks(lacking(to.value, this.chosen.text), to.value, this.isWhole) : "");
+        const many = this.chosen && !moded.hidden ? lacking(to.value, this.textOf(this.chosen)) : null;
+        put(lacks, many === null ? "" : texts.lacks(many, to.value, this.isWhole));
     }
 }
