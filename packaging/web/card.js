@@ -116,9 +116,9 @@ export class Card {
 
     /** Sends what was chosen. The browser says itself that a choice is missing. */
     start() {
-        const made = this.form?.made;
-        if (made) {
-            Object.assign(this, { made, form: null });
+        const chosen = this.form?.made;
+        if (chosen) {
+            Object.assign(this, { made: chosen, form: null });
             this.begin();
         }
     }

@@ -28,7 +28,7 @@ URL = f"http://127.0.0.1:{FRONT}/page/"
 INSTALLED = "/usr/share/wovelatsa/web/"
 # Where the sample is changed to forbid reading.
 SIZE, FORBIDS = "        client_max_body_size    8m;", "        limit_except POST PATCH HEAD OPTIONS { deny all; }\n"
-PIECE, BLOCKS = 1_000_000, 2048
+PIECE, BLOCKS, SLOTS = 1_000_000, 2048, 512
 WIDE, NARROW = (860, 900), (360, 740)
 # A line on which a piece takes half a second, in bytes a second, and how long things may take, in seconds.
 SLOW, PATIENCE = 2_000_000, 60
@@ -94,6 +94,12 @@ class Shown(browser.Browser):
         """Chooses files, as by the page's own button."""
         found = self.call("Runtime.evaluate", expression="document.getElementById('files')")["result"]["objectId"]
         self.call("DOM.setFileInputFiles", files=[str(it) for it in paths], objectId=found)
+
+    def drop(self, name, data):
+        """Drops a file onto the page."""
+        file = f"new File([Uint8Array.from({json.dumps(list(data))})], {json.dumps(name)})"
+        event = "new DragEvent('drop', {dataTransfer: data, bubbles: true, cancelable: true})"
+        self.value(f"(data => (data.items.add({file}), document.body.dispatchEvent({event})))(new DataTransfer())")
 
     def says(self, name, what, pattern):
         """Waits until a part of a file's card shows a text, and returns it."""
@@ -232,11 +238,11 @@ def each_encoding(place):
 
 
 def few_choices(place):
-    """A byte order mark names the encoding, and ASCII alone is one choice beside both of UTF-16."""
+    """A byte order mark names the encoding, and ASCII alone is one choice beside both of UTF-16. Both are dropped."""
     shown, text = place.shown, "Grüße aus Łódź – привет"
     marked = ("marked.txt", "utf-16le", b"\xff\xfe" + text.encode("utf-16-le"), text, 1)
     for name, label, data, wanted, choices in (marked, ("plain.txt", "utf-8", b"A.\n", "A.\n", 3)):
-        shown.choose(place.file(name, data))
+        shown.drop(name, data)
         shown.pick(name, label)
         same(f"how many choices {name} has", shown.value(f"choices('{name}').length"), choices)
         shown.press(name, "send")
@@ -425,8 +431,31 @@ def taken_out(place):
     same("what is remembered", place.uploads(), 0)
 
 
+def renumbered(place):
+    """Under a remembered number there is another upload of the same length: not a byte is sent to it."""
+    shown, sample = place.shown, japanese(place.rng, 2_500_000)
+    shown.line(SLOW)
+    place.begin("number.txt", sample.data, "shift_jis")
+    shown.until_sent("number.txt", 0.25)
+    shown.press("number.txt", "pause")
+    shown.says("number.txt", "state", "^Paused")
+    old, other = place.upload("number.txt"), place.client.create(sample)
+    words = f"(([key, value]) => (localStorage[key.replace('{old}', '{other}')] = value.replace('{old}', '{other}'),"
+    shown.value(words + " localStorage.removeItem(key)))(Object.entries(localStorage)[0])")
+    shown.load()
+    shown.says("number.txt", "alert", "the server now has another upload")
+    same("what the other has, and what is remembered", (place.client.offset(other), place.uploads()), (0, 1))
+    for it in (old, other):
+        place.client.delete(it)
+    shown.line(0)
+    shown.choose(place.folder / "number.txt")
+    shown.pick("number.txt", "shift_jis")
+    shown.press("number.txt", "send")
+    place.stored("number.txt", sample.text)
+
+
 def full(place):
-    """The spool is full (507): once there is room it is gone on with."""
+    """The spool is full (507), at first of texts and then of uploads: once there is room it is gone on with."""
     shown, sample = place.shown, japanese(place.rng, 3_000_000)
     filling = Sample("utf-8", b"a" * (BLOCKS - 600) * 4096, b"")
     path = place.client.create(filling)
@@ -437,6 +466,13 @@ def full(place):
     place.client.delete(path)
     shown.press("full.txt", "go-on")
     place.stored("full.txt", sample.text)
+    paths = [place.client.create(Sample("utf-8", b"a", b"")) for _ in range(SLOTS)]
+    place.begin("slots.txt", sample.data, "shift_jis")
+    shown.says("slots.txt", "alert", "no place for one more upload")
+    for it in paths:
+        place.client.delete(it)
+    shown.press("slots.txt", "go-on")
+    place.stored("slots.txt", sample.text)
 
 
 def changed(place):
@@ -460,6 +496,16 @@ def changed(place):
     shown.press("changed.txt", "anew")
     shown.until("no card", "document.querySelectorAll('article').length === 0")
     holds("the old one is deleted", place.client.is_gone(path))
+    shown.line(SLOW)
+    place.begin("moved.txt", sample.data, "shift_jis")
+    shown.until_sent("moved.txt", 0.25)
+    path = place.upload("moved.txt")
+    place.file("moved.txt", b"other")
+    shown.says("moved.txt", "alert", "has changed or can’t be read")
+    shown.press("moved.txt", "anew")
+    shown.until("no card", "document.querySelectorAll('article').length === 0")
+    holds("what was stored is deleted", place.client.is_gone(path))
+    shown.line(0)
 
 
 def by_keyboard(place):
@@ -512,7 +558,7 @@ def forbidden(place, nginx):
 
 
 CASES = [each_encoding, few_choices, beyond_the_sample, seen_beforehand, lossy, killed, line_lost, reloaded]
-CASES += [at_once, overtaken, taken_out, full, changed, by_keyboard, refusals]
+CASES += [at_once, overtaken, taken_out, renumbered, full, changed, by_keyboard, refusals]
 
 
 def run(place, nginx):
