@@ -445,7 +445,8 @@ def renumbered(place):
     shown.load()
     shown.says("number.txt", "alert", "the server now has another upload")
     same("what the other has, and what is remembered", (place.client.offset(other), place.uploads()), (0, 1))
-    asked = f"it.send({{url: '{other}', metadata: 'from eA=='}}, new Blob(['a'.repeat({len(sample.data)})]), null, {{}})"
+    blob = f"new Blob(['a'.repeat({len(sample.data)})])"
+    asked = f"it.send({{url: '{other}', metadata: 'from eA=='}}, {blob}, null, {{}})"
     words = f"import('./tus.js').then(it => {asked}).catch(error => error.constructor.name)"
     same("what tus.js says of another one", shown.value(words), "Another")
     for it in (old, other):
