@@ -293,7 +293,7 @@ def try_refusals(program):
         cases += [("refused: 15 NotASpool", "short begins as a spool, but is cut short", word, "short", *more)]
         cases += [("refused: 16 Version", "later is of another version", word, "later", *more)]
         if word != "upgrade":  # which finds first that there is nothing to do
-            cases += [("refused: 2 Damaged", "torn is damaged: go back to a copy", word, "torn", *more)]
+            cases += [("refused: 2 Damaged", "torn is damaged: go back to another copy", word, "torn", *more)]
     for refusal, advice, *words in cases:
         program.refuses(2, refusal, advice, *words)
     same("a spool that was refused", (folder / "whole").read_bytes(), whole)

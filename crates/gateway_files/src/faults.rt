@@ -38,8 +38,8 @@ pub enum Fault {
     FileDiffers,
     /// Another process has the spool's file open.
     InUse,
-    /// The spool's file can't be opened or made: it or its folder isn't there, or is a folder, rights are missing, or as
-    /// many files are open as may be.
+    /// The spool's file can't be opened or made: it or its folder isn't there, or is a folder, rights are missing, or
+    /// as many files are open as may be.
     CannotOpen,
     /// The file that is to become a spool has bytes, and is none.
     NotEmpty,

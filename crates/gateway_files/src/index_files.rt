@@ -2,17 +2,18 @@
 ghost use Rattle.std.specs.Prelude.{◌≡◌, ◌≤◌, IfErr, IfOk, OnOk, map, option_map};
 ghost use Rattle.enc_model.specs.Index.{code};
 ghost use Rattle.enc_model.specs.Indexes.{no_indexes};
+ghost use Rattle.gateway_files.specs.declared.faults.Fault.{Fault};
 ghost use Rattle.gateway_files.specs.Failures.{fault_in};
 ghost use Rattle.gateway_files.specs.Folders.{Files};
 ghost use Rattle.gateway_files.specs.IndexFiles.{IsReadFault, entries, indexes_of, named, one_of, read_as};
 ghost use Rattle.gateway_files.specs.IndexFiles.{standard_entries, with_file};
 
-use crate::advice::Task;
+use crate::advice::{Advice, Task};
 use crate::failures::Failure;
 use crate::faults::Fault;
 use crate::folders::find_folder;
 use common::Stop;
-use enc_index::{Index, IndexSet, Kind};
+use enc_index::{Index, IndexSet, Kind, ReadError};
 use enc_labels::name_of;
 use enc_model::Encoding;
 use std::alloc::Global;
@@ -241,7 +242,18 @@ fn read_into<'a, F: Readable>(
             set.set(index);
             Ok(Some(entries))
         }
-        Err(error) => Err(Failure::from(Fault::Index(name, error))),
+        Err(error) => Err(refused_index(path, name, error)),
+    }
+}
+
+// The refusal of an index file, with an advice where it isn't of the form.
+fn refused_index<'a>(path: &'a str, name: &'static str, error: ReadError) -> Failure<'a>
+    ensures { fault_in result ≡ Fault.Index name error }
+{
+    let fault = Fault::Index(name, error);
+    match error {
+        ReadError::NoMemory => Failure::from(fault),
+        _ => Failure::advised(fault, Advice::IndexFile(path, name)),
     }
 }
 

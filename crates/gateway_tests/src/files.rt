@@ -144,7 +144,8 @@ fn spool_stays_as_it_is(rt: HostRuntime) {
         alloc,
         unread,
         2,
-        "refused: 4 Range index-jis0212.txt 2",
+        "refused: 4 Range index-jis0212.txt 2\n\
+        gateway_again_test/index-jis0212.txt is damaged, or no index file: fetch it again from encoding.spec.whatwg.org",
     );
     let after = fs::read(&rt, "gateway_again_test/spool").expect(&rt, "its bytes");
     assert_eq!(rt; before.len(), 557 * 4096);
@@ -169,13 +170,14 @@ fn failure_says_what_the_system_said(rt: HostRuntime) {
     )
     .map(drop);
     let last_line = "refused: 33 Io\n\
-    cannot look into the folder no_such_folder: No such file or directory (os error 2)";
+    cannot look into the folder no_such_folder: No such file or directory (os error 2). The standard's index files \
+    are in /usr/share/wovelatsa/indexes, or encoding.spec.whatwg.org has them";
     fails(&rt, alloc, unmade, 2, last_line);
     assert!(rt; !fs::exists(&rt, "gateway_unmade_test").expect(&rt, "a folder"));
     let used = FileDisk::create(&rt, "gateway_used_test", 4).expect(&rt, "a file");
     let twice = open_spool(&rt, "gateway_used_test").map(drop);
     let last_line = "refused: 38 InUse\n\
-    gateway_used_test is in use: stop the gateway that serves it";
+    gateway_used_test is in use: stop the gateway that serves it (`fuser gateway_used_test` prints its process)";
     for ended in [
         open_spool(&rt, "gateway_used_test").map(drop),
         list_file(&rt, alloc, "gateway_used_test", false),

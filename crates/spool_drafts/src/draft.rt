@@ -73,6 +73,7 @@ impl SpoolDraft {
     ) -> Result<Self, UploadRefusal>
         requires long { upload.now.text_len ≤ PAGE * length list.now }
         requires few { length list.now ≤ MOST_BLOCKS }
+        requires state { IsState upload.now.state }
         ensures begun { (x : IndexSet) (n : ℕ) (u : Upload) → RepresentsValid x n upload.now u
             → IsBegun x n offset count declare u result }
         ensures content { (x : IndexSet) (n : ℕ) (u : Upload) (current : ℕ → ℕ) (first : ℕ)
@@ -91,16 +92,13 @@ impl SpoolDraft {
         ensures after { IfOk result (IsAfter upload.now.text_len upload.now.state) }
     {
         upload.admits(offset, count, declare)?;
-        let Some(progress) = Progress::after(alloc, upload, list) else {
-            return Err(UploadRefusal::NoSuch);
-        };
         Ok(SpoolDraft {
             number: upload.number,
             offset,
             came: 0,
             declare,
             committed_len: upload.text_len,
-            progress,
+            progress: Progress::after(alloc, upload, list),
             spare: Spare::new(alloc),
         })
     }
@@ -152,8 +150,8 @@ impl SpoolDraft {
         }
     }
 
-    /// Appends bytes to the body, without a sync. If a character is unmappable or no block is free, the draft gives its
-    /// blocks back and reserves no more; `end` then reports the reason.
+    /// Appends bytes to the body, without a sync. If a character is unmappable, the upload was complete or no block is
+    /// free, the draft gives its blocks back and reserves no more; `end` then reports the reason.
     ///
     /// # Errors
     ///
@@ -208,11 +206,12 @@ impl SpoolDraft {
         if piece.is_empty() {
             return Ok(());
         }
+        if let Progress::Complete = self.progress {
+            self.came = self.came.saturating_add(piece.len() as u64);
+            return Ok(());
+        }
         let mut added = self.spare.take(alloc);
-        let Ok(next) = self.progress.fed(indexes, piece, &mut added) else {
-            return Err(Stop::NoMemory);
-        };
-        let Some(next) = next else {
+        let Some(next) = self.progress.fed(indexes, piece, &mut added)? else {
             self.leave(Progress::Unencodable, blocks, piece.len());
             return Ok(());
         };
@@ -261,7 +260,8 @@ impl SpoolDraft {
     ///
     /// # Errors
     ///
-    /// `Unencodable`, `Full`, `NoMemory`, `DiskFault`; the draft can then only be dropped.
+    /// `Unencodable`; `TooLong` if the upload was complete; `Full`, `NoMemory`, `DiskFault`. The draft can then only be
+    /// dropped.
     #[tactic(auto, using(crate::proofs::Effects::effect_none))]
     pub fn end<D: Disk>(
         &mut self,
@@ -297,7 +297,7 @@ impl SpoolDraft {
         ensures room { (len : ℕ) (state : List ℕ) → IsAfter len state self.old → IsOk result
             → offset_of self.old + 1 < 2 ^ 64 }
         ensures refusal { (e : UploadRefusal) → IsErrOf result (UploadError.Refused e)
-            → (e ≡ UploadRefusal.Unencodable) ⊎ (e ≡ UploadRefusal.Full) }
+            → ((e ≡ UploadRefusal.Unencodable) ⊎ (e ≡ UploadRefusal.TooLong)) ⊎ (e ≡ UploadRefusal.Full) }
 
         // Nothing is written. Nothing is read either if the committed text has no unfinished block.
         ensures unread { tail_of self.old ≡ [] → disk.new ≡ disk.old }

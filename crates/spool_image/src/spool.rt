@@ -258,7 +258,7 @@ impl<D: Disk> Uploads for Spool<D> {
         Ok(SpoolAppend { number })
     }
 
-    fn append(&mut self, draft: &mut SpoolAppend, piece: &[u8]) -> Result<(), UploadError> {
+    fn append(&mut self, draft: &mut SpoolAppend, piece: &[u8]) -> Result<(), Stop> {
         append(
             self.alloc,
             &mut self.disk,

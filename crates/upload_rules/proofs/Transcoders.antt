@@ -4,10 +4,11 @@ use Rattle.std.proofs.Common.{append_assoc, append-nil, Vec, Global}
 use Rattle.enc_model.specs.Indexes.{IndexSet, tables}
 use Rattle.enc_model.specs.Encode.{Coded, led_by}
 use Rattle.enc_model.specs.Transcode.{Transcoder, fed_text, added, added_end}
-use Rattle.enc_stream.specs.TranscoderState.{TranscoderState, stepped_on, ended_state, RefusedAs}
+use Rattle.enc_stream.specs.TranscoderState.{TranscoderState, is_phase_over, stepped_on, ended_state, IsPartWritten}
 use Rattle.enc_stream.specs.StateBytes.{IsValidState, transcoder_state, state_bytes}
-use Rattle.enc_stream.specs.declared.error.TranscodeError.{TranscodeError}
-use Rattle.enc_stream.specs.declared.error.TranscodeError.TheVariants as errors
+use Rattle.enc_stream.specs.Errors.{error_of}
+use Rattle.enc_encode.specs.declared.error.EncodeError.{EncodeError}
+use Rattle.enc_encode.specs.declared.error.EncodeError.TheVariants as errors
 use Rattle.upload_rules.specs.Store.{Upload, text_from, text_with}
 use Rattle.upload_rules.specs.World.{is_there}
 use Rattle.upload_rules.specs.States.{phase_from, transcoder_with, state_with}
@@ -88,11 +89,11 @@ module _ (x : IndexSet) (u : Upload) (bytes : List ℕ) (t : TranscoderState) (h
   end_fault d h = ap is_there (ap (λ r. r.fault) represents_ended ∙ h)
 
   pub whole_open : (state old : List ℕ) → state ≡ state_bytes t.transcoder → IsValidState t.transcoder
-      → IsRest x u bytes false old → IsWholeAppend x u bytes false state old
+      → is_phase_over t.transcoder.phase ≡ false → IsRest x u bytes false old → IsWholeAppend x u bytes false state old
   unfolding state_with
-  whole_open state old is valid rest = record {
+  whole_open state old is valid open rest = record {
     state_is = is ∙ ap state_bytes still_open;
-    valid = rw still_open at valid;
+    valid = record { valid = rw still_open at valid; open = λ e. rw still_open at open };
     rest = rest;
     encodable = here.encodable;
   }
@@ -110,7 +111,7 @@ module _ (x : IndexSet) (u : Upload) (bytes : List ℕ) (t : TranscoderState) (h
   unfolding state_with
   whole_ended next state old new is packed valid rest ok grown = record {
     state_is = packed ∙ ap state_bytes (at_end next is);
-    valid = rw (at_end next is) at valid;
+    valid = record { valid = rw (at_end next is) at valid; open = λ e. cc };
     rest = (
         let start = (text_with x u [] false).bytes in
         let more = (added_end (tables x) t.transcoder).bytes in
@@ -140,6 +141,6 @@ unencodable_ended x u bytes done h =
     ap (λ b. is_there (text_with x u b done).fault) (sym (append-nil bytes)) ∙ stays_unencodable x u bytes [] done h
 
 -- why a transcoder stopped
-pub code_fault : (e : TranscodeError) (c : ℕ) (r : Coded) (old new : Vec ℕ Global) (before after : TranscoderState)
-    → e ≡ errors.Unencodable c → RefusedAs e r old new before after → r.fault ≡ Some c
-code_fault e c r old new before after is why = (rw is at why).0.reason
+pub code_fault : (e : EncodeError) (c : ℕ) (r : Coded) (old new : Vec ℕ Global) → e ≡ errors.Unencodable c
+    → IsPartWritten (error_of e) r old new → r.fault ≡ Some c
+code_fault e c r old new is why = (rw is at why).reason

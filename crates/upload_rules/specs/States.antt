@@ -7,6 +7,7 @@ use Rattle.enc_model.specs.Indexes.{IndexSet, tables}
 use Rattle.enc_model.specs.Decode.{decoded}
 use Rattle.enc_model.specs.Transcode.{Transcoder, Phase, Over, phase_of, fed_text}
 use Rattle.enc_stream.specs.StateBytes.{IsValidState, state_bytes}
+use Rattle.enc_stream.specs.TranscoderState.{is_phase_over}
 use Rattle.upload_rules.specs.Store.{Origin, Upload, is_complete, text_from}
 
 -- The phase after these bytes, which come after an origin if there is one.
@@ -43,6 +44,11 @@ state_with x u bytes done = state_bytes (transcoder_with x u bytes done)
 -- The state bytes of an upload. They are past the end exactly if it is complete.
 abbrev pub state_of : IndexSet → Upload → List ℕ
 state_of x u = state_with x u [] (is_complete u)
+
+-- The transcoder is valid, and it is past its end only if the text was ended.
+pub record IsKeptState (transcoder : Transcoder) (done : Bool) : Type 0 where
+  pub valid : IsValidState transcoder
+  pub open : done ≡ false → is_phase_over transcoder.phase ≡ false
 
 -- These are the state bytes of a valid transcoder.
 pub record IsState (state : List ℕ) : Type 0 where

@@ -1,17 +1,18 @@
 use Rattle.std.proofs.Common.{[], refl, sym, subst, ◌∙◌}
 use Rattle.upload_rules.proofs.Transcoders.{unencodable_ended}
 use Rattle.spool_drafts.specs.Progress.{IsStateAfter}
-use Rattle.spool_drafts.proofs.TranscoderStates.{after, after_open, finishes, nothing_yet, reads_after}
+use Rattle.spool_drafts.proofs.TranscoderStates.{after, after_open, finishes, nothing_yet, open_refusal, reads_after}
 use Rattle.spool_drafts.proofs.progress.Progress.ended.Goals as goal
 
 pub returns-in_default-clause-finished : goal.returns-in_default-clause-finished
-returns-in_default-clause-finished c u bytes still here =
+returns-in_default-clause-finished c u bytes still here complete =
     let x = c.args.indexes.now in
     let none = subst (IsStateAfter x u bytes) (sym c.transcoder.ensures ∙ c.in_default.is) here in
-    (refl, unencodable_ended x u bytes c.args.completes (none still))
+    (c.refusal.ensures ∙ open_refusal u c.args.self.now still complete,
+    unencodable_ended x u bytes c.args.completes (none still))
 
 pub returns-clause-finished : goal.returns-clause-finished
-returns-clause-finished c u bytes still here =
+returns-clause-finished c u bytes still here complete =
     let x = c.args.indexes.now in
     let reads = subst (IsStateAfter x u bytes) (sym c.transcoder.ensures ∙ c.in-Some.is) here in
     finishes x u bytes c.args.completes _ c.ended.ensures.refusal

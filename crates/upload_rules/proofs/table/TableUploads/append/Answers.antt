@@ -11,13 +11,10 @@ returns-in-Ok-clause-answer c = λ sure w p represents there holds held.
     let q = record p { body = p.body ++ c.args.piece.now } in
     let before = rw (sym represents.indexes) at (append_is t w represents d p there o c.in-Some.ensures.taken) in
     let after = rw (c.in-Ok.is, represents.indexes) at (c.feed-outcome.ensures.ok w.store.next p before held) in (
-      refl,
-      (
-        tt,
-        fed t w represents d p there o c.in-Some.ensures.taken c.taken.new.drafts c.put_back.new.drafts new
-            c.in-Some.ensures.after c.put_back.ensures c.args.piece.now
-            after,
-      ),
+      tt,
+      fed t w represents d p there o c.in-Some.ensures.taken c.taken.new.drafts c.put_back.new.drafts new
+          c.in-Some.ensures.after c.put_back.ensures c.args.piece.now
+          after,
     )
 
 pub returns-in-Err-clause-answer : goal.returns-in-Err-clause-answer
