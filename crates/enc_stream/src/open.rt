@@ -47,7 +47,7 @@ impl Model for OpenTranscoder {
 impl OpenTranscoder {
     /// The transcoder, or None if it takes no more bytes.
     pub fn of(transcoder: Transcoder) -> Option<Self>
-        ensures { MatchOption result (is_done transcoder ≡ true) (λ open. open ≡ transcoder) }
+        ensures { MatchOption result (is_done transcoder ≡ true) (λ t. t ≡ transcoder) }
     {
         if transcoder.is_done() {
             return None;
@@ -68,7 +68,7 @@ impl OpenTranscoder {
     pub fn pack(&self) -> [u8; 32]
         ensures bytes { result ≡ state_bytes self.now.transcoder }
         ensures valid { IsValidState self.now.transcoder }
-        ensures open { is_phase_over self.now.transcoder.phase ≡ false }
+        ensures more { is_phase_over self.now.transcoder.phase ≡ false }
     {
         self.transcoder.pack()
     }
@@ -79,12 +79,7 @@ impl OpenTranscoder {
     ///
     /// `NoMemory` if `out` had no room and could not grow; `Unencodable(c)` for the first unmappable code point in
     /// fatal mode. `out` has grown by a prefix of the text.
-    pub fn fed(
-        &self,
-        set: &IndexSet,
-        piece: &[u8],
-        out: &mut Vec<u8>,
-    ) -> Result<Self, EncodeError>
+    pub fn fed(&self, set: &IndexSet, piece: &[u8], out: &mut Vec<u8>) -> Result<Self, EncodeError>
         ensures added { OnOk result
             (out.new.items ≡ out.old.items ++ (added (tables set.now) self.now.transcoder piece.now).bytes) }
         ensures no_fault { OnOk result ((added (tables set.now) self.now.transcoder piece.now).fault ≡ None) }

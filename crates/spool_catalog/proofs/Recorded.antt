@@ -223,5 +223,5 @@ module _ (x : IndexSet) (q : SlotRecord) (shown : List ℕ) (u : Upload) (is : I
           metadata = ap (λ (p : SlotRecord). p.metadata) slot_record ∙ is.metadata;
         };
         encodable = is.encodable;
-        valid = record { valid = is.valid; open = open_still x u u.origin refl is.phase };
+        valid = record { valid = is.valid; takes_more = open_still x u u.origin refl is.phase };
       }

@@ -23,9 +23,6 @@ use Rattle.spool_drafts.specs.declared.progress.Progress.TheVariants as progress
 abbrev pub after : Upload → List ℕ → Upload
 after u bytes = record u { accepted = u.accepted ++ bytes; declared = None }
 
-pub after_open : (u : Upload) (bytes : List ℕ) → is_complete (after u bytes) ≡ false
-after_open u bytes = refl
-
 module _ (x : IndexSet) (u : Upload) (bytes : List ℕ) where
   at_nil : (u.accepted ++ bytes) ++ [] ≡ u.accepted ++ bytes
   at_nil = append-nil (u.accepted ++ bytes)

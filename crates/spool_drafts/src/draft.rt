@@ -9,7 +9,7 @@ ghost use Rattle.spool_texts.specs.Drafts.{IsReserved, GivesBack, bytes_with};
 ghost use Rattle.spool_texts.specs.TextOn.{AllBelow, text_on};
 ghost use Rattle.upload_rules.specs.Calls.{first_patch};
 ghost use Rattle.upload_rules.specs.Records.{RepresentsValid};
-ghost use Rattle.upload_rules.specs.States.{IsState};
+ghost use Rattle.upload_rules.specs.States.{IsSomeState, IsState};
 ghost use Rattle.upload_rules.specs.Store.{Upload, text_of, is_complete};
 ghost use Rattle.upload_rules.specs.World.{Patch};
 ghost use Rattle.upload_rules.specs.declared.errors.UploadRefusal.{UploadRefusal};
@@ -73,7 +73,7 @@ impl SpoolDraft {
     ) -> Result<Self, UploadRefusal>
         requires long { upload.now.text_len ≤ PAGE * length list.now }
         requires few { length list.now ≤ MOST_BLOCKS }
-        requires state { IsState upload.now.state }
+        requires state { IsSomeState upload.now.state }
         ensures begun { (x : IndexSet) (n : ℕ) (u : Upload) → RepresentsValid x n upload.now u
             → IsBegun x n offset count declare u result }
         ensures content { (x : IndexSet) (n : ℕ) (u : Upload) (current : ℕ → ℕ) (first : ℕ)

@@ -6,7 +6,7 @@ ghost use Rattle.spool_texts.specs.Drafts.{IsReserved, GivesBack};
 ghost use Rattle.upload_rules.specs.Lengths.{is_length};
 ghost use Rattle.upload_rules.specs.Records.{Represents};
 ghost use Rattle.upload_rules.specs.Store.{Upload, text_with, is_complete};
-ghost use Rattle.upload_rules.specs.States.{IsKeptState, IsState, SameEncodings, transcoder_with};
+ghost use Rattle.upload_rules.specs.States.{IsKeptState, IsSomeState, IsState, SameEncodings, transcoder_with};
 ghost use Rattle.upload_rules.specs.declared.errors.UploadRefusal.{UploadRefusal};
 ghost use Rattle.spool_drafts.specs.Progress.{IsStateAfter, ReadsOn, IsStateOf, IsGrowing, FinishesAs, Starts};
 ghost use Rattle.spool_drafts.specs.Progress.{IsCompleteIn, blocks_in, refusal_in, transcoder_in};
@@ -19,7 +19,7 @@ use spool_journal::PAGE;
 use spool_texts::BlockText;
 use std::alloc::{AllocError, Global};
 use std::mem;
-use upload_rules::{NewText, Record, UploadError, UploadRefusal};
+use upload_rules::{NewText, Record, UploadError, UploadRefusal, end_text};
 
 /// What a draft has after its bytes.
 #[derive(Drop)]
@@ -42,7 +42,7 @@ pub(crate) enum Progress {
 impl Progress {
     /// The progress before the first byte of an append to this upload, whose text is on the listed blocks.
     pub(crate) fn after(alloc: Global, upload: &Record, list: &[BlockNo]) -> Self
-        requires state { IsState upload.now.state }
+        requires state { IsSomeState upload.now.state }
         requires long { upload.now.text_len ≤ PAGE * length list.now }
         ensures state_after { (x : IndexSet) (n : ℕ) (u : Upload) → Represents x n upload.now u
             → (text_with x u [] (is_complete u)).fault ≡ None
@@ -132,11 +132,7 @@ impl Progress {
         let Some(transcoder) = self.transcoder() else {
             return Err(UploadError::Refused(self.refusal()));
         };
-        let text = NewText::Growing {
-            transcoder: transcoder.copy(),
-            text: Vec::new(alloc),
-        };
-        text.ended(indexes, completes)
+        end_text(transcoder, Vec::new(alloc), indexes, completes)
     }
 
     /// Goes over to other progress, and gives the blocks back that the text reserved.

@@ -1,6 +1,6 @@
 -- A transcoder that has read an upload's bytes: one piece further, and at the end.
 use Rattle.std.proofs.Common.{◌≡◌, ℕ, Bool, true, false, List, [], ◌++◌, Option, Some, None, refl, sym, ◌∙◌, ap}
-use Rattle.std.proofs.Common.{append_assoc, append-nil, Vec, Global}
+use Rattle.std.proofs.Common.{append_assoc, append-nil, Err, Vec, Global}
 use Rattle.enc_model.specs.Indexes.{IndexSet, tables}
 use Rattle.enc_model.specs.Encode.{Coded, led_by}
 use Rattle.enc_model.specs.Transcode.{Transcoder, fed_text, added, added_end}
@@ -12,7 +12,8 @@ use Rattle.enc_encode.specs.declared.error.EncodeError.TheVariants as errors
 use Rattle.upload_rules.specs.Store.{Upload, text_from, text_with}
 use Rattle.upload_rules.specs.World.{is_there}
 use Rattle.upload_rules.specs.States.{phase_from, transcoder_with, state_with}
-use Rattle.upload_rules.specs.Texts.{IsReading, IsRest, IsWholeAppend}
+use Rattle.upload_rules.specs.Errors.{encode_error}
+use Rattle.upload_rules.specs.Texts.{IsEnded, IsReading, IsRest, IsWholeAppend}
 use Rattle.upload_rules.proofs.TextGrows.{fault_stays, phase_more, text_end, text_more}
 
 over : (s r : Transcoder) → s.from ≡ r.from → s.to ≡ r.to → s.mode ≡ r.mode → s.phase ≡ r.phase → s.shift ≡ r.shift
@@ -88,12 +89,19 @@ module _ (x : IndexSet) (u : Upload) (bytes : List ℕ) (t : TranscoderState) (h
       → is_there (text_with x u bytes true).fault ≡ true
   end_fault d h = ap is_there (ap (λ r. r.fault) represents_ended ∙ h)
 
+  -- why it isn't written
+  pub end_refused : (e : EncodeError) (old new : Vec ℕ Global)
+      → IsPartWritten (error_of e) (added_end (tables x) t.transcoder) old new
+      → IsEnded x u bytes true (Err (encode_error e))
+  end_refused errors.NoMemory old new why = tt
+  end_refused (errors.Unencodable d) old new why = end_fault d why.reason
+
   pub whole_open : (state old : List ℕ) → state ≡ state_bytes t.transcoder → IsValidState t.transcoder
       → is_phase_over t.transcoder.phase ≡ false → IsRest x u bytes false old → IsWholeAppend x u bytes false state old
   unfolding state_with
-  whole_open state old is valid open rest = record {
+  whole_open state old is valid more rest = record {
     state_is = is ∙ ap state_bytes still_open;
-    valid = record { valid = rw still_open at valid; open = λ e. rw still_open at open };
+    valid = record { valid = rw still_open at valid; takes_more = λ e. rw still_open at more };
     rest = rest;
     encodable = here.encodable;
   }
@@ -111,7 +119,7 @@ module _ (x : IndexSet) (u : Upload) (bytes : List ℕ) (t : TranscoderState) (h
   unfolding state_with
   whole_ended next state old new is packed valid rest ok grown = record {
     state_is = packed ∙ ap state_bytes (at_end next is);
-    valid = record { valid = rw (at_end next is) at valid; open = λ e. cc };
+    valid = record { valid = rw (at_end next is) at valid; takes_more = λ e. cc };
     rest = (
         let start = (text_with x u [] false).bytes in
         let more = (added_end (tables x) t.transcoder).bytes in

@@ -48,13 +48,17 @@ state_of x u = state_with x u [] (is_complete u)
 -- The transcoder is valid, and it is past its end only if the text was ended.
 pub record IsKeptState (transcoder : Transcoder) (done : Bool) : Type 0 where
   pub valid : IsValidState transcoder
-  pub open : done ≡ false → is_phase_over transcoder.phase ≡ false
+  pub takes_more : done ≡ false → is_phase_over transcoder.phase ≡ false
 
 -- These are the state bytes of a valid transcoder.
 pub record IsState (state : List ℕ) : Type 0 where
   pub transcoder : Transcoder
   pub valid : IsValidState transcoder
   pub is : state ≡ state_bytes transcoder
+
+-- Some valid transcoder has these state bytes.
+abbrev pub IsSomeState : List ℕ → Type 0
+IsSomeState state = ((s : Transcoder) → IsValidState s → state_bytes s ≡ state → ⊥) → ⊥
 
 -- The other transcoder has the encodings and the mode of these state bytes.
 pub record IsStateLike (state : List ℕ) (other : Transcoder) : Type 0 where

@@ -5,7 +5,8 @@ ghost use Rattle.std.specs.Prelude.{IsErrOf, IsOk, MatchOption};
 ghost use Rattle.enc_model.specs.Indexes.{IndexSet};
 ghost use Rattle.upload_rules.specs.Lengths.{is_length};
 ghost use Rattle.upload_rules.specs.Store.{Upload, text_with, is_complete};
-ghost use Rattle.upload_rules.specs.Texts.{refusal_of};
+ghost use Rattle.upload_rules.specs.States.{IsSomeState, IsState, IsStateLike, SameEncodings};
+ghost use Rattle.upload_rules.specs.Texts.{IsEnded, IsReading, IsRest, refusal_of};
 ghost use Rattle.upload_rules.specs.declared.errors.UploadRefusal.{UploadRefusal};
 
 use crate::lengths::is_length;
@@ -32,13 +33,13 @@ pub enum NewText {
 }
 
 impl NewText {
-    ghost use Rattle.upload_rules.specs.Texts.{IsTextStateOf, HoldsText, IsEnded, IsGrowingText};
+    ghost use Rattle.upload_rules.specs.Texts.{IsTextStateOf, HoldsText, IsGrowingText};
     ghost use Rattle.upload_rules.specs.Records.{Represents};
-    ghost use Rattle.upload_rules.specs.States.{IsKeptState, IsState, SameEncodings, transcoder_with};
+    ghost use Rattle.upload_rules.specs.States.{IsKeptState, transcoder_with};
 
     /// Nothing yet, for an append to this upload.
     pub fn after(alloc: Global, upload: &Record) -> Self
-        requires { IsState upload.now.state }
+        requires { IsSomeState upload.now.state }
         ensures holds { (x : IndexSet) (n : ℕ) (u : Upload) → Represents x n upload.now u
             → (text_with x u [] (is_complete u)).fault ≡ None
             → IsKeptState (transcoder_with x u [] (is_complete u)) (is_complete u) → HoldsText x u [] result }
@@ -112,22 +113,42 @@ impl NewText {
             → IsEnded indexes.now u bytes completes result }
         ensures same { (state : List ℕ) → IsState state → IsTextStateOf state self
             → IfOk result (λ end. SameEncodings state end.0) }
-        ensures state { IfOk result (λ end. IsState end.0) }
+        ensures state { IfOk result (λ end. IsSomeState end.0) }
         ensures growing { IsOk result → IsGrowingText self }
         ensures no_disk_fault { IsErrOf result (UploadError.Stop Stop.DiskFault) → ⊥ }
         ensures refusal { (e : UploadRefusal) → IsErrOf result (UploadError.Refused e) → e ≡ refusal_of self }
     {
-        let (transcoder, mut text) = match self {
-            NewText::Growing { transcoder, text } => (transcoder, text),
-            NewText::Unencodable => {
-                return Err(UploadError::Refused(UploadRefusal::Unencodable));
-            }
-            NewText::Complete => return Err(UploadError::Refused(UploadRefusal::TooLong)),
-        };
-        if !completes {
-            return Ok((transcoder.pack(), text));
+        match self {
+            NewText::Growing { transcoder, text } => end_text(&transcoder, text, indexes, completes),
+            NewText::Unencodable => Err(UploadError::Refused(UploadRefusal::Unencodable)),
+            NewText::Complete => Err(UploadError::Refused(UploadRefusal::TooLong)),
         }
-        let end = transcoder.ended(indexes, &mut text)?;
-        Ok((end.pack(), text))
     }
+}
+
+/// The state bytes and the new text at an append's end, as `NewText::ended`, where bytes may come.
+///
+/// # Errors
+///
+/// `Unencodable`, `NoMemory`.
+pub fn end_text(
+    transcoder: &OpenTranscoder,
+    text: Vec<u8>,
+    indexes: &IndexSet,
+    completes: bool,
+) -> Result<([u8; 32], Vec<u8>), UploadError>
+    ensures ended { (u : Upload) (bytes : List ℕ) → IsReading indexes.now u bytes transcoder.now
+        → IsRest indexes.now u bytes false text.items → IsEnded indexes.now u bytes completes result }
+    ensures same { (state : List ℕ) → IsState state → IsStateLike state transcoder.now.transcoder
+        → IfOk result (λ end. SameEncodings state end.0) }
+    ensures state { IfOk result (λ end. IsSomeState end.0) }
+    ensures no_disk_fault { IsErrOf result (UploadError.Stop Stop.DiskFault) → ⊥ }
+    ensures refusal { (e : UploadRefusal) → IsErrOf result (UploadError.Refused e) → e ≡ UploadRefusal.Unencodable }
+{
+    let mut text = text;
+    if completes {
+        let end = transcoder.ended(indexes, &mut text)?;
+        return Ok((end.pack(), text));
+    }
+    Ok((transcoder.pack(), text))
 }

@@ -60,4 +60,4 @@ returns-clause-text c v m bytes catalog shows encodes u there =
 pub returns-clause-state : goal.returns-clause-state
 returns-clause-state c =
     let is = c.record.ensures.unpacked in
-    record { transcoder = is.transcoder; valid = is.valid; is = is.is }
+    λ none. none is.transcoder is.valid (sym is.is)

@@ -1,7 +1,7 @@
 use Rattle.std.proofs.Common.{[], refl, sym, subst, ◌∙◌}
 use Rattle.upload_rules.proofs.Transcoders.{unencodable_ended}
 use Rattle.spool_drafts.specs.Progress.{IsStateAfter}
-use Rattle.spool_drafts.proofs.TranscoderStates.{after, after_open, finishes, nothing_yet, open_refusal, reads_after}
+use Rattle.spool_drafts.proofs.TranscoderStates.{after, finishes, nothing_yet, open_refusal, reads_after}
 use Rattle.spool_drafts.proofs.progress.Progress.ended.Goals as goal
 
 pub returns-in_default-clause-finished : goal.returns-in_default-clause-finished
@@ -15,7 +15,6 @@ pub returns-clause-finished : goal.returns-clause-finished
 returns-clause-finished c u bytes still here complete =
     let x = c.args.indexes.now in
     let reads = subst (IsStateAfter x u bytes) (sym c.transcoder.ensures ∙ c.in-Some.is) here in
-    finishes x u bytes c.args.completes _ c.ended.ensures.refusal
-    (c.ended.ensures.ended (after u bytes) []
-    (reads_after x u bytes c.in-Some.transcoder reads, nothing_yet x u bytes _ c.new.ensures.items)
-    (after_open u bytes))
+    finishes x u bytes c.args.completes _ c.end_text.ensures.refusal
+    (c.end_text.ensures.ended (after u bytes) [] (reads_after x u bytes c.in-Some.transcoder.now reads)
+    (nothing_yet x u bytes _ c.new.ensures.items))

@@ -16,13 +16,13 @@ pub returns-in-Ok-clause-reads : goal.returns-in-Ok-clause-reads
 returns-in-Ok-clause-reads c u bytes still here =
     let x = c.args.indexes.now in
     let reads = subst (IsStateAfter x u bytes) (sym c.transcoder.ensures ∙ c.in-Some.is) here in
-    fed x u bytes c.args.piece.now c.args.out.now.items c.fed.new.out.items c.in-Some.transcoder c.in-Ok.next reads
+    fed x u bytes c.args.piece.now c.args.out.now.items c.fed.new.out.items c.in-Some.transcoder.now c.in-Ok.next reads
     c.requires c.in-Ok.ensures.no_fault c.in-Ok.ensures.next c.in-Ok.ensures.added
 
 pub returns-in-Err-Unencodable-clause-reads : goal.returns-in-Err-Unencodable-clause-reads
 returns-in-Err-Unencodable-clause-reads c u bytes still here =
     let x = c.args.indexes.now in
-    let t = c.in-Some.transcoder in
+    let t = c.in-Some.transcoder.now in
     let reads = subst (IsStateAfter x u bytes) (sym c.transcoder.ensures ∙ c.in-Some.is) here in
     record {
       state_after = λ _. piece_fault x u bytes t reads c.args.piece.now c.in-Err-Unencodable.field-0-0

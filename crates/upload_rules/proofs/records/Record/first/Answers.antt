@@ -43,6 +43,6 @@ returns-clause-valid c = λ x.
       encodable = new_encodable x new (is_complete u);
       valid = record {
         valid = subst IsValidState transcoder_is c.pack.ensures.valid;
-        open = new_open_phase x new;
+        takes_more = new_open_phase x new;
       };
     }
