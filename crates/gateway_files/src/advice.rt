@@ -141,7 +141,9 @@ impl fmt::Display for Advice<'_> {
                 "{folder}/{name} is damaged, or no index file: fetch it again from encoding.spec.whatwg.org"
             ),
             Advice::Undeleted => {
-                f.write_str("all others are deleted; `gateway list` prints the numbers that there are")
+                f.write_str(
+                    "all others are deleted; `gateway list` prints the numbers that there are",
+                )
             }
             Advice::Blocks => f.write_str("the number of blocks is 16 to 65536"),
             Advice::Differs(folder) => write!(

@@ -39,6 +39,15 @@ short_of short len n (OutOfRoom t) other growing stored = stored
 short_of short len n Unencodable other growing stored = absurd growing
 short_of short len n Complete other growing stored = absurd growing
 
+-- a draft takes no bytes for a complete upload, since its patch has none
+pub not_complete : {x : IndexSet} {p : Patch} {d : SpoolDraft} → Holds x p d → (piece : List ℕ) (empty : Bool)
+    → length p.body + length piece ≤ p.count → empty ≡ eqb (length piece) 0 → empty ≡ false → d.progress ≡ Complete → ⊥
+not_complete {p = p} held piece empty fits is_empty not_empty is =
+    let still = is_open p.began p.declare p.count (omega (arith, some_of piece empty is_empty not_empty, fits))
+    held.within in
+    let complete = subst (IsCompleteIn p.began) is held.complete in
+    cc
+
 module _ {x : IndexSet} {p : Patch} {d : SpoolDraft} (held : Holds x p d) {piece : List ℕ}
     (fits : length p.body + length piece ≤ p.count) {empty : Bool} (is_empty : empty ≡ eqb (length piece) 0)
     (not_empty : empty ≡ false) {next : Option TranscoderState} {added : List ℕ}

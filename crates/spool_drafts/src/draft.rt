@@ -206,22 +206,22 @@ impl SpoolDraft {
         if piece.is_empty() {
             return Ok(());
         }
-        if let Progress::Complete = self.progress {
+        if let Progress::Complete = &self.progress {
             self.came = self.came.saturating_add(piece.len() as u64);
             return Ok(());
         }
         let mut added = self.spare.take(alloc);
-        let Some(next) = self.progress.fed(indexes, piece, &mut added)? else {
+        let Ok(next) = self.progress.fed(indexes, piece, &mut added) else {
+            return Err(Stop::NoMemory);
+        };
+        let Some(next) = next else {
             self.leave(Progress::Unencodable, blocks, piece.len());
             return Ok(());
         };
         let Progress::Text { transcoder, text } = &mut self.progress else {
             self.spare.give_back(added);
-            self.leave(
-                Progress::OutOfRoom { transcoder: next },
-                blocks,
-                piece.len(),
-            );
+            let short = Progress::OutOfRoom { transcoder: next };
+            self.leave(short, blocks, piece.len());
             return Ok(());
         };
         match text.put(alloc, disk, layout, blocks, &added) {
@@ -234,11 +234,8 @@ impl SpoolDraft {
             Err(DraftError::Stop(stop)) => Err(stop),
             Err(DraftError::Full) => {
                 self.spare.give_back(added);
-                self.leave(
-                    Progress::OutOfRoom { transcoder: next },
-                    blocks,
-                    piece.len(),
-                );
+                let short = Progress::OutOfRoom { transcoder: next };
+                self.leave(short, blocks, piece.len());
                 Ok(())
             }
         }

@@ -79,7 +79,8 @@ impl Progress {
 
     // Why bytes may not come, where they may not.
     fn refusal(&self) -> UploadRefusal
-        ensures { result ≡ refusal_in self.now }
+        ensures same { result ≡ refusal_in self.now }
+        ensures either { (result ≡ UploadRefusal.Unencodable) ⊎ (result ≡ UploadRefusal.TooLong) }
     {
         match self {
             Progress::Complete => UploadRefusal::TooLong,

@@ -119,7 +119,12 @@ impl NewText {
         ensures refusal { (e : UploadRefusal) → IsErrOf result (UploadError.Refused e) → e ≡ refusal_of self }
     {
         match self {
-            NewText::Growing { transcoder, text } => end_text(&transcoder, text, indexes, completes),
+            NewText::Growing { transcoder, text } => end_text(
+                &transcoder,
+                text,
+                indexes,
+                completes,
+            ),
             NewText::Unencodable => Err(UploadError::Refused(UploadRefusal::Unencodable)),
             NewText::Complete => Err(UploadError::Refused(UploadRefusal::TooLong)),
         }

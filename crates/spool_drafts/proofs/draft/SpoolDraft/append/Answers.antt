@@ -8,13 +8,35 @@ use Rattle.spool_drafts.specs.Drafts.{PreservesTail, list_of, upload_number_of, 
 use Rattle.spool_drafts.specs.Progress.{IsStateOf, HasBytes, IsGrowing}
 use Rattle.spool_drafts.specs.declared.draft.SpoolDraft.{SpoolDraft}
 use Rattle.spool_drafts.specs.declared.progress.Progress.TheVariants.{Text}
-use Rattle.spool_drafts.proofs.Appends.{longer_fault, longer_full, longer_short, longer_text, open_longer}
+use Rattle.spool_drafts.proofs.Appends.{longer_fault, longer_full, longer_short, longer_text, not_complete, open_longer}
 use Rattle.spool_drafts.proofs.Effects.{effect_none, grasp_gives, only_none, takes_in}
 use Rattle.spool_texts.proofs.Reserves.{takes_none}
 use Rattle.spool_drafts.proofs.draft.SpoolDraft.append.Goals as goal
 
 pub returns-then-is_empty-clause-effect : goal.returns-then-is_empty-clause-effect
 returns-then-is_empty-clause-effect g c = effect_none _ c.requires.reserved
+
+pub returns-in-Complete : goal.returns-in-Complete
+returns-in-Complete g c =
+    record {
+      size = refl;
+      honest = (λ h. h, λ h. h);
+      counts = search rules;
+      nothing = search rules;
+      same = (refl, refl, refl, refl, inl refl);
+      after = λ len state is. record { committed = is.committed; goes_on = is.goes_on; room = is.room };
+      placed = record { below = c.requires.placed.below; few = c.requires.placed.few };
+      rows = refl;
+      reserved = c.requires.reserved;
+      effect = effect_none _ c.requires.reserved;
+      answer = λ p held fits. absurd (not_complete held c.args.piece.now c.is_empty.result fits c.is_empty.ensures
+          c.if-is_empty.false c.in-Complete.is);
+      content = λ p honest held fits carries. absurd (not_complete held c.args.piece.now c.is_empty.result fits
+          c.is_empty.ensures c.if-is_empty.false c.in-Complete.is);
+      memory = λ e. cc;
+      holds_on = λ p held e. cc;
+      content_on = λ p honest e carries. cc;
+    }
 
 pub returns-in_default-clause-effect : goal.returns-in_default-clause-effect
 returns-in_default-clause-effect g c = effect_none _ c.requires.reserved

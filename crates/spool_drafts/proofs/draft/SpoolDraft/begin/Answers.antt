@@ -12,21 +12,21 @@ returns-in_err-admits-clause-begun c x n u valid_record =
 
 pub returns-clause-begun : goal.returns-clause-begun
 returns-clause-begun c x n u valid_record =
-    let state = c.after-progress.ensures.state_after x n u valid_record.represents valid_record.encodable
+    let state = c.after.ensures.state_after x n u valid_record.represents valid_record.encodable
     valid_record.valid in (
-  c.in_ok-admits.ensures.rules x n u valid_record.represents,
-  begins x u n c.args.count c.args.declare c.args.upload.now c.args.list.now c.args.offset c.after-progress.result
-      valid_record
-      (c.in_ok-admits.ensures.room refl) (c.in_ok-admits.ensures.small refl)
-      state.0 state.1
-      (λ growing. open_still x u n c.args.count c.args.declare c.args.upload.now valid_record
-      (c.after-progress.ensures.room growing))
-      c.after-progress.ensures.starts,
-)
+      c.in_ok-admits.ensures.rules x n u valid_record.represents,
+      begins x u n c.args.count c.args.declare c.args.upload.now c.args.list.now c.args.offset c.after.result
+          valid_record
+          (c.in_ok-admits.ensures.room refl) (c.in_ok-admits.ensures.small refl)
+          state.0 state.1
+          (λ growing. open_still x u n c.args.count c.args.declare c.args.upload.now valid_record
+          (c.after.ensures.room growing))
+          c.after.ensures.starts,
+    )
 
 pub returns-clause-content : goal.returns-clause-content
 returns-clause-content c x n u current first valid_record same =
     begins_carries x u n c.args.count c.args.declare current first c.args.upload.now.text_len c.args.list.now
-    c.after-progress.result c.requires.long c.after-progress.ensures.starts same valid_record.represents.text_len
+    c.after.result c.requires.long c.after.ensures.starts same valid_record.represents.text_len
     (λ growing. open_still x u n c.args.count c.args.declare c.args.upload.now valid_record
-    (c.after-progress.ensures.room growing))
+    (c.after.ensures.room growing))
