@@ -38,8 +38,8 @@ returns-in-Complete g c =
       content_on = λ p honest e carries. cc;
     }
 
-pub returns-in_default-clause-effect : goal.returns-in_default-clause-effect
-returns-in_default-clause-effect g c = effect_none _ c.requires.reserved
+pub returns-in_default-fed-clause-effect : goal.returns-in_default-fed-clause-effect
+returns-in_default-fed-clause-effect g c = effect_none _ c.requires.reserved
 
 pub returns-in_default-next-clause-effect : goal.returns-in_default-next-clause-effect
 returns-in_default-next-clause-effect g c = record {
@@ -116,7 +116,7 @@ returns-in-Ok-put-clause-answer g c p held fits =
     inl (subst (λ (came : ℕ). Holds c.args.indexes.now (with_piece p c.args.piece.now) (record c.args.self.now {
       progress = Text c.in-Some.next c.put.new.self;
       came = came;
-    })) (sym c.saturating_add-self.ensures)
+    })) (sym c.saturating_add-self-in-Ok-put.ensures)
     (longer_text held fits c.is_empty.ensures c.if-is_empty.false (c.in-Ok.ensures.reads p.began p.body)
     c.in-Some.next c.in-Some.is c.in-Text.is c.put.new.self
     (λ none. ap (λ (t : Draft). t.blocks) (c.in-Ok-put.ensures.nothing (ap length value ∙ none)).0)
@@ -133,6 +133,9 @@ returns-in-Ok-put-clause-content g c p honest held fits carries =
     ∙ ap (λ (xs : List ℕ). xs ++ c.fed.new.out.items) before
     ∙ sym (open_longer held fits c.is_empty.ensures c.if-is_empty.false (c.in-Ok.ensures.reads p.began p.body)
     c.in-Some.next c.in-Some.is)
+
+pub returns-in-Err-Stop-clause-size : goal.returns-in-Err-Stop-clause-size
+returns-in-Err-Stop-clause-size g c = c.put.ensures.size
 
 pub returns-in-Err-Full-clause-after : goal.returns-in-Err-Full-clause-after
 returns-in-Err-Full-clause-after g c len state is =
