@@ -95,8 +95,8 @@ class Browser:
         return base64.b64decode(self.value(f"{UPLOAD}(...{words})"))
 
     def value(self, script):
-        """What a script comes to."""
+        """What a script comes to, None where that is undefined."""
         result = self.call("Runtime.evaluate", expression=script, awaitPromise=True, returnByValue=True)
         if "exceptionDetails" in result:
             raise RuntimeError(result["exceptionDetails"])
-        return result["result"]["value"]
+        return result["result"].get("value")

@@ -1,0 +1,102 @@
+// The page: files that are chosen or dropped, and the uploads that were begun here before. Each has a card.
+
+import { Card } from "./card.js";
+import { fill } from "./dom.js";
+import { hasChanged, isFileOf, remembered } from "./store.js";
+import { texts } from "./texts.js";
+
+const cards = [];
+const files = document.getElementById("files");
+const list = document.getElementById("cards");
+const says = document.getElementById("says");
+
+const page = {
+    endpoint: new URL(document.querySelector("meta[name=endpoint]").content, location.href).href,
+
+    /** Says something to a screen reader. */
+    says(what) {
+        says.textContent = what;
+    },
+
+    /** Opens the choice of files. */
+    choose() {
+        files.click();
+    },
+
+    leaves(card) {
+        cards.splice(cards.indexOf(card), 1);
+        card.element.remove();
+        showTitle();
+        files.focus();
+    },
+
+    cannotRemember() {
+        document.getElementById("not-remembered").hidden = false;
+    },
+};
+
+function add(card, isFirst) {
+    cards.push(card);
+    list[isFirst ? "prepend" : "append"](card.element);
+    showTitle();
+}
+
+function showTitle() {
+    document.getElementById("list-title").hidden = cards.length === 0;
+}
+
+/** Takes a file: to the card that has it or waits for it, or to one of its own. */
+function take(file) {
+    const known = cards.find((it) => it.has(file));
+    if (known) {
+        return known.file ? known : (known.take(file), known);
+    }
+    const card = new Card(page, file, null);
+    const notice = noticeOf(file);
+    add(card, true);
+    card.look(notice);
+    return card;
+}
+
+/** What is to be known of a file that was sent before, or changed since a part of it was. */
+function noticeOf(file) {
+    const uploads = cards.map((it) => it.upload).filter((it) => it);
+    const done = uploads.find((it) => it.done && isFileOf(it, file));
+    const old = uploads.find((it) => !it.done && hasChanged(it, file));
+    return done ? texts.already(done.begun) : old ? texts.changed(old.begun) : "";
+}
+
+function takeAll(chosen) {
+    // Each new card goes to the top, and so the last file first.
+    const taken = Array.from(chosen).reverse().map(take);
+    taken.at(-1)?.focus();
+}
+
+files.addEventListener("change", () => {
+    takeAll(files.files);
+    // The same file may be chosen once more.
+    files.value = "";
+});
+document.addEventListener("dragover", (event) => {
+    event.preventDefault();
+    document.body.classList.add("over");
+});
+document.addEventListener("dragleave", (event) => {
+    if (!event.relatedTarget) {
+        document.body.classList.remove("over");
+    }
+});
+document.addEventListener("drop", (event) => {
+    event.preventDefault();
+    document.body.classList.remove("over");
+    takeAll(event.dataTransfer.files);
+});
+
+document.documentElement.lang = texts.language;
+document.title = texts.title;
+fill(document);
+for (const upload of remembered()) {
+    const card = new Card(page, null, upload);
+    add(card, false);
+    card.ask();
+}

@@ -1,0 +1,610 @@
+"""The page that uploads (packaging/web), by a headless chromium through nginx with the sample for browsers.
+
+usage: page.py [--program PATH] [--indexes DIR] [--seed N] [--pictures DIR]
+
+It needs chromium and nginx, and the ports 8081 and 8088. A text in each of the 21 encodings is sent under the label
+that is chosen by its lines, and the stored text compared byte for byte; so is every other one. In between: a piece that
+ends within a character, the gateway killed and started again, a reload, a browser that was ended, two files at once,
+another client that is faster, an upload that is gone, a spool that is full, a character that the encoding lacks, a
+wrong label seen beforehand and seen at the end, a file that has changed, a proxy that forbids reading, the keyboard
+alone. Each state fits a window of 360 pixels and has no fault of the page's policy; `--pictures` keeps a picture of
+each, wide and narrow.
+"""
+
+import base64
+import json
+import os
+import re
+import tempfile
+import time
+from pathlib import Path
+
+import browser
+from harness import ENCODINGS, OCTETS, ROOT, Client, Sample, encoded, format_spool, holds, indexes_in, memory, parser_of
+from harness import random_sample, repertoire, rng_of, same
+from proxies import FRONT, NGINX, PORTS, Instance, Nginx, has
+
+URL = f"http://127.0.0.1:{FRONT}/page/"
+INSTALLED = "/usr/share/wovelatsa/web/"
+# Where the sample is changed to forbid reading.
+SIZE, FORBIDS = "        client_max_body_size    8m;", "        limit_except POST PATCH HEAD OPTIONS { deny all; }\n"
+PIECE, BLOCKS, SLOTS = 1_000_000, 2048, 512
+WIDE, NARROW = (860, 900), (360, 740)
+# A line on which a piece takes half a second, in bytes a second, and how long things may take, in seconds.
+SLOW, PATIENCE = 2_000_000, 60
+RUSSIAN = "Съешь ещё этих мягких французских булок, да выпей чаю.\nШирокая электрификация южных губерний.\n"
+# What each document has before its own scripts: its faults, the statuses that it got, its cards and their parts.
+HELPERS = """
+window.faults = [];
+window.statuses = [];
+const asked = fetch;
+window.fetch = (...words) => asked(...words).then(it => (statuses.push(it.status), it));
+addEventListener("securitypolicyviolation", it => faults.push(it.violatedDirective + " " + it.blockedURI));
+addEventListener("error", it => faults.push(it.message));
+addEventListener("unhandledrejection", it => faults.push(String(it.reason)));
+window.card = name => [...document.querySelectorAll("article")].find(it => it.querySelector("h3").textContent === name);
+window.part = (name, what) => card(name)?.querySelector(`[data-part="${what}"]`);
+window.seen = it => it && it.checkVisibility() ? it.innerText : "";
+window.namesOf = it => [it.querySelector("b").textContent,
+    ...it.querySelector(".note").textContent.replace("the same text as ", "").split(";")[0].split(", ")];
+window.choices = name => [...card(name).querySelectorAll(".choice")];
+window.choiceOf = (name, label) => choices(name).find(it => namesOf(it).some(one => one.toLowerCase() === label));
+"""
+
+
+class Shown(browser.Browser):
+    """The page in a browser of its own, whose profile is in a folder."""
+
+    def __init__(self, folder, pictures=None):
+        super().__init__(folder, URL)
+        self.pictures, self.states = pictures, 0
+        for domain in ("Page", "Network", "DOM"):
+            self.call(f"{domain}.enable")
+        self.call("Page.addScriptToEvaluateOnNewDocument", source=HELPERS)
+        self.call("Emulation.setScrollbarsHidden", hidden=True)
+        self.sized(*WIDE)
+        self.load()
+
+    def load(self):
+        """Loads the page anew."""
+        self.value("window.old = true")
+        self.call("Page.reload")
+        self.until("a new document", "window.old === undefined && document.readyState === 'complete' && window.card")
+
+    def end(self):
+        """Ends the browser in order, as a machine that is switched off does."""
+        self.session, command = {}, {"id": 0, "method": "Browser.close"}
+        os.write(self.commands, json.dumps(command).encode() + b"\0")
+        self.process.wait(PATIENCE)
+        os.close(self.commands)
+        os.close(self.answers)
+
+    def sized(self, width, height):
+        words = {"width": width, "height": height, "deviceScaleFactor": 1, "mobile": False}
+        self.call("Emulation.setDeviceMetricsOverride", **words)
+
+    def until(self, what, script):
+        """Waits until a script is true."""
+        end = time.monotonic() + PATIENCE
+        while not self.value(f"Boolean({script})"):
+            holds(f"{what}: not within {PATIENCE} s; {self.value('document.body.innerText')}", time.monotonic() < end)
+            time.sleep(0.05)
+
+    def choose(self, *paths):
+        """Chooses files, as by the page's own button."""
+        found = self.call("Runtime.evaluate", expression="document.getElementById('files')")["result"]["objectId"]
+        self.call("DOM.setFileInputFiles", files=[str(it) for it in paths], objectId=found)
+
+    def drop(self, name, data):
+        """Drops a file onto the page."""
+        file = f"new File([Uint8Array.from({json.dumps(list(data))})], {json.dumps(name)})"
+        event = "new DragEvent('drop', {dataTransfer: data, bubbles: true, cancelable: true})"
+        self.value(f"(data => (data.items.add({file}), document.body.dispatchEvent({event})))(new DataTransfer())")
+
+    def says(self, name, what, pattern):
+        """Waits until a part of a file's card shows a text, and returns it."""
+        words = f"seen(part({json.dumps(name)}, '{what}'))"
+        self.until(f"{name}: {what} {pattern}", f"new RegExp({json.dumps(pattern)}).test({words})")
+        return self.value(words)
+
+    def shows(self, name, what):
+        return self.value(f"seen(part({json.dumps(name)}, '{what}'))")
+
+    def press(self, name, what):
+        self.until(f"{name}: {what}", f"part({json.dumps(name)}, '{what}')?.checkVisibility()")
+        self.value(f"part({json.dumps(name)}, '{what}').click()")
+
+    def select(self, name, what, value):
+        words = f"(it => {{ it.value = {json.dumps(value)}; it.onchange?.(); }})"
+        self.value(f"{words}(part({json.dumps(name)}, '{what}'))")
+
+    def select_to(self, name, label):
+        """Selects the encoding of the stored text by its label."""
+        options = f"[...part({json.dumps(name)}, 'to').options].map(it => it.value)"
+        self.select(name, "to", next(it for it in self.value(options) if it.lower() == label))
+
+    def lines(self, name, label):
+        """The lines of a file under a label, as they are shown."""
+        return self.value(f"choiceOf({json.dumps(name)}, '{label}').querySelector('pre').innerText")
+
+    def pick(self, name, label):
+        """Chooses the lines of a label, which have to be shown."""
+        words = json.dumps(name)
+        self.until(f"{name}: choices", f"part({words}, 'form')?.checkVisibility()")
+        self.value(f"choiceOf({words}, '{label}').checkVisibility() || part({words}, 'more').click()")
+        self.value(f"choiceOf({words}, '{label}').querySelector('input').click()")
+
+    def line(self, speed):
+        """How fast the line is, in bytes a second; 0 is as fast as it can be, and None is no line."""
+        words = {"offline": speed is None, "latency": 0, "downloadThroughput": -1, "uploadThroughput": speed or -1}
+        self.call("Network.emulateNetworkConditions", **words)
+
+    def sent(self, name):
+        """How far the progress bar is, of 1."""
+        return self.value(f"part({json.dumps(name)}, 'progress').value")
+
+    def until_sent(self, name, share):
+        self.until(f"{name}: {share} sent", f"part({json.dumps(name)}, 'progress').value >= {share}")
+
+    def finished(self, name):
+        """Waits until a file is sent and read back: the path of its upload."""
+        self.says(name, "verdict", "^Uploaded")
+        return self.value(f"part({json.dumps(name)}, 'link').pathname")
+
+    def leave(self, name):
+        self.value(f"part({json.dumps(name)}, 'leave-end').click()")
+
+    def picture(self, state):
+        """Looks at a state in a wide and a narrow window: nothing is wider than the window."""
+        self.states += 1
+        for kind, size in (("wide", WIDE), ("narrow", NARROW)):
+            self.sized(*size)
+            width = self.value("document.scrollingElement.scrollWidth")
+            holds(f"{state}: {width} pixels in a window of {size[0]}", width <= size[0])
+            if self.pictures:
+                image = self.call("Page.captureScreenshot", format="png", captureBeyondViewport=True)["data"]
+                (self.pictures / f"{state}-{kind}.png").write_bytes(base64.b64decode(image))
+        self.sized(*WIDE)
+
+    def key(self, name, code, text=""):
+        """Presses a key."""
+        words = {"key": name, "code": name, "windowsVirtualKeyCode": code}
+        self.call("Input.dispatchKeyEvent", type="keyDown", text=text, **words)
+        self.call("Input.dispatchKeyEvent", type="keyUp", **words)
+
+
+class Place:
+    """What the cases share: the page, a client of the gateway itself, and a folder for files."""
+
+    def __init__(self, shown, gateway, folder, rng):
+        self.shown, self.gateway, self.folder, self.rng = shown, gateway, folder, rng
+        self.client, self.texts = Client(PORTS["a"]), 0
+
+    def file(self, name, data):
+        path = self.folder / name
+        path.write_bytes(data)
+        return path
+
+    def stored(self, name, text):
+        """A file was sent: its text is what it has to be. It is taken out, and leaves the page."""
+        path = self.shown.finished(name)
+        holds(f"the stored text of {name}", self.client.text(path) == text)
+        self.texts += 1
+        self.client.delete(path)
+        self.shown.leave(name)
+        self.faultless()
+
+    def faultless(self):
+        same("faults of the page", self.shown.value("faults"), [])
+
+    def begin(self, name, data, label):
+        """Chooses a file and sends it under a label."""
+        self.shown.choose(self.file(name, data))
+        self.shown.pick(name, label)
+        self.shown.press(name, "send")
+
+    def upload(self, name):
+        """The path of the upload that is remembered for a file."""
+        script = "Object.values(localStorage).map(JSON.parse).find(it => it.file === %s && !it.done).url"
+        return "/files/" + self.shown.value(script % json.dumps(name)).rpartition("/")[2]
+
+    def uploads(self):
+        """How many uploads are remembered."""
+        return self.shown.value("localStorage.length")
+
+
+def japanese(rng, size):
+    """A text of Shift_JIS in lines, of some bytes, whose pieces end within characters."""
+    chars = [it for it in repertoire("shift_jis") if len(it.encode("cp932")) == 2]
+    text = "x" + "\n".join("".join(rng.choices(chars, k=39)) for _ in range(size // 79))
+    data = text.encode("cp932")
+    # A line has 79 bytes, so that a character begins before the first piece ends, and ends behind it.
+    fits = data[:PIECE].decode("cp932", "ignore").encode("cp932")
+    return Sample("shift_jis", data, text.encode()) if len(fits) < PIECE else japanese(rng, size - 1)
+
+
+def each_encoding(place):
+    """A text in each encoding, and what has a byte order mark or is ASCII alone."""
+    shown = place.shown
+    for label in ENCODINGS:
+        sample = random_sample(place.rng, label)
+        name = f"{label}.txt"
+        shown.choose(place.file(name, sample.data))
+        shown.pick(name, sample.label)
+        if sample.to != "utf-8":
+            shown.select_to(name, label)
+        shown.press(name, "send")
+        place.stored(name, sample.text)
+
+
+def few_choices(place):
+    """A byte order mark names the encoding, and ASCII alone is one choice beside both of UTF-16. Both are dropped."""
+    shown, text = place.shown, "Grüße aus Łódź – привет"
+    marked = ("marked.txt", "utf-16le", b"\xff\xfe" + text.encode("utf-16-le"), text, 1)
+    for name, label, data, wanted, choices in (marked, ("plain.txt", "utf-8", b"A.\n", "A.\n", 3)):
+        shown.drop(name, data)
+        shown.pick(name, label)
+        same(f"how many choices {name} has", shown.value(f"choices('{name}').length"), choices)
+        shown.press(name, "send")
+        place.stored(name, wanted.encode())
+
+
+def beyond_the_sample(place):
+    """What is looked at of a long file: the first MiB that isn't ASCII, and of equal names the widest."""
+    late = "A line.\n" * 200_000 + RUSSIAN
+    euro = "Grüße, é, à.\n" * 100_000 + "5 €\n"
+    files = ("late.txt", "koi8-r", "koi8_r", late), ("euro.txt", "iso-8859-15", "cp1252", euro)
+    for name, label, codec, text in files:
+        place.begin(name, text.encode(codec), label)
+        place.stored(name, text.encode())
+
+
+def seen_beforehand(place):
+    """A wrong label is seen in the lines, nothing is sent without a choice, and one that was sent is sent anew."""
+    shown, data = place.shown, RUSSIAN.encode("koi8-r") * 3
+    shown.choose(place.file("letter.txt", data))
+    shown.until("choices", "card('letter.txt') && choices('letter.txt').length > 5")
+    shown.picture("choices")
+    same("the first choice", shown.value("choices('letter.txt')[0].querySelector('b').textContent"), "KOI8-R")
+    holds("the right lines", "Съешь ещё этих" in shown.lines("letter.txt", "koi8-r"))
+    wrong = RUSSIAN.encode("koi8-r").decode("cp1251")
+    holds("the wrong ones", wrong.split(",")[0] in shown.lines("letter.txt", "windows-1251"))
+    holds("what is lost is marked", shown.value("document.querySelectorAll('mark.lost').length") > 0)
+    shown.press("letter.txt", "send")
+    time.sleep(0.5)
+    same("uploads without a choice", (place.uploads(), shown.shows("letter.txt", "state")), (0, ""))
+    shown.pick("letter.txt", "windows-1251")
+    shown.press("letter.txt", "send")
+    path = shown.finished("letter.txt")
+    same("the wrong text", place.client.text(path), data.decode("cp1251").encode())
+    shown.press("letter.txt", "wrong")
+    shown.pick("letter.txt", "koi8-r")
+    holds("the wrong one is gone", place.client.is_gone(path))
+    shown.press("letter.txt", "send")
+    shown.finished("letter.txt")
+    holds("its lines", "Съешь ещё этих" in shown.shows("letter.txt", "stored"))
+    shown.picture("end")
+    place.stored("letter.txt", (RUSSIAN * 3).encode())
+
+
+def lossy(place):
+    """What is lost is counted before and at the end; characters that `to` lacks become references or stop it."""
+    shown, text = place.shown, "Grüße für 5 € an Łucja\n"
+    shown.choose(place.file("lossy.txt", text.encode() + b"\xff\x81\n"))
+    shown.pick("lossy.txt", "utf-8")
+    holds("the count", "2 characters lost" in shown.value("choiceOf('lossy.txt', 'utf-8').innerText"))
+    shown.value("part('lossy.txt', 'settings').open = true")
+    shown.select("lossy.txt", "to", "ISO-8859-15")
+    shown.says("lossy.txt", "lacks", "lacks 3 characters")
+    shown.picture("settings")
+    shown.press("lossy.txt", "send")
+    shown.says("lossy.txt", "counts", "2 of them U\\+FFFD.*3 references")
+    shown.picture("lost")
+    place.stored("lossy.txt", encoded("iso-8859-15", text + "\ufffd\ufffd\n"))
+    shown.choose(place.folder / "lossy.txt")
+    shown.pick("lossy.txt", "utf-8")
+    shown.select("lossy.txt", "to", "ISO-8859-15")
+    shown.select("lossy.txt", "mode", "fatal")
+    shown.press("lossy.txt", "send")
+    shown.says("lossy.txt", "alert", "encoding of the stored text lacks")
+    shown.picture("refused")
+    path = place.upload("lossy.txt")
+    shown.press("lossy.txt", "anew")
+    shown.pick("lossy.txt", "utf-8")
+    holds("it is deleted", place.client.is_gone(path))
+    shown.press("lossy.txt", "leave")
+
+
+def killed(place):
+    """The gateway is killed while a file comes, whose pieces end within characters, and is started again."""
+    shown, sample = place.shown, japanese(place.rng, 3_500_000)
+    shown.line(SLOW)
+    place.begin("killed.txt", sample.data, "shift_jis")
+    shown.until_sent("killed.txt", 0.25)
+    place.gateway.kill()
+    shown.says("killed.txt", "state", "Trying again in")
+    shown.picture("waiting")
+    place.gateway.start()
+    place.client.close()
+    shown.until_sent("killed.txt", 0.5)
+    shown.line(0)
+    place.stored("killed.txt", sample.text)
+
+
+def line_lost(place):
+    """The line is lost while a file comes, and is there again."""
+    shown, sample = place.shown, japanese(place.rng, 2_500_000)
+    shown.line(SLOW)
+    place.begin("line.txt", sample.data, "shift_jis")
+    shown.until_sent("line.txt", 0.25)
+    shown.line(None)
+    shown.says("line.txt", "state", "Trying again in")
+    shown.line(0)
+    place.stored("line.txt", sample.text)
+
+
+def reloaded(place):
+    """The page is reloaded while a file comes, and then the browser is ended: it goes on from what is stored."""
+    shown, sample = place.shown, japanese(place.rng, 4_000_000)
+    shown.line(SLOW)
+    place.begin("reloaded.txt", sample.data, "shift_jis")
+    shown.until_sent("reloaded.txt", 0.25)
+    shown.picture("sending")
+    shown.load()
+    shown.says("reloaded.txt", "state", "Not finished: 1|Not finished: 2")
+    shown.picture("remembered")
+    shown.choose(place.folder / "reloaded.txt")
+    holds("its lines are shown", len(shown.says("reloaded.txt", "looked", "\n")) > 100)
+    shown.picture("going-on")
+    shown.press("reloaded.txt", "go-on")
+    shown.until_sent("reloaded.txt", 0.5)
+    shown.press("reloaded.txt", "pause")
+    shown.says("reloaded.txt", "state", "^Paused")
+    shown.picture("paused")
+    stored = place.client.offset(place.upload("reloaded.txt"))
+    holds(f"{stored} bytes are whole pieces", stored % PIECE == 0 and stored >= 2 * PIECE)
+    shown.end()
+    states = shown.states
+    place.shown = shown = Shown(place.folder, shown.pictures)
+    shown.states = states
+    shown.says("reloaded.txt", "state", "Not finished")
+    shown.choose(place.folder / "reloaded.txt")
+    shown.press("reloaded.txt", "go-on")
+    place.stored("reloaded.txt", sample.text)
+
+
+def at_once(place):
+    """Two files at once, chosen together."""
+    shown, samples = place.shown, {f"{it}.txt": japanese(place.rng, 1_500_000) for it in ("one", "two")}
+    shown.line(SLOW)
+    shown.choose(*(place.file(name, it.data) for name, it in samples.items()))
+    for name in samples:
+        shown.pick(name, "shift_jis")
+        shown.press(name, "send")
+    shown.until("both", f"{' && '.join(f'''part('{it}', 'progress').value > 0''' for it in samples)}")
+    shown.picture("two")
+    shown.line(0)
+    for name, it in samples.items():
+        place.stored(name, it.text)
+
+
+def overtaken(place):
+    """Another client sends a piece of the same upload first (409); then it deletes it (404)."""
+    shown, sample = place.shown, japanese(place.rng, 3_500_000)
+    shown.line(SLOW)
+    place.begin("overtaken.txt", sample.data, "shift_jis")
+    shown.until_sent("overtaken.txt", 0.25)
+    path = place.upload("overtaken.txt")
+    offset = place.client.offset(path)
+    piece = sample.data[offset : offset + 1000]
+    place.client.patch(path, offset, piece)
+    shown.line(0)
+    place.stored("overtaken.txt", sample.text)
+    holds("it was refused with 409", 409 in shown.value("statuses"))
+    shown.line(SLOW)
+    place.begin("gone.txt", sample.data, "shift_jis")
+    shown.until_sent("gone.txt", 0.25)
+    shown.press("gone.txt", "pause")
+    shown.says("gone.txt", "state", "^Paused")
+    place.client.delete(place.upload("gone.txt"))
+    shown.press("gone.txt", "go-on")
+    shown.says("gone.txt", "alert", "The upload is gone")
+    shown.line(0)
+    shown.press("gone.txt", "anew")
+    shown.pick("gone.txt", "shift_jis")
+    shown.press("gone.txt", "send")
+    place.stored("gone.txt", sample.text)
+
+
+def taken_out(place):
+    """The last byte was sent, its reply is lost, and the text was taken out: it is done, and nothing is sent again."""
+    shown = place.shown
+    place.begin("taken.txt", RUSSIAN.encode("cp1251"), "windows-1251")
+    path = shown.finished("taken.txt")
+    lost = "Object.keys(localStorage).forEach(key => { const it = JSON.parse(localStorage[key]); delete it.done;"
+    shown.value(lost + "it.last = true; localStorage[key] = JSON.stringify(it); })")
+    place.client.delete(path)
+    shown.load()
+    shown.says("taken.txt", "verdict", "gone from the server")
+    shown.picture("taken")
+    shown.leave("taken.txt")
+    same("what is remembered", place.uploads(), 0)
+
+
+def renumbered(place):
+    """Under a remembered number there is another upload of the same length: not a byte is sent to it."""
+    shown, sample = place.shown, japanese(place.rng, 2_500_000)
+    shown.line(SLOW)
+    place.begin("number.txt", sample.data, "shift_jis")
+    shown.until_sent("number.txt", 0.25)
+    shown.press("number.txt", "pause")
+    shown.says("number.txt", "state", "^Paused")
+    old, other = place.upload("number.txt"), place.client.create(sample)
+    words = f"(([key, value]) => (localStorage[key.replace('{old}', '{other}')] = value.replace('{old}', '{other}'),"
+    shown.value(words + " localStorage.removeItem(key)))(Object.entries(localStorage)[0])")
+    shown.load()
+    shown.says("number.txt", "alert", "the server now has another upload")
+    same("what the other has, and what is remembered", (place.client.offset(other), place.uploads()), (0, 1))
+    blob = f"new Blob(['a'.repeat({len(sample.data)})])"
+    asked = f"it.send({{url: '{other}', metadata: 'from eA=='}}, {blob}, null, {{}})"
+    words = f"import('./tus.js').then(it => {asked}).catch(error => error.constructor.name)"
+    same("what tus.js says of another one", shown.value(words), "Another")
+    for it in (old, other):
+        place.client.delete(it)
+    shown.line(0)
+    shown.choose(place.folder / "number.txt")
+    shown.pick("number.txt", "shift_jis")
+    shown.press("number.txt", "send")
+    place.stored("number.txt", sample.text)
+
+
+def full(place):
+    """The spool is full (507), at first of texts and then of uploads: once there is room it is gone on with."""
+    shown, sample = place.shown, japanese(place.rng, 3_000_000)
+    filling = Sample("utf-8", b"a" * (BLOCKS - 600) * 4096, b"")
+    path = place.client.create(filling)
+    place.client.patch(path, 0, filling.data)
+    place.begin("full.txt", sample.data, "shift_jis")
+    shown.says("full.txt", "alert", "space for texts is used up")
+    shown.picture("full")
+    place.client.delete(path)
+    shown.press("full.txt", "go-on")
+    place.stored("full.txt", sample.text)
+    paths = [place.client.create(Sample("utf-8", b"a", b"")) for _ in range(SLOTS)]
+    place.begin("slots.txt", sample.data, "shift_jis")
+    shown.says("slots.txt", "alert", "no place for one more upload")
+    for it in paths:
+        place.client.delete(it)
+    shown.press("slots.txt", "go-on")
+    place.stored("slots.txt", sample.text)
+
+
+def changed(place):
+    """A file that has changed isn't gone on with."""
+    shown, sample = place.shown, japanese(place.rng, 3_000_000)
+    shown.line(SLOW)
+    place.begin("changed.txt", sample.data, "shift_jis")
+    shown.until_sent("changed.txt", 0.25)
+    shown.load()
+    shown.says("changed.txt", "state", "Not finished")
+    path = place.upload("changed.txt")
+    shown.press("changed.txt", "again")
+    shown.choose(place.file("changed.txt", b"other " + sample.data))
+    shown.until("two cards", "document.querySelectorAll('article').length === 2")
+    shown.says("changed.txt", "alert", "the file has changed since")
+    shown.picture("changed")
+    shown.line(0)
+    shown.pick("changed.txt", "shift_jis")
+    shown.press("changed.txt", "send")
+    place.stored("changed.txt", b"other " + sample.text)
+    shown.press("changed.txt", "anew")
+    shown.until("no card", "document.querySelectorAll('article').length === 0")
+    holds("the old one is deleted", place.client.is_gone(path))
+    shown.line(SLOW)
+    place.begin("moved.txt", sample.data, "shift_jis")
+    shown.until_sent("moved.txt", 0.25)
+    path = place.upload("moved.txt")
+    place.file("moved.txt", b"other")
+    shown.says("moved.txt", "alert", "has changed or can’t be read")
+    shown.press("moved.txt", "anew")
+    shown.until("no card", "document.querySelectorAll('article').length === 0")
+    holds("what was stored is deleted", place.client.is_gone(path))
+    shown.line(0)
+
+
+def by_keyboard(place):
+    """Without a mouse: from the file's heading to the choice and the end. What is told is told to a screen reader."""
+    shown = place.shown
+    shown.choose(place.file("keys.txt", RUSSIAN.encode("cp1251")))
+    shown.until("choices", "card('keys.txt') && choices('keys.txt').length > 3")
+    shown.until("it is said", "document.getElementById('says').textContent.includes('ways to read it')")
+    same("what has the focus", shown.value("document.activeElement.textContent"), "keys.txt")
+    shown.key("Tab", 9)
+    same("a radio button", shown.value("document.activeElement.type"), "radio")
+    shown.key(" ", 32, " ")
+    same("it is chosen", shown.value("choices('keys.txt').findIndex(it => it.querySelector(':checked'))"), 0)
+    shown.key("Enter", 13, "\r")
+    shown.finished("keys.txt")
+    shown.until("the end is said", "document.getElementById('says').textContent.includes('Uploaded')")
+    same("what has the focus at the end", shown.value("document.activeElement.textContent"), "keys.txt")
+    place.stored("keys.txt", RUSSIAN.encode())
+    unnamed = "[...document.querySelectorAll('input, select')].filter(it => !it.labels.length && !it.ariaLabel).length"
+    same("controls without a label", shown.value(unnamed), 0)
+
+
+def refusals(place):
+    """Each refusal of the table in PROTOCOL.md has a text, and so has each part of the page that is to be filled."""
+    table = (ROOT / "docs/PROTOCOL.md").read_text().partition("## Refusals")[2]
+    numbers = sorted(int(it) for it in re.findall(r"^\| (\d+) \|", table, re.MULTILINE))
+    texts = "import('./texts.js').then(it => Object.keys(it.texts.refusals).map(Number))"
+    same("the refusals that have a text", sorted(place.shown.value(texts)), numbers)
+    empty = "[document, ...[...document.querySelectorAll('template')].map(it => it.content)].flatMap(it =>"
+    empty += " [...it.querySelectorAll('[data-text]')].map(one => one.dataset.text))"
+    names = place.shown.value(f"import('./texts.js').then(it => {empty}.filter(one => !it.texts[one]))")
+    same("texts that aren't there", names, [])
+
+
+def forbidden(place, nginx):
+    """Behind a proxy that forbids reading it says so, and shows what was chosen."""
+    nginx.change("lines.conf", SIZE, FORBIDS + SIZE)
+    shown = place.shown
+    place.begin("forbidden.txt", RUSSIAN.encode("koi8-r"), "koi8-r")
+    shown.says("forbidden.txt", "counts", "forbidden")
+    holds("the lines that were chosen", "Съешь ещё" in shown.shows("forbidden.txt", "stored"))
+    shown.picture("forbidden")
+    same("the link", shown.shows("forbidden.txt", "link"), "")
+    path = "/files/" + shown.value("Object.values(localStorage).map(JSON.parse)[0].url").rpartition("/")[2]
+    same("the text", place.client.text(path), RUSSIAN.encode())
+    shown.press("forbidden.txt", "wrong")
+    shown.says("forbidden.txt", "alert", "couldn’t be deleted")
+    shown.press("forbidden.txt", "leave")
+    place.texts += 1
+
+
+CASES = [each_encoding, few_choices, beyond_the_sample, seen_beforehand, lossy, killed, line_lost, reloaded]
+CASES += [at_once, overtaken, taken_out, renumbered, full, changed, by_keyboard, refusals]
+
+
+def run(place, nginx):
+    place.shown.picture("empty")
+    headers = place.shown.value("fetch(location.href).then(it => it.headers.get('content-security-policy'))")
+    holds(f"the policy: {headers}", "default-src 'self'" in headers)
+    for case in CASES:
+        began = time.monotonic()
+        case(place)
+        place.faultless()
+        print(f"{case.__name__}: {time.monotonic() - began:.1f} s", flush=True)
+    forbidden(place, nginx)
+
+
+def main():
+    words = parser_of(__doc__)
+    words.add_argument("--pictures", type=Path, help="a folder for pictures of the states")
+    words = words.parse_args()
+    if not browser.program() or not has("nginx"):
+        print("page.py: chromium or nginx isn't there, nothing was tried")
+        return
+    rng = rng_of(words.seed, "page")
+    with tempfile.TemporaryDirectory(dir=memory(), ignore_cleanup_errors=True) as room:
+        folder = Path(room)
+        format_spool(words.program, folder / "spool", BLOCKS, indexes_in(folder, words.indexes))
+        lines = (NGINX / "wovelatsa-browsers.conf").read_text()
+        same("where the page is installed", lines.count(INSTALLED), 1)
+        nginx = Nginx(folder / "nginx", lines.replace(INSTALLED, f"{ROOT}/packaging/web/"))
+        place = None
+        gateway = Instance(words.program, folder / "spool", PORTS["a"])
+        try:
+            place = Place(Shown(folder, words.pictures), gateway, folder, rng)
+            run(place, nginx)
+        finally:
+            if place:
+                place.shown.close()
+            nginx.stop()
+            gateway.kill()
+    cases, states = len(CASES) + 1, place.shown.states
+    print(f"{place.texts} texts by the page, in 21 encodings: every one right; {cases} cases, {states} states, each in")
+    print("a wide and a narrow window, without a fault of the page's policy")
+
+
+if __name__ == "__main__":
+    main()
