@@ -51,6 +51,7 @@ fn obey<'a>(rt: &'a HostRuntime, order: Order<'a>) -> Result<u8, Failure<'a>> {
             blocks,
             indexes,
             overwrite,
+            standard: _,
         } => {
             let made = format_file(rt, alloc, spool, blocks, indexes, overwrite)?;
             report_formatted(&mut io::writer(rt), blocks, made.pages)?;
@@ -71,13 +72,16 @@ fn obey<'a>(rt: &'a HostRuntime, order: Order<'a>) -> Result<u8, Failure<'a>> {
         Order::List { spool, long } => list_file(rt, alloc, spool, long)?,
         Order::Json { spool } => json_file(rt, alloc, spool)?,
         Order::Delete { spool, numbers } => delete_file(rt, alloc, spool, &numbers)?,
-        Order::DeleteIncomplete { spool, yes } => delete_incomplete_file(rt, alloc, spool, yes)?,
+        Order::DeleteIncomplete { spool, but, yes } => {
+            delete_incomplete_file(rt, alloc, spool, &but, yes)?
+        }
         Order::Export { spool, folder, all } => export_file(rt, alloc, spool, folder, all)?,
         Order::Text {
             from,
             to,
             mode,
             indexes,
+            strict: _,
         } => text_file(rt, alloc, from, to, mode, indexes)?,
         Order::Upgrade { spool } => {
             upgrade_file(rt, alloc, spool)?;
