@@ -51,9 +51,9 @@ fn obey<'a>(rt: &'a HostRuntime, order: Order<'a>) -> Result<u8, Failure<'a>> {
             blocks,
             indexes,
             overwrite,
-            standard: _,
+            standard,
         } => {
-            let made = format_file(rt, alloc, spool, blocks, indexes, overwrite)?;
+            let made = format_file(rt, alloc, spool, blocks, indexes, overwrite, standard)?;
             report_formatted(&mut io::writer(rt), blocks, made.pages)?;
             // If standard error can't be written, neither the index files nor the file's length are reported.
             drop(report_read(&mut rt.stderr(), made.files.as_slice()));

@@ -91,6 +91,8 @@ pub enum Advice<'a> {
     InUse(&'a str),
     /// The index file of this name in this folder isn't of the form.
     IndexFile(&'a str, &'static str),
+    /// Some of the index files of this folder aren't the standard's.
+    OtherIndexes(&'a str),
     /// Some of the numbers that were to be deleted have no upload.
     Undeleted,
     /// The number of blocks is out of range.
@@ -140,8 +142,15 @@ impl fmt::Display for Advice<'_> {
                 f,
                 "{folder}/{name} is damaged, or no index file: fetch it again from encoding.spec.whatwg.org"
             ),
+            Advice::OtherIndexes(folder) => write!(
+                f,
+                "{folder} hasn't the standard's 18 index files, and no spool was made: take those of \
+                /usr/share/wovelatsa/indexes or encoding.spec.whatwg.org"
+            ),
             Advice::Undeleted => {
-                f.write_str("all others are deleted; `gateway list` prints the numbers that there are")
+                f.write_str(
+                    "all others are deleted; `gateway list` prints the numbers that there are",
+                )
             }
             Advice::Blocks => f.write_str("the number of blocks is 16 to 65536"),
             Advice::Differs(folder) => write!(
