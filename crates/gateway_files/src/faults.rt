@@ -52,6 +52,8 @@ pub enum Fault {
     /// This character has no code in the encoding that is written, in the mode `fatal`; an earlier call met it, if none
     /// is here.
     Unencodable(Option<char>),
+    /// The text has U+FFFD that the bytes hadn't, which it may not have.
+    Lossy,
 }
 
 impl fmt::Display for Fault {
@@ -111,6 +113,7 @@ impl Fault {
             Fault::CannotOpen => (39, "CannotOpen"),
             Fault::NotEmpty => (40, "NotEmpty"),
             Fault::OtherIndexes => (41, "OtherIndexes"),
+            Fault::Lossy => (42, "Lossy"),
         })
     }
 
