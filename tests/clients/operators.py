@@ -4,25 +4,30 @@
     python3 tests/clients/operators.py --indexes DIR [--program PATH] [--seed N]
 
 DIR has the standard's index files. `format` is given them whole, and then with one of them empty, of some lines, cut
-within a line, or missing: it says how many entries it read, warns of each file that isn't whole, and a spool made after
-a warning does spoil a text, while one made of whole files doesn't. `text` says how often the text has U+FFFD, for
-random bytes in every encoding; it names the label, the mode or the index file that it was refused for, and the place of
-a character without a code. `list` says what is free, names the texts with U+FFFD and the file names, and `--json` says
-the same as the records in the spool's bytes. `format` makes a spool of a file that isn't there or has nothing but
-zeros, and of any other that is none only with `--overwrite`; where there is no room it leaves no new file. `delete
---incomplete` prints what it would delete, and deletes exactly that with `--yes`. tools/read-spool lists a copy and
-gives its texts as the program does, and of a damaged one what is left. Each refusal of a command has its status, its
-line, and a second line that says what to do. While a gateway serves a spool each command by hand is told that it is in
-use, and after it is ended the spool can be had at once. The log's line of a minute has what is left in the spool. It
-takes a minute.
+within a line, missing, under another's name, or with two entries exchanged: it says how many entries it read, warns of
+each file that isn't the standard's, and a spool made after a warning does spoil a text, while one made of the
+standard's doesn't. With `--standard-indexes` it makes none of other files. The standard's digests in the program's
+source are those of the files in DIR. `list` says the same of the spools that were made. `text` says how often the text
+has U+FFFD, for random bytes in every encoding, and with `--strict` refuses one that has it more often than the bytes;
+it names the label, the mode or the index file that it was refused for, and the place of a character without a code.
+`list` says what is free, names the texts with U+FFFD and the file names, and `--json` says the same as the records in
+the spool's bytes. `format` makes a spool of a file that isn't there or has nothing but zeros, and of any other that is
+none only with `--overwrite`; where there is no room it leaves no new file. `delete --incomplete` prints what it would
+delete, and deletes exactly that with `--yes`, and never what `--but` names. tools/read-spool lists a copy and gives its
+texts as the program does, and of a damaged one what is left. Each refusal of a command has its status, its line, and a
+second line that says what to do. While a gateway serves a spool each command by hand is told that it is in use, and
+after it is ended the spool can be had at once. The log's line of a minute has what is left in the spool. It takes a
+minute.
 """
 
+import hashlib
 import json
 import re
 import resource
 import shutil
 import signal
 import socket
+import struct
 import subprocess
 import tempfile
 import time
@@ -74,6 +79,28 @@ def is_whole(name, count):
     return count == STANDARD.get(name, 128)
 
 
+def exchanged(entries, at):
+    """The entries, with the code points of two of them exchanged."""
+    (first, one), (second, other) = (entries[it].split(b"\t", 1) for it in (at - 1, at))
+    return [*entries[: at - 1], first + b"\t" + other, second + b"\t" + one, *entries[at + 1 :]]
+
+
+def digest_of(file):
+    """The digest of an index file's entries, by pointer."""
+    entries = (line.split("\t") for line in file.read_text().splitlines() if line.strip() and line[0] != "#")
+    pairs = sorted((int(it[0]), int(it[1], 16)) for it in entries)
+    return hashlib.sha256(b"".join(struct.pack(">II", *pair) for pair in pairs)).hexdigest()
+
+
+def try_digests(folder):
+    """The digests in the source, each after the name of its file, are those of the standard's files."""
+    source = (ROOT / "crates/gateway_files/src/digests.rt").read_text()
+    told = re.findall(r"/// Of (index-.*\.txt)\.\n.* = \[([^]]*)\];", source)
+    got = {name: "".join(re.findall("0x(..)", digits)).lower() for name, digits in told}
+    same("the digests", got, {it.name: digest_of(it) for it in folder.glob("index-*.txt")})
+    return len(got)
+
+
 def index_cases(folder, rng):
     """Folders with index files of which one isn't whole, or isn't there: the folder, the file, and its entries."""
     for name in ["jis0208", "jis0212", "iso-2022-jp-katakana", "koi8-r", "windows-1255"]:
@@ -85,6 +112,7 @@ def index_cases(folder, rng):
         cases = {"empty": (b"", 0), "begun": (b"".join(entries[:some]), some), "missing": (None, None)}
         # cut after the first digit of the code point of an entry
         cases["cut"] = (b"".join(entries[:some]) + entries[some].partition(b"\t0x")[0] + b"\t0x3", some + 1)
+        cases["exchanged"] = (b"".join(exchanged(entries, some)), len(entries))
         for case, (data, count) in cases.items():
             place = folder / f"{name}-{case}"
             shutil.copytree(folder / "idx", place)
@@ -102,6 +130,9 @@ def try_indexes(program, rng):
     counts = dict(re.findall(r"^index-(.*)\.txt: (\d+) entries$", said, re.M))
     same("what is said of whole files", (len(lines), len(counts)), (19, 18))
     holds("a whole file isn't", all(is_whole(name, int(count)) for name, count in counts.items()))
+    same("the digests", try_digests(program.folder / "idx"), 18)
+    same("with the standard's alone", program.does("format", "strict", *STRICT, "--indexes", "idx"), (out, said))
+    same("what `list` says of it", program.does("list", "strict")[1].count("\n"), 1)
     met = 0
     for place, name, count in index_cases(program.folder, rng):
         spool = program.folder / f"{place.name}.spool"
@@ -110,12 +141,18 @@ def try_indexes(program, rng):
         lines = [it for it in said.splitlines() if not it.startswith("index")]
         if count is None:
             same("what isn't there", lines, [f"not offered: {label_of(name)}, since index-{name}.txt isn't there"])
+            lines = [f"not offered: {label_of(name)}, since the spool has no index-{name}.txt"]
         else:
-            first = f"WARNING: index-{name}.txt isn't whole: it has {count} entries, and the standard's "
-            same("the warning", lines[0], f"{first}{STANDARD.get(name, 128)}")
+            same("the warning", lines[0], warning_of(name, count))
             holds("no second warning", lines[1].startswith(f"WARNING: texts in {label_of(name)} will be spoiled"))
             same("how many warnings", len(lines), 2)
+        same("what `list` says of it", program.does("list", spool)[1].splitlines()[1:], lines)
+        doubts = {"missing": [], "other": [], "missing" if count is None else "other": [f"index-{name}.txt"]}
+        last = program.does("list", spool, "--json")[0].splitlines()[-1]
+        same("the last line of JSON", json.loads(last), {"indexes": doubts})
+        refuses_others(program, place, said)
         met += 1
+    met += try_another(program)
     made = program.folder / "none"
     made.mkdir()
     _, said = program.does("format", "bare", "--blocks", BLOCKS, "--indexes", made)
@@ -123,6 +160,37 @@ def try_indexes(program, rng):
     spoils(program, "whole", False)
     spoils(program, "jis0208-begun.spool", True)
     return met + 2
+
+
+STRICT = ["--blocks", BLOCKS, "--standard-indexes"]
+
+
+def warning_of(name, count):
+    """What is said first of an index file that isn't the standard's."""
+    if is_whole(name, count):
+        return f"WARNING: index-{name}.txt isn't the standard's: other entries, though as many ({count})"
+    first = f"WARNING: index-{name}.txt isn't whole: it has {count} entries, and the standard's "
+    return f"{first}{STANDARD.get(name, 128)}"
+
+
+def refuses_others(program, place, said):
+    """No spool is made of other files than the standard's, where they have to be, and the files are told of."""
+    ran = program.run("format", "other", *STRICT, "--indexes", place)
+    same("the status of other files", (ran.returncode, ran.stdout), (2, b""))
+    first, advice = f"{said}refused: 41 OtherIndexes\n", f"{place} hasn't the standard's 18 index files, and no spool"
+    holds(f"what is said of {place}: {ran.stderr!r}", ran.stderr.decode().startswith(first + advice))
+    holds("a spool was made", not (program.folder / "other").exists())
+
+
+def try_another(program):
+    """Another single-byte encoding's file under a name is told, though it has as many entries."""
+    place = program.folder / "another"
+    shutil.copytree(program.folder / "idx", place)
+    shutil.copyfile(place / "index-windows-1251.txt", place / "index-koi8-r.txt")
+    _, said = program.does("format", "another.spool", "--blocks", BLOCKS, "--indexes", place)
+    same("the warning", [it for it in said.splitlines() if "WARNING" in it][0], warning_of("koi8-r", 128))
+    refuses_others(program, place, said)
+    return 1
 
 
 def label_of(name):
@@ -154,7 +222,7 @@ def try_texts(program, rng):
         data = random_bytes(rng, rng.randrange(20_000))
         text, said = program.does("text", "--from", label, "--indexes", "idx", given=data)
         same(f"what is said of {label}", said, f"U+FFFD in the text: {text.decode().count(LOST)}\n")
-        tried += 1
+        tried += try_strict(program, label, data)
     data = b"a\xff" * 5000 + "\u20ac".encode()
     text, said = program.does("text", "--from", "utf-8", "--to", "koi8-r", "--indexes", "idx", given=data)
     same("references for U+FFFD", said, f"U+FFFD in the text: {text.count(b'&#65533;')}\n")
@@ -173,6 +241,35 @@ def try_texts(program, rng):
     lacks = ["text", "--indexes", "jis0208-missing", "--from", "sjis"]
     program.refuses(2, bad, "jis0208-missing lacks an index file that sjis needs", *lacks)
     return tried
+
+
+def try_strict(program, label, data):
+    """With `--strict` the same is written, and then refused if the text has U+FFFD that the bytes hadn't."""
+    words, lossy = ["text", "--from", label, "--indexes", "idx", "--strict"], "refused: 42 Lossy"
+    given = [data.replace(b"\xff", b"\xef\xbf\xbd"), "a\ufffdb\ufffd".encode(), b"\xff\xfe\xfd\xff"]
+    given += [b"\xfe\xff\xff\xfd", "\ufeffa\ufffd".encode(), "\ufeffa\ufffd".encode() + b"\xff"]
+    given += ["a\ufffd".encode("utf-16-le"), b"letter"]
+    for data in given:
+        text, said = program.does(*words[:-1], given=data)
+        had, lost = marks_in(label, data), text.decode().count(LOST)
+        if lost > had:
+            advice = f"U+FFFD is in the text {lost} times, and was in its bytes {had} times"
+            ran = program.run(*words, given=data)
+            same(f"the status of {label}, {data[:99]}", (ran.returncode, ran.stdout), (2, text))
+            holds(f"what is said: {ran.stderr!r}", ran.stderr.decode().startswith(f"{said}{lossy}\n{advice}"))
+        else:
+            same(f"what was kept of {label}, {data[:99]}", program.does(*words, given=data), (text, said))
+    return len(given)
+
+
+def marks_in(label, data):
+    """How often bytes have U+FFFD itself, by the encoding in effect."""
+    marks = {b"\xef\xbb\xbf": "utf-8", b"\xfe\xff": "utf-16be", b"\xff\xfe": "utf-16le"}
+    label = next((it for mark, it in marks.items() if data.startswith(mark)), label).lower()
+    if label == "utf-8":
+        return data.count(b"\xef\xbf\xbd")
+    units = [data[at : at + 2] for at in range(0, len(data), 2)]
+    return units.count({"utf-16be": b"\xff\xfd", "utf-16le": b"\xfd\xff"}.get(label))
 
 
 # Each upload: its bytes, its length (None: not known), its label, and its file name.
@@ -212,7 +309,9 @@ def try_lists(program):
         holds(f"{shown!r} after {line!r}", shown.startswith(line))
         same("a name", re.findall(r" \(filename: (.*)\)$", shown), [names[number]] if number in names else [])
     out, _ = program.does("list", "listed", "--json")
-    for line, record, given in zip(out.decode().splitlines(), records, UPLOADS, strict=True):
+    *lines, last = out.decode().splitlines()
+    same("what is in doubt", json.loads(last), {"indexes": {"missing": [], "other": []}})
+    for line, record, given in zip(lines, records, UPLOADS, strict=True):
         got = json.loads(line)
         declared = given[1]
         wanted = {"number": record.number, "accepted": len(given[0]), "declared": declared, "text": record.length,
@@ -261,11 +360,20 @@ def try_deletions(program):
     same("what would be deleted", out.decode(), "would delete 2\nwould delete 3\n")
     same("what is said then", said, "nothing was deleted: --yes deletes them\n")
     same("the uploads then", program.does("list", "deleted")[0], listed)
+    out, said = program.does("delete", "deleted", "--incomplete", "--but", 7, 3, 2, "--yes")
+    same("where all are kept", (out, said), (b"", "nothing to delete\n"))
+    out, said = program.does("delete", "deleted", "--incomplete", "--but", 3, 1)
+    same("what would be deleted but one", (out.decode(), said.count("\n")), ("would delete 2\n", 1))
+    same("the uploads still", program.does("list", "deleted")[0], listed)
+    out, _ = program.does("delete", "deleted", "--incomplete", "--but=3", "--yes")
+    same("what was deleted but one", out.decode(), "deleted 2\n")
     out, _ = program.does("delete", "deleted", "--incomplete", "--yes")
-    same("what was deleted", out.decode(), "deleted 2\ndeleted 3\n")
+    same("what was deleted", out.decode(), "deleted 3\n")
     left = [line for line in listed.decode().splitlines(keepends=True) if line[0] not in "23"]
     same("what is left", program.does("list", "deleted")[0].decode(), "".join(left))
-    same("nothing more", program.does("delete", "deleted", "--incomplete")[0], b"")
+    for words in [], ["--yes"], ["--but", 1]:
+        gave = program.does("delete", "deleted", "--incomplete", *words)
+        same("nothing more", gave, (b"", "nothing to delete\n"))
     full = ["open 1", *(line for _ in range(512) for line in post(1, 9, "utf-8"))]
     program.made("full", *full)
     program.does("delete", "full", "--incomplete", "--yes")

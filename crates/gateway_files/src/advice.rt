@@ -91,6 +91,8 @@ pub enum Advice<'a> {
     InUse(&'a str),
     /// The index file of this name in this folder isn't of the form.
     IndexFile(&'a str, &'static str),
+    /// Some of the index files of this folder aren't the standard's.
+    OtherIndexes(&'a str),
     /// Some of the numbers that were to be deleted have no upload.
     Undeleted,
     /// The number of blocks is out of range.
@@ -140,6 +142,11 @@ impl fmt::Display for Advice<'_> {
                 f,
                 "{folder}/{name} is damaged, or no index file: fetch it again from encoding.spec.whatwg.org"
             ),
+            Advice::OtherIndexes(folder) => write!(
+                f,
+                "{folder} hasn't the standard's 18 index files, and no spool was made: take those of \
+                /usr/share/wovelatsa/indexes or encoding.spec.whatwg.org"
+            ),
             Advice::Undeleted => {
                 f.write_str(
                     "all others are deleted; `gateway list` prints the numbers that there are",
@@ -167,6 +174,8 @@ pub enum TextAdvice<'a> {
     NoIndex(&'a str, &'a str),
     /// The encoding that this label names lacks this character. So many bytes were written before it.
     Lacks(&'a str, Option<char>, u64),
+    /// The text that was written has U+FFFD so often, and its bytes had it so often.
+    Lossy { losses: u64, given: u64 },
 }
 
 impl fmt::Display for TextAdvice<'_> {
@@ -189,6 +198,10 @@ impl fmt::Display for TextAdvice<'_> {
             TextAdvice::Lacks(label, None, bytes) => write!(
                 f,
                 "{label} lacks a character, after the {bytes} bytes that were written: --mode html writes its number"
+            ),
+            TextAdvice::Lossy { losses, given } => write!(
+                f,
+                "U+FFFD is in the text {losses} times, and was in its bytes {given} times: see whether --from is right"
             ),
         }
     }

@@ -43,6 +43,8 @@ pub enum Fault {
     CannotOpen,
     /// The file that is to become a spool has bytes, and is none.
     NotEmpty,
+    /// Index files that aren't the standard's, though they have to be.
+    OtherIndexes,
     /// A number that no upload has.
     NoSuch,
     /// A label or a mode that isn't known, or an encoding whose index files aren't there.
@@ -50,6 +52,8 @@ pub enum Fault {
     /// This character has no code in the encoding that is written, in the mode `fatal`; an earlier call met it, if none
     /// is here.
     Unencodable(Option<char>),
+    /// The text has U+FFFD that the bytes hadn't, which it may not have.
+    Lossy,
 }
 
 impl fmt::Display for Fault {
@@ -108,6 +112,8 @@ impl Fault {
             Fault::InUse => (38, "InUse"),
             Fault::CannotOpen => (39, "CannotOpen"),
             Fault::NotEmpty => (40, "NotEmpty"),
+            Fault::OtherIndexes => (41, "OtherIndexes"),
+            Fault::Lossy => (42, "Lossy"),
         })
     }
 
