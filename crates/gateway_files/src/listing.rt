@@ -48,7 +48,11 @@ pub fn list_file<'a>(
     let (disk, survey) = list_in(alloc, &mut SystemFiles::new(rt), &mut output, spool, long)?;
     // If standard error can't be written, this isn't reported.
     drop(report_free(&mut rt.stderr(), &survey));
-    report_spool(rt, alloc, spool, disk, long)
+    drop(report_indexes(&mut rt.stderr(), &survey.indexes));
+    if long {
+        report_losses_first(rt, alloc, spool, disk)?;
+    }
+    Ok(())
 }
 
 /// Writes a line for each upload of the spool in the file at this path, as `list_on` does, and surveys the spool. The
@@ -82,26 +86,18 @@ pub fn list_in<'a, F: SpoolFiles, W: Write>(
     }
 }
 
-// Prints on standard error what is to be known of a spool's indexes, and, if `long`, which texts have U+FFFD, and how
-// often.
-fn report_spool<'a>(
+// Prints on standard error which texts have U+FFFD, and how often.
+fn report_losses_first<'a>(
     rt: &HostRuntime,
     alloc: Global,
     spool: &'a str,
     disk: FileDisk,
-    long: bool,
 ) -> Result<(), Failure<'a>> {
     let mut uploads = match Spool::open(alloc, disk) {
         Ok(uploads) => uploads,
         Err((disk, fault)) => return Err(refused_spool(Fault::from(fault), spool, disk)),
     };
-    // If standard error can't be written, this isn't reported.
-    drop(report_indexes(&mut rt.stderr(), uploads.indexes()));
-    let reported = if long {
-        report_all_losses(&mut rt.stderr(), &mut uploads)
-    } else {
-        Ok(())
-    };
+    let reported = report_all_losses(&mut rt.stderr(), &mut uploads);
     let disk = uploads.into_disk();
     match reported {
         // If standard error can't be written, this isn't reported.

@@ -31,10 +31,19 @@ impl fmt::Display for InSpool {
     }
 }
 
-/// Prints which indexes a set hasn't, and which aren't the standard's.
-pub fn report_indexes<W: Write>(writer: &mut W, set: &IndexSet) -> io::Result<()> {
-    for (name, kind) in FILES.iter() {
-        let file = IndexFile::new(name, *kind, Found::of_set(set, *kind));
+/// What a set has of each index, in the order of a spool's index area.
+pub(crate) fn found_in(set: &IndexSet) -> [Found; 18] {
+    let mut found = [Found::Missing; 18];
+    for (place, (_, kind)) in found.iter_mut().zip(FILES.iter()) {
+        *place = Found::of_set(set, *kind);
+    }
+    found
+}
+
+/// Prints which indexes a spool hasn't, and which aren't the standard's, by what was found of each.
+pub fn report_indexes<W: Write>(writer: &mut W, found: &[Found]) -> io::Result<()> {
+    for ((name, kind), found) in FILES.iter().zip(found) {
+        let file = IndexFile::new(name, *kind, *found);
         write!(writer, "{}", InSpool(file))?;
     }
     Ok(())
