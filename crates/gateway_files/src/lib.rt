@@ -58,7 +58,7 @@ pub use reports::{
     report_up, report_upgraded,
 };
 pub use spool_files::{SpoolFiles, SystemFiles, open_in, open_spool, refused_in, refused_spool};
-pub use spool_indexes::{InSpool, report_indexes};
+pub use spool_indexes::{InSpool, found_in, report_indexes};
 pub use streams::Noted;
 pub use surveying::{Survey, Used, open_surveyed, used_of};
 pub use tables::{Kept, Table, entries_of};

@@ -32,7 +32,7 @@ impl fmt::Display for InSpool {
 }
 
 /// What a set has of each index, in the order of a spool's index area.
-pub(crate) fn found_in(set: &IndexSet) -> [Found; 18] {
+pub fn found_in(set: &IndexSet) -> [Found; 18] {
     let mut found = [Found::Missing; 18];
     for (place, (_, kind)) in found.iter_mut().zip(FILES.iter()) {
         *place = Found::of_set(set, *kind);

@@ -7,8 +7,8 @@ use enc_index::{Index, IndexSet, Kind};
 use enc_model::{Encoding, Mode};
 use gateway_files::{
     Conversion, Fault, Found, Given, Tally, Used, conversion_of, delete_on, digest_of, entries_of,
-    incomplete_on, is_standard, list_on, report_indexes, standard_digest, standard_entries,
-    text_on, used_of,
+    found_in, incomplete_on, is_standard, list_on, report_indexes, standard_digest,
+    standard_entries, text_on, used_of,
 };
 use spool_disk::MemoryDisk;
 use std::alloc::Global;
@@ -126,7 +126,7 @@ fn index_is_told_from_the_standards(rt: HostRuntime) {
     assert_eq!(rt; Found::of_set(&set, Kind::Katakana), Found::Other(2));
     assert_eq!(rt; Found::of_set(&set, Kind::Jis0212), Found::Missing);
     let mut lines = Vec::new(rt.alloc());
-    report_indexes(&mut lines, &set).expect(&rt, "lines");
+    report_indexes(&mut lines, &found_in(&set)).expect(&rt, "lines");
     assert!(rt; lines.starts_with(INDEXES));
 }
 
