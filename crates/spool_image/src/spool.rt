@@ -15,6 +15,7 @@ ghost use Rattle.spool_load.specs.Refusals.{IsNoSpool, HasOtherVersion, IsDamage
 ghost use Rattle.spool_image.specs.LeftOnly.{AllShow, IsSpool, LeftOrShows};
 ghost use Rattle.spool_image.specs.Opening.{OpensBy, ReadsBy, ReadsSame, Unwritten};
 
+use common::Stop;
 use enc_index::IndexSet;
 use spool_catalog::{Catalog, OpenFault};
 use spool_disk::Disk;
