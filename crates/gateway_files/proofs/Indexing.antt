@@ -1,6 +1,6 @@
 -- Index files that are read one after the other, and their table at worked examples.
-use Rattle.std.proofs.Common.{◌≡◌, ◌∙◌, ◌+◌, ◌++◌, ◌<◌, ◌≤◌, ℕ, Bor, List, [], ◌∷◌, ap, ap₂, codes, drop, get_or, length, map, refl}
-use Rattle.std.proofs.Common.{sym, take}
+use Rattle.std.proofs.Common.{◌≡◌, ◌∙◌, ◌+◌, ◌++◌, ◌<◌, ◌≤◌, ℕ, Bor, List, [], ◌∷◌, ap, ap₂, codes, drop, get_or}
+use Rattle.std.proofs.Common.{length, map, refl, sym, take}
 use Rattle.std.proofs.lemmas.List.{at_drop_more, at_drop_all, map-append, take_more}
 use Rattle.enc_model.specs.Indexes.{IndexSet}
 use Rattle.enc_index.specs.declared.kind.Kind.{Kind}
