@@ -52,6 +52,15 @@ export class Card {
         this.parts.title.focus();
     }
 
+    /** Shows another state: a focus that was in the card stays there, and none is taken from elsewhere. */
+    turns(shows) {
+        const here = this.element.contains(document.activeElement);
+        shows();
+        if (here) {
+            this.focus();
+        }
+    }
+
     leave() {
         if (this.upload) {
             forget(this.upload);
@@ -144,7 +153,10 @@ export class Card {
 
     /** Goes on with an upload that was begun. */
     run() {
-        return this.under((signal) => this.sends(signal));
+        return this.under((signal) => {
+            this.tell(texts.asking, "pause");
+            return this.sends(signal);
+        });
     }
 
     async sends(signal) {
@@ -158,6 +170,9 @@ export class Card {
 
     /** Does something that a pause may end, and says why it stopped where it did. */
     async under(does) {
+        if (this.running) {
+            return;
+        }
         this.running = new AbortController();
         this.alert("");
         put(this.parts["course-label"], texts.begun(this.made?.from ?? this.upload.from, this.stores));
@@ -168,7 +183,7 @@ export class Card {
             this.focus();
             await done;
         } catch (error) {
-            this.stop(error, signal.aborted);
+            this.turns(() => this.stop(error, signal.aborted));
         } finally {
             this.running = null;
         }
@@ -274,8 +289,8 @@ export class Card {
 
     /** Takes the file of a remembered upload: its lines are shown once more before it is gone on with. */
     async take(file) {
-        this.file = file;
         if (this.gone) {
+            this.file = file;
             return this.startAnew();
         }
         try {
@@ -284,6 +299,7 @@ export class Card {
         } catch {
             return this.alert(texts.unreadable);
         }
+        this.file = file;
         this.alert("");
         this.tell(texts.stopped(this.upload.offset, this.upload.size), "go-on", "giveUp");
         this.parts.anew.textContent = texts.otherLabel;
@@ -321,11 +337,10 @@ export class Card {
         this.upload.done = outcome;
         this.remember();
         if (outcome === "complete") {
-            this.tell(texts.reads);
+            this.turns(() => this.tell(texts.reads));
             await this.read();
         }
-        this.showEnd();
-        this.focus();
+        this.turns(() => this.showEnd());
     }
 
     /** Reads the stored text back, as far as the server lets. */
@@ -354,7 +369,7 @@ export class Card {
         showLines(parts.stored, lines ?? []);
         put(parts.link, upload.done === "taken" || isForbidden(upload.unread) ? "" : texts.link(this.name));
         parts.link.href = upload.url;
-        parts.wrong.hidden = !this.file || upload.done === "taken";
+        parts.wrong.hidden = upload.done === "taken";
         this.says(parts.verdict.textContent);
     }
 

@@ -370,6 +370,11 @@ def reloaded(place):
     shown.says("reloaded.txt", "state", "Not finished")
     shown.choose(place.folder / "reloaded.txt")
     shown.press("reloaded.txt", "go-on")
+    shown.value("part('reloaded.txt', 'go-on').click()")
+    shown.finished("reloaded.txt")
+    same("refusals, where “Go on” was pressed twice", [it for it in shown.value("statuses") if it > 299], [])
+    shown.load()
+    shown.says("reloaded.txt", "counts", "characters, and no U")
     place.stored("reloaded.txt", sample.text)
 
 
@@ -383,7 +388,11 @@ def at_once(place):
         shown.press(name, "send")
     shown.until("both", f"{' && '.join(f'''part('{it}', 'progress').value > 0''' for it in samples)}")
     shown.picture("two")
+    shown.value("part('two.txt', 'pause').focus()")
     shown.line(0)
+    shown.finished("one.txt")
+    focused = "document.activeElement.closest('article').ariaLabel"
+    same("which card has the focus while the other one ends", shown.value(focused), "two.txt")
     for name, it in samples.items():
         place.stored(name, it.text)
 
