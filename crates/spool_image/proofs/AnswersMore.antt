@@ -7,11 +7,11 @@ use Rattle.common.specs.declared.stop.Stop as errors
 use Rattle.common.specs.declared.stop.Stop.TheVariants.{NoMemory, DiskFault}
 use Rattle.upload_rules.specs.declared.errors.UploadRefusal.{UploadRefusal}
 
-pub does_more : {T : Type 0} (r : Result T errors.Stop) {done done' : T → Type 0} {same : Type 0}
+pub does_more : {T : Type 0} (r : Result T errors.Stop) {done done' : T → Type 0} (same : Type 0)
     → ((t : T) → done t → done' t) → DoesOrStops r done same → DoesOrStops r done' same
-does_more (Ok t) ok a = ok t a
-does_more (Err NoMemory) ok a = a
-does_more (Err DiskFault) ok a = a
+does_more (Ok t) same ok a = ok t a
+does_more (Err NoMemory) same ok a = a
+does_more (Err DiskFault) same ok a = a
 
 -- an answer, with more claims about what was done under a premise
 pub answers_known : {T K : Type 0} (refusal : Option UploadRefusal) (r : Result T UploadError)

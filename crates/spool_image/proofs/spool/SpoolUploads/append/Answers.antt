@@ -6,7 +6,7 @@ use Rattle.spool_image.proofs.spool.SpoolUploads.append.Goals as goal
 
 pub returns-clause-answer : goal.returns-clause-answer
 returns-clause-answer g c sure w p represents there holds fits =
-    does_more c.append.result (λ done after. (tt, after)) (c.append.ensures.answer sure w p represents there fits)
+    does_more c.append.result _ (λ done after. (tt, after)) (c.append.ensures.answer sure w p represents there fits)
 
 pub returns-clause-crash : goal.returns-clause-crash
 returns-clause-crash g c w p represents there holds =
