@@ -96,56 +96,15 @@ fn convert_input<'a>(
 ) -> Result<(), Failure<'a>>
     requires { IsOutput conversion.to }
 {
-    let Converted {
-        written,
-        unread,
-        unwritten,
-        marks,
-        losses,
-        bytes,
-    } = convert(alloc, set, conversion, rt.reader(), rt.stdout());
-    match written {
-        Ok(()) => report_text(rt, losses, marks, strict),
-        Err(fault) => Err(refused_input(fault, to, bytes, unread, unwritten)),
-    }
-}
-
-/// How a conversion ended: why a stream failed, if it did, how often the bytes had U+FFFD and the text has it, and how
-/// many bytes were written.
-#[derive(Drop)]
-struct Converted {
-    written: Result<(), Fault>,
-    unread: Option<io::Error>,
-    unwritten: Option<io::Error>,
-    marks: u64,
-    losses: u64,
-    bytes: u64,
-}
-
-// Converts all that a reader has.
-fn convert<R: Read + Drop, W: Write + Drop>(
-    alloc: Global,
-    set: &IndexSet,
-    conversion: Conversion,
-    reader: R,
-    writer: W,
-) -> Converted
-    requires { IsOutput conversion.to }
-{
-    let mut input = Noted::new(Given::new(reader, conversion.from));
-    let mut output = Noted::new(Tally::new(writer, conversion.to));
+    let mut input = Noted::new(Given::new(rt.reader(), conversion.from));
+    let mut output = Noted::new(Tally::new(rt.stdout(), conversion.to));
     let written = text_on(alloc, set, conversion, &mut input, &mut output);
-    let unread = input.error();
-    let unwritten = output.error();
-    let given = input.into_stream();
+    let (unread, unwritten) = (input.error(), output.error());
+    let given = input.into_stream().count();
     let tally = output.into_stream();
-    Converted {
-        written,
-        unread,
-        unwritten,
-        marks: given.count(),
-        losses: tally.losses(),
-        bytes: tally.bytes(),
+    match written {
+        Ok(()) => report_text(rt, tally.losses(), given, strict),
+        Err(fault) => Err(refused_input(fault, to, tally.bytes(), unread, unwritten)),
     }
 }
 
