@@ -82,65 +82,27 @@ pub fn text_file<'a>(
             return Err(refused_text(Fault::BadLabel, TextAdvice::NoIndex(folder, label)));
         }
     }
-    convert_input(rt, alloc, &set, conversion, to, strict)
-}
-
-// Converts standard input to standard output. `to` is the label that the conversion's encoding was named by.
-fn convert_input<'a>(
-    rt: &HostRuntime,
-    alloc: Global,
-    set: &IndexSet,
-    conversion: Conversion,
-    to: &'a str,
-    strict: bool,
-) -> Result<(), Failure<'a>>
-    requires { IsOutput conversion.to }
-{
     let mut input = Noted::new(Given::new(rt.reader(), conversion.from));
     let mut output = Noted::new(Tally::new(rt.stdout(), conversion.to));
-    let written = text_on(alloc, set, conversion, &mut input, &mut output);
+    let written = text_on(alloc, &set, conversion, &mut input, &mut output);
     let (unread, unwritten) = (input.error(), output.error());
-    let given = input.into_stream().count();
-    let tally = output.into_stream();
+    let (given, tally) = (input.into_stream().count(), output.into_stream());
     match written {
-        Ok(()) => report_text(rt, tally.losses(), given, strict),
-        Err(fault) => Err(refused_input(fault, to, tally.bytes(), unread, unwritten)),
-    }
-}
-
-// Why the conversion ended, after so many bytes were written: a character without a code, or what the streams said.
-fn refused_input<'a>(
-    fault: Fault,
-    to: &'a str,
-    bytes: u64,
-    unread: Option<io::Error>,
-    unwritten: Option<io::Error>,
-) -> Failure<'a>
-    ensures { fault_in result ≡ fault }
-{
-    match fault {
-        Fault::Unencodable(character) => {
-            refused_text(fault, TextAdvice::Lacks(to, character, bytes))
+        Ok(()) => {
+            // If standard error can't be written, the count isn't reported.
+            drop(report_losses(&mut rt.stderr(), tally.losses()));
+            if strict {
+                refuse_losses(tally.losses(), given)
+            } else {
+                Ok(())
+            }
         }
-        _ => Failure::on_streams(fault, unread, unwritten),
+        Err(Fault::Unencodable(character)) => {
+            let advice = TextAdvice::Lacks(to, character, tally.bytes());
+            Err(refused_text(Fault::Unencodable(character), advice))
+        }
+        Err(fault) => Err(Failure::on_streams(fault, unread, unwritten)),
     }
-}
-
-// Reports how often a text has U+FFFD. If `strict`, it is refused where its bytes had it less often.
-fn report_text<'a>(
-    rt: &HostRuntime,
-    losses: u64,
-    given: u64,
-    strict: bool,
-) -> Result<(), Failure<'a>>
-    ensures { strict ≡ true → IsOk result → losses ≤ given }
-{
-    // If standard error can't be written, the count isn't reported.
-    drop(report_losses(&mut rt.stderr(), losses));
-    if strict {
-        return refuse_losses(losses, given);
-    }
-    Ok(())
 }
 
 // Refuses a text that has U+FFFD more often than its bytes had it.
