@@ -81,7 +81,6 @@ fn obey<'a>(rt: &'a HostRuntime, order: Order<'a>) -> Result<u8, Failure<'a>> {
             to,
             mode,
             indexes,
-            strict: _,
         } => text_file(rt, alloc, from, to, mode, indexes)?,
         Order::Upgrade { spool } => {
             upgrade_file(rt, alloc, spool)?;
