@@ -8,7 +8,7 @@ within a line, missing, under another's name, or with two entries exchanged: it 
 each file that isn't the standard's, and a spool made after a warning does spoil a text, while one made of the
 standard's doesn't. With `--standard-indexes` it makes none of other files. The standard's digests in the program's
 source are those of the files in DIR. `list` says the same of the spools that were made. `text` says how often the text
-has U+FFFD, for random bytes in every encoding, and with `--strict` refuses one that has it more often than the bytes;
+has U+FFFD, for random bytes in every encoding;
 it names the label, the mode or the index file that it was refused for, and the place of a character without a code.
 `list` says what is free, names the texts with U+FFFD and the file names, and `--json` says the same as the records in
 the spool's bytes. `format` makes a spool of a file that isn't there or has nothing but zeros, and of any other that is
@@ -222,7 +222,7 @@ def try_texts(program, rng):
         data = random_bytes(rng, rng.randrange(20_000))
         text, said = program.does("text", "--from", label, "--indexes", "idx", given=data)
         same(f"what is said of {label}", said, f"U+FFFD in the text: {text.decode().count(LOST)}\n")
-        tried += try_strict(program, label, data)
+        tried += 1
     data = b"a\xff" * 5000 + "\u20ac".encode()
     text, said = program.does("text", "--from", "utf-8", "--to", "koi8-r", "--indexes", "idx", given=data)
     same("references for U+FFFD", said, f"U+FFFD in the text: {text.count(b'&#65533;')}\n")
@@ -241,35 +241,6 @@ def try_texts(program, rng):
     lacks = ["text", "--indexes", "jis0208-missing", "--from", "sjis"]
     program.refuses(2, bad, "jis0208-missing lacks an index file that sjis needs", *lacks)
     return tried
-
-
-def try_strict(program, label, data):
-    """With `--strict` the same is written, and then refused if the text has U+FFFD that the bytes hadn't."""
-    words, lossy = ["text", "--from", label, "--indexes", "idx", "--strict"], "refused: 42 Lossy"
-    given = [data.replace(b"\xff", b"\xef\xbf\xbd"), "a\ufffdb\ufffd".encode(), b"\xff\xfe\xfd\xff"]
-    given += [b"\xfe\xff\xff\xfd", "\ufeffa\ufffd".encode(), "\ufeffa\ufffd".encode() + b"\xff"]
-    given += ["a\ufffd".encode("utf-16-le"), b"letter"]
-    for data in given:
-        text, said = program.does(*words[:-1], given=data)
-        had, lost = marks_in(label, data), text.decode().count(LOST)
-        if lost > had:
-            advice = f"U+FFFD is in the text {lost} times, and was in its bytes {had} times"
-            ran = program.run(*words, given=data)
-            same(f"the status of {label}, {data[:99]}", (ran.returncode, ran.stdout), (2, text))
-            holds(f"what is said: {ran.stderr!r}", ran.stderr.decode().startswith(f"{said}{lossy}\n{advice}"))
-        else:
-            same(f"what was kept of {label}, {data[:99]}", program.does(*words, given=data), (text, said))
-    return len(given)
-
-
-def marks_in(label, data):
-    """How often bytes have U+FFFD itself, by the encoding in effect."""
-    marks = {b"\xef\xbb\xbf": "utf-8", b"\xfe\xff": "utf-16be", b"\xff\xfe": "utf-16le"}
-    label = next((it for mark, it in marks.items() if data.startswith(mark)), label).lower()
-    if label == "utf-8":
-        return data.count(b"\xef\xbf\xbd")
-    units = [data[at : at + 2] for at in range(0, len(data), 2)]
-    return units.count({"utf-16be": b"\xff\xfd", "utf-16le": b"\xfd\xff"}.get(label))
 
 
 # Each upload: its bytes, its length (None: not known), its label, and its file name.

@@ -81,8 +81,7 @@ fn obey<'a>(rt: &'a HostRuntime, order: Order<'a>) -> Result<u8, Failure<'a>> {
             to,
             mode,
             indexes,
-            strict,
-        } => text_file(rt, alloc, from, to, mode, indexes, strict)?,
+        } => text_file(rt, alloc, from, to, mode, indexes)?,
         Order::Upgrade { spool } => {
             upgrade_file(rt, alloc, spool)?;
             report_upgraded(&mut io::writer(rt))?;

@@ -1,7 +1,6 @@
 -- Readers and writers that store something of what their calls gave.
 use Rattle.std.specs.Prelude.{Option}
 use Rattle.std.specs.declared.io.Error.{Error}
-use Rattle.gateway_files.specs.declared.given.Given.{Given}
 use Rattle.gateway_files.specs.declared.losses.Tally.{Tally}
 use Rattle.gateway_files.specs.declared.streams.Noted.{Noted}
 
@@ -15,6 +14,3 @@ latest_error_of noted = noted.error
 -- the stream under one that counts
 abbrev pub tallied : {S : Type 0} → Tally S → S
 tallied tally = tally.stream
-
-abbrev pub given_stream : {S : Type 0} → Given S → S
-given_stream given = given.stream

@@ -174,8 +174,6 @@ pub enum TextAdvice<'a> {
     NoIndex(&'a str, &'a str),
     /// The encoding that this label names lacks this character. So many bytes were written before it.
     Lacks(&'a str, Option<char>, u64),
-    /// The text that was written has U+FFFD so often, and its bytes had it so often.
-    Lossy { losses: u64, given: u64 },
 }
 
 impl fmt::Display for TextAdvice<'_> {
@@ -198,10 +196,6 @@ impl fmt::Display for TextAdvice<'_> {
             TextAdvice::Lacks(label, None, bytes) => write!(
                 f,
                 "{label} lacks a character, after the {bytes} bytes that were written: --mode html writes its number"
-            ),
-            TextAdvice::Lossy { losses, given } => write!(
-                f,
-                "U+FFFD is in the text {losses} times, and was in its bytes {given} times: see whether --from is right"
             ),
         }
     }

@@ -52,8 +52,6 @@ pub enum Fault {
     /// This character has no code in the encoding that is written, in the mode `fatal`; an earlier call met it, if none
     /// is here.
     Unencodable(Option<char>),
-    /// The text has U+FFFD that the bytes hadn't, which it may not have.
-    Lossy,
 }
 
 impl fmt::Display for Fault {
@@ -113,7 +111,6 @@ impl Fault {
             Fault::CannotOpen => (39, "CannotOpen"),
             Fault::NotEmpty => (40, "NotEmpty"),
             Fault::OtherIndexes => (41, "OtherIndexes"),
-            Fault::Lossy => (42, "Lossy"),
         })
     }
 

@@ -1,19 +1,17 @@
 //! Input as the text of an upload.
-ghost use Rattle.std.specs.Prelude.{◌≡◌, ◌↔◌, ◌<◌, ◌≤◌, [], true, false, IfErr, IfOk, IfSome, IsOk, OnOk, length};
-ghost use Rattle.std.specs.Prelude.{option_map, take};
+ghost use Rattle.std.specs.Prelude.{◌≡◌, ◌<◌, ◌≤◌, [], true, false, IfErr, IfOk, IfSome, OnOk, length, option_map};
+ghost use Rattle.std.specs.Prelude.{take};
 ghost use Rattle.std.specs.Io.KnownBytes.{Consumes, IsAtEnd};
 ghost use Rattle.enc_labels.specs.Labels.{encoding_of};
 ghost use Rattle.enc_model.specs.Indexes.{tables};
 ghost use Rattle.enc_stream.specs.TranscoderState.{IsOutput};
 ghost use Rattle.tus_request.specs.Metadata.{choice_with, mode_of};
-ghost use Rattle.gateway_files.specs.declared.faults.Fault.{Fault};
 ghost use Rattle.gateway_files.specs.Failures.{fault_in};
 ghost use Rattle.gateway_files.specs.Transcoding.{CopiesOn, EndsOn, IsConverted, IsTextFault, choice_in};
 
 use crate::advice::{Advice, TextAdvice};
 use crate::failures::Failure;
 use crate::faults::Fault;
-use crate::given::Given;
 use crate::index_files::{IndexFiles, read_indexes};
 use crate::losses::Tally;
 use crate::reports::report_losses;
@@ -61,9 +59,7 @@ pub fn conversion_of(from: &str, to: &str, mode: &str) -> Option<Conversion>
 
 /// Writes what an upload of standard input with these labels and this mode would be stored as, by the index files of a
 /// folder. On standard error it writes how often the text has U+FFFD. `BadLabel` where an upload with them is refused
-/// so. With `strict`, `Lossy` after all was written, where the text has U+FFFD more often than the bytes had it; it is
-/// only tested when. A reference `&#65533;` that bytes of another encoding had as text counts in the text, and not
-/// among these.
+/// so.
 pub fn text_file<'a>(
     rt: &HostRuntime,
     alloc: Global,
@@ -71,7 +67,6 @@ pub fn text_file<'a>(
     to: &'a str,
     mode: &'a str,
     folder: &'a str,
-    strict: bool,
 ) -> Result<(), Failure<'a>> {
     let Some(conversion) = conversion_of(from, to, mode) else {
         return Err(refused_text(Fault::BadLabel, what_is_unknown(from, to, mode)));
@@ -82,76 +77,24 @@ pub fn text_file<'a>(
             return Err(refused_text(Fault::BadLabel, TextAdvice::NoIndex(folder, label)));
         }
     }
-    convert_input(rt, alloc, &set, conversion, to, strict)
-}
-
-// Converts standard input to standard output. `to` is the label that the conversion's encoding was named by.
-fn convert_input<'a>(
-    rt: &HostRuntime,
-    alloc: Global,
-    set: &IndexSet,
-    conversion: Conversion,
-    to: &'a str,
-    strict: bool,
-) -> Result<(), Failure<'a>>
-    requires { IsOutput conversion.to }
-{
-    let mut input = Noted::new(Given::new(rt.reader(), conversion.from));
+    let mut input = Noted::new(rt.reader());
     let mut output = Noted::new(Tally::new(rt.stdout(), conversion.to));
-    let written = text_on(alloc, set, conversion, &mut input, &mut output);
-    let (unread, unwritten) = (input.error(), output.error());
-    let given = input.into_stream().count();
+    let written = text_on(alloc, &set, conversion, &mut input, &mut output);
+    let error = output.error();
     let tally = output.into_stream();
     match written {
-        Ok(()) => report_text(rt, tally.losses(), given, strict),
-        Err(fault) => Err(refused_input(fault, to, tally.bytes(), unread, unwritten)),
-    }
-}
-
-// Why the conversion ended, after so many bytes were written: a character without a code, or what the streams said.
-fn refused_input<'a>(
-    fault: Fault,
-    to: &'a str,
-    bytes: u64,
-    unread: Option<io::Error>,
-    unwritten: Option<io::Error>,
-) -> Failure<'a>
-    ensures { fault_in result ≡ fault }
-{
-    match fault {
-        Fault::Unencodable(character) => {
-            refused_text(fault, TextAdvice::Lacks(to, character, bytes))
+        Ok(()) => {
+            // If standard error can't be written, the count isn't reported.
+            let reported = report_losses(&mut rt.stderr(), tally.losses());
+            drop(reported);
+            Ok(())
         }
-        _ => Failure::on_streams(fault, unread, unwritten),
+        Err(Fault::Unencodable(character)) => {
+            let advice = TextAdvice::Lacks(to, character, tally.bytes());
+            Err(refused_text(Fault::Unencodable(character), advice))
+        }
+        Err(fault) => Err(Failure::on_streams(fault, input.error(), error)),
     }
-}
-
-// Reports how often a text has U+FFFD. If `strict`, it is refused where its bytes had it less often.
-fn report_text<'a>(
-    rt: &HostRuntime,
-    losses: u64,
-    given: u64,
-    strict: bool,
-) -> Result<(), Failure<'a>>
-    ensures { strict ≡ true → IsOk result → losses ≤ given }
-{
-    // If standard error can't be written, the count isn't reported.
-    drop(report_losses(&mut rt.stderr(), losses));
-    if strict {
-        return refuse_losses(losses, given);
-    }
-    Ok(())
-}
-
-// Refuses a text that has U+FFFD more often than its bytes had it.
-fn refuse_losses<'a>(losses: u64, given: u64) -> Result<(), Failure<'a>>
-    ensures none { IsOk result ↔ losses ≤ given }
-    ensures fault { IfErr result (λ failure. fault_in failure ≡ Fault.Lossy) }
-{
-    if losses <= given {
-        return Ok(());
-    }
-    Err(refused_text(Fault::Lossy, TextAdvice::Lossy { losses, given }))
 }
 
 fn refused_text<'a>(fault: Fault, advice: TextAdvice<'a>) -> Failure<'a>

@@ -36,10 +36,9 @@ IsOrder name given (DeleteIncomplete spool but sure) = (name ≡ codes "delete")
     × HasFlag given (codes "yes") sure
 IsOrder name given (Export spool folder all) = (name ≡ codes "export") × HasArgument given (codes "SPOOL") spool.now
     × HasArgument given (codes "DIR") folder.now × HasFlag given (codes "all") all
-IsOrder name given (orders.Text from to mode indexes strict) = (name ≡ codes "text")
+IsOrder name given (orders.Text from to mode indexes) = (name ≡ codes "text")
     × HasArgument given (codes "from") from.now × HasArgument given (codes "to") to.now
     × HasArgument given (codes "mode") mode.now × HasArgument given (codes "indexes") indexes.now
-    × HasFlag given (codes "strict") strict
 IsOrder name given (Upgrade spool) = (name ≡ codes "upgrade") × HasArgument given (codes "SPOOL") spool.now
 
 -- THE ORDER OF A COMMAND LINE: that of the command which clap's walk over the words enters, with what it gives for each

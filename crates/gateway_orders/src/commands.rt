@@ -221,11 +221,6 @@ static COMMANDS: [Described; 9] = [
                 help: "For a character that `--to` lacks: `html` writes its number, `fatal` refuses",
             },
             INDEXES,
-            Given {
-                name: "strict",
-                with: With::Nothing,
-                help: "Ends with status 2 where the text has U+FFFD that the bytes hadn't",
-            },
         ],
     },
     Described {

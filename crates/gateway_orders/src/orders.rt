@@ -66,13 +66,12 @@ pub enum Order<'a> {
         all: bool,
     },
     /// Writes standard input as an upload with these labels and this mode would be stored, with the index files of this
-    /// folder. With `strict`, a text with U+FFFD that the bytes hadn't is a fault at the end.
+    /// folder.
     Text {
         from: &'a str,
         to: &'a str,
         mode: &'a str,
         indexes: &'a str,
-        strict: bool,
     },
     /// Upgrades the spool at this path to version 2.
     Upgrade {
@@ -277,7 +276,6 @@ fn text_order<'a>(given: &ArgMatches<'a>) -> Option<Order<'a>>
         to: given.get_str("to")?,
         mode: given.get_str("mode")?,
         indexes: given.get_str("indexes")?,
-        strict: given.get_flag("strict"),
     })
 }
 

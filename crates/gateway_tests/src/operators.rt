@@ -6,13 +6,13 @@ use crate::talks::{Talk, fresh};
 use enc_index::{Index, IndexSet, Kind};
 use enc_model::{Encoding, Mode};
 use gateway_files::{
-    Conversion, Fault, Found, Given, Tally, Used, conversion_of, delete_on, digest_of, entries_of,
+    Conversion, Fault, Found, Tally, Used, conversion_of, delete_on, digest_of, entries_of,
     found_in, incomplete_on, is_standard, list_on, report_indexes, standard_digest,
     standard_entries, text_on, used_of,
 };
 use spool_disk::MemoryDisk;
 use std::alloc::Global;
-use std::io::{self, Read, Write};
+use std::io::{self, Write};
 use std::process::Abort;
 
 /// Three uploads: a partial one, a complete one, and one of unknown length.
@@ -137,43 +137,6 @@ const INDEXES: &[u8] =
     WARNING: index-iso-2022-jp-katakana.txt isn't whole: it has 2 entries, and the standard's 63\n\
     WARNING: texts in ISO-2022-JP will be spoiled for good: make the spool again, with the standard's file\n\
     not offered: IBM866, since the spool has no index-ibm866.txt\n";
-
-/// Each row: the encoding of bytes by their label, the bytes, and how often they have U+FFFD.
-static GIVEN: [(Encoding, &[u8], u64); 9] = [
-    (
-        Encoding::Utf8,
-        b"a\xEF\xBF\xBDb\xFF\xEF\xEF\xBF\xBD\xEF\xBF",
-        2,
-    ),
-    (Encoding::Utf8, b"\xEF\xBF\xBD", 1),
-    (
-        Encoding::Koi8R,
-        b"\xEF\xBF\xBD\xFF\xFD\xEF\xBF\xBD&#65533;",
-        0,
-    ),
-    (Encoding::Koi8R, b"\xEF\xBB\xBFa\xEF\xBF\xBD", 1),
-    (Encoding::Utf8, b"\xFE\xFF\xFF\xFD\x00\xFF\xFD\x00", 1),
-    (
-        Encoding::ShiftJis,
-        b"\xFF\xFE\xFD\xFF\xFD\xFF\xEF\xBF\xBD\x00",
-        2,
-    ),
-    (Encoding::Utf16Be, b"\xFF\xFD\xFD\xFF", 1),
-    (Encoding::Utf16Le, b"\xFF\xFD\xFD\xFF", 1),
-    (Encoding::Utf8, b"", 0),
-];
-
-#[test]
-fn what_bytes_have_is_counted(rt: HostRuntime) {
-    for (from, bytes, count) in GIVEN.iter() {
-        let mut given = Given::new(*bytes, *from);
-        let mut piece = [0; 3];
-        for _ in 0..20u8 {
-            given.read(&mut piece).expect(&rt, "a piece");
-        }
-        assert_eq!(rt; given.count(), *count, "{bytes:?}");
-    }
-}
 
 /// Each row: the encoding of a text, its pieces, and how often it has the sign of lost bytes.
 static SIGNS: [(Encoding, &[&[u8]], u64); 6] = [
