@@ -364,6 +364,14 @@ def try_refusals(program):
     cases = [("refused: 13 AlreadySpool", "whole is a spool, and stays as it is", "format", "whole", *formats)]
     cases += [("refused: 14 Size", "16 to 65536", "format", "new", "--blocks", 8, "--indexes", "idx")]
     cases += [("refused: 35 AlreadyNew", "whole is of version 2", "upgrade", "whole")]
+    for name, line, refusal in ("form", b"0\tx\n", "3 Line"), ("twice", b"0\t0xA0\n0\t0xA0\n", "5 Twice"):
+        shutil.copytree(folder / "idx", folder / name)
+        (folder / name / "index-koi8-r.txt").write_bytes(line)
+        told, made = f"refused: {refusal} index-koi8-r.txt {line.count(b'0x') or 1}", ["--blocks", BLOCKS]
+        cases += [(told, f"{name}/index-koi8-r.txt is damaged", "format", "new", *made, "--indexes", name)]
+    nowhere = ["format", "new", "--blocks", BLOCKS, "--indexes", "nowhere"]
+    cases += [("refused: 33 Io", "The standard's index files are in /usr/share/wovelatsa/indexes", *nowhere)]
+    cases += [("refused: 8 NoSuch", "`gateway list` prints the numbers that there are", "delete", "deleted", 99)]
     cases += [("refused: 39 CannotOpen", "No such file or directory", "format", "no/where", *formats)]
     for word, *more in ["list"], ["upgrade"], ["script"], ["delete", 1], ["export", "idx"], ["up"], ["list", "--json"]:
         cases += [("refused: 39 CannotOpen", "cannot open the spool mistyped: No such file", word, "mistyped", *more)]
