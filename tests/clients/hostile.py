@@ -298,7 +298,8 @@ def try_in_use(program, folder):
         for word, *more in ["list"], ["script"], ["upgrade"], ["serve", *serve], ["format", *formats]:
             words = [program.path, word, str(spool), *more]
             ran = subprocess.run(words, input="open 1\n", capture_output=True, text=True, timeout=60)
-            said = f"refused: 38 InUse\n{spool} is in use: stop the gateway that serves it\n"
+            advice = f"stop the gateway that serves it (`fuser {spool}` prints its process)"
+            said = f"refused: 38 InUse\n{spool} is in use: {advice}\n"
             same(f"{word} beside a server", (ran.returncode, ran.stdout, ran.stderr), (2, "", said))
     finally:
         server.kill()

@@ -4,25 +4,30 @@
     python3 tests/clients/operators.py --indexes DIR [--program PATH] [--seed N]
 
 DIR has the standard's index files. `format` is given them whole, and then with one of them empty, of some lines, cut
-within a line, or missing: it says how many entries it read, warns of each file that isn't whole, and a spool made after
-a warning does spoil a text, while one made of whole files doesn't. `text` says how often the text has U+FFFD, for
-random bytes in every encoding; it names the label, the mode or the index file that it was refused for, and the place of
-a character without a code. `list` says what is free, names the texts with U+FFFD and the file names, and `--json` says
-the same as the records in the spool's bytes. `format` makes a spool of a file that isn't there or has nothing but
-zeros, and of any other that is none only with `--overwrite`; where there is no room it leaves no new file. `delete
---incomplete` prints what it would delete, and deletes exactly that with `--yes`. tools/read-spool lists a copy and
-gives its texts as the program does, and of a damaged one what is left. Each refusal of a command has its status, its
-line, and a second line that says what to do. While a gateway serves a spool each command by hand is told that it is in
-use, and after it is ended the spool can be had at once. The log's line of a minute has what is left in the spool. It
-takes a minute.
+within a line, missing, under another's name, or with two entries exchanged: it says how many entries it read, warns of
+each file that isn't the standard's, and a spool made after a warning does spoil a text, while one made of the
+standard's doesn't. With `--standard-indexes` it makes none of other files. The standard's digests in the program's
+source are those of the files in DIR. `list` says the same of the spools that were made. `text` says how often the text
+has U+FFFD, for random bytes in every encoding;
+it names the label, the mode or the index file that it was refused for, and the place of a character without a code.
+`list` says what is free, names the texts with U+FFFD and the file names, and `--json` says the same as the records in
+the spool's bytes. `format` makes a spool of a file that isn't there or has nothing but zeros, and of any other that is
+none only with `--overwrite`; where there is no room it leaves no new file. `delete --incomplete` prints what it would
+delete, and deletes exactly that with `--yes`, and never what `--but` names. tools/read-spool lists a copy and gives its
+texts as the program does, and of a damaged one what is left. Each refusal of a command has its status, its line, and a
+second line that says what to do. While a gateway serves a spool each command by hand is told that it is in use, and
+after it is ended the spool can be had at once. The log's line of a minute has what is left in the spool. It takes a
+minute.
 """
 
+import hashlib
 import json
 import re
 import resource
 import shutil
 import signal
 import socket
+import struct
 import subprocess
 import tempfile
 import time
@@ -74,6 +79,28 @@ def is_whole(name, count):
     return count == STANDARD.get(name, 128)
 
 
+def exchanged(entries, at):
+    """The entries, with the code points of two of them exchanged."""
+    (first, one), (second, other) = (entries[it].split(b"\t", 1) for it in (at - 1, at))
+    return [*entries[: at - 1], first + b"\t" + other, second + b"\t" + one, *entries[at + 1 :]]
+
+
+def digest_of(file):
+    """The digest of an index file's entries, by pointer."""
+    entries = (line.split("\t") for line in file.read_text().splitlines() if line.strip() and line[0] != "#")
+    pairs = sorted((int(it[0]), int(it[1], 16)) for it in entries)
+    return hashlib.sha256(b"".join(struct.pack(">II", *pair) for pair in pairs)).hexdigest()
+
+
+def try_digests(folder):
+    """The digests in the source, each after the name of its file, are those of the standard's files."""
+    source = (ROOT / "crates/gateway_files/src/digests.rt").read_text()
+    told = re.findall(r"/// Of (index-.*\.txt)\.\n.* = \[([^]]*)\];", source)
+    got = {name: "".join(re.findall("0x(..)", digits)).lower() for name, digits in told}
+    same("the digests", got, {it.name: digest_of(it) for it in folder.glob("index-*.txt")})
+    return len(got)
+
+
 def index_cases(folder, rng):
     """Folders with index files of which one isn't whole, or isn't there: the folder, the file, and its entries."""
     for name in ["jis0208", "jis0212", "iso-2022-jp-katakana", "koi8-r", "windows-1255"]:
@@ -85,6 +112,7 @@ def index_cases(folder, rng):
         cases = {"empty": (b"", 0), "begun": (b"".join(entries[:some]), some), "missing": (None, None)}
         # cut after the first digit of the code point of an entry
         cases["cut"] = (b"".join(entries[:some]) + entries[some].partition(b"\t0x")[0] + b"\t0x3", some + 1)
+        cases["exchanged"] = (b"".join(exchanged(entries, some)), len(entries))
         for case, (data, count) in cases.items():
             place = folder / f"{name}-{case}"
             shutil.copytree(folder / "idx", place)
@@ -102,6 +130,9 @@ def try_indexes(program, rng):
     counts = dict(re.findall(r"^index-(.*)\.txt: (\d+) entries$", said, re.M))
     same("what is said of whole files", (len(lines), len(counts)), (19, 18))
     holds("a whole file isn't", all(is_whole(name, int(count)) for name, count in counts.items()))
+    same("the digests", try_digests(program.folder / "idx"), 18)
+    same("with the standard's alone", program.does("format", "strict", *STRICT, "--indexes", "idx"), (out, said))
+    same("what `list` says of it", program.does("list", "strict")[1].count("\n"), 1)
     met = 0
     for place, name, count in index_cases(program.folder, rng):
         spool = program.folder / f"{place.name}.spool"
@@ -110,12 +141,18 @@ def try_indexes(program, rng):
         lines = [it for it in said.splitlines() if not it.startswith("index")]
         if count is None:
             same("what isn't there", lines, [f"not offered: {label_of(name)}, since index-{name}.txt isn't there"])
+            lines = [f"not offered: {label_of(name)}, since the spool has no index-{name}.txt"]
         else:
-            first = f"WARNING: index-{name}.txt isn't whole: it has {count} entries, and the standard's "
-            same("the warning", lines[0], f"{first}{STANDARD.get(name, 128)}")
+            same("the warning", lines[0], warning_of(name, count))
             holds("no second warning", lines[1].startswith(f"WARNING: texts in {label_of(name)} will be spoiled"))
             same("how many warnings", len(lines), 2)
+        same("what `list` says of it", program.does("list", spool)[1].splitlines()[1:], lines)
+        doubts = {"missing": [], "other": [], "missing" if count is None else "other": [f"index-{name}.txt"]}
+        last = program.does("list", spool, "--json")[0].splitlines()[-1]
+        same("the last line of JSON", json.loads(last), {"indexes": doubts})
+        refuses_others(program, place, said)
         met += 1
+    met += try_another(program)
     made = program.folder / "none"
     made.mkdir()
     _, said = program.does("format", "bare", "--blocks", BLOCKS, "--indexes", made)
@@ -123,6 +160,37 @@ def try_indexes(program, rng):
     spoils(program, "whole", False)
     spoils(program, "jis0208-begun.spool", True)
     return met + 2
+
+
+STRICT = ["--blocks", BLOCKS, "--standard-indexes"]
+
+
+def warning_of(name, count):
+    """What is said first of an index file that isn't the standard's."""
+    if is_whole(name, count):
+        return f"WARNING: index-{name}.txt isn't the standard's: other entries, though as many ({count})"
+    first = f"WARNING: index-{name}.txt isn't whole: it has {count} entries, and the standard's "
+    return f"{first}{STANDARD.get(name, 128)}"
+
+
+def refuses_others(program, place, said):
+    """No spool is made of other files than the standard's, where they have to be, and the files are told of."""
+    ran = program.run("format", "other", *STRICT, "--indexes", place)
+    same("the status of other files", (ran.returncode, ran.stdout), (2, b""))
+    first, advice = f"{said}refused: 41 OtherIndexes\n", f"{place} hasn't the standard's 18 index files, and no spool"
+    holds(f"what is said of {place}: {ran.stderr!r}", ran.stderr.decode().startswith(first + advice))
+    holds("a spool was made", not (program.folder / "other").exists())
+
+
+def try_another(program):
+    """Another single-byte encoding's file under a name is told, though it has as many entries."""
+    place = program.folder / "another"
+    shutil.copytree(program.folder / "idx", place)
+    shutil.copyfile(place / "index-windows-1251.txt", place / "index-koi8-r.txt")
+    _, said = program.does("format", "another.spool", "--blocks", BLOCKS, "--indexes", place)
+    same("the warning", [it for it in said.splitlines() if "WARNING" in it][0], warning_of("koi8-r", 128))
+    refuses_others(program, place, said)
+    return 1
 
 
 def label_of(name):
@@ -212,7 +280,9 @@ def try_lists(program):
         holds(f"{shown!r} after {line!r}", shown.startswith(line))
         same("a name", re.findall(r" \(filename: (.*)\)$", shown), [names[number]] if number in names else [])
     out, _ = program.does("list", "listed", "--json")
-    for line, record, given in zip(out.decode().splitlines(), records, UPLOADS, strict=True):
+    *lines, last = out.decode().splitlines()
+    same("what is in doubt", json.loads(last), {"indexes": {"missing": [], "other": []}})
+    for line, record, given in zip(lines, records, UPLOADS, strict=True):
         got = json.loads(line)
         declared = given[1]
         wanted = {"number": record.number, "accepted": len(given[0]), "declared": declared, "text": record.length,
@@ -261,11 +331,20 @@ def try_deletions(program):
     same("what would be deleted", out.decode(), "would delete 2\nwould delete 3\n")
     same("what is said then", said, "nothing was deleted: --yes deletes them\n")
     same("the uploads then", program.does("list", "deleted")[0], listed)
+    out, said = program.does("delete", "deleted", "--incomplete", "--but", 7, 3, 2, "--yes")
+    same("where all are kept", (out, said), (b"", "nothing to delete\n"))
+    out, said = program.does("delete", "deleted", "--incomplete", "--but", 3, 1)
+    same("what would be deleted but one", (out.decode(), said.count("\n")), ("would delete 2\n", 1))
+    same("the uploads still", program.does("list", "deleted")[0], listed)
+    out, _ = program.does("delete", "deleted", "--incomplete", "--but=3", "--yes")
+    same("what was deleted but one", out.decode(), "deleted 2\n")
     out, _ = program.does("delete", "deleted", "--incomplete", "--yes")
-    same("what was deleted", out.decode(), "deleted 2\ndeleted 3\n")
+    same("what was deleted", out.decode(), "deleted 3\n")
     left = [line for line in listed.decode().splitlines(keepends=True) if line[0] not in "23"]
     same("what is left", program.does("list", "deleted")[0].decode(), "".join(left))
-    same("nothing more", program.does("delete", "deleted", "--incomplete")[0], b"")
+    for words in [], ["--yes"], ["--but", 1]:
+        gave = program.does("delete", "deleted", "--incomplete", *words)
+        same("nothing more", gave, (b"", "nothing to delete\n"))
     full = ["open 1", *(line for _ in range(512) for line in post(1, 9, "utf-8"))]
     program.made("full", *full)
     program.does("delete", "full", "--incomplete", "--yes")
@@ -285,6 +364,14 @@ def try_refusals(program):
     cases = [("refused: 13 AlreadySpool", "whole is a spool, and stays as it is", "format", "whole", *formats)]
     cases += [("refused: 14 Size", "16 to 65536", "format", "new", "--blocks", 8, "--indexes", "idx")]
     cases += [("refused: 35 AlreadyNew", "whole is of version 2", "upgrade", "whole")]
+    for name, line, refusal in ("form", b"0\tx\n", "3 Line"), ("twice", b"0\t0xA0\n0\t0xA0\n", "5 Twice"):
+        shutil.copytree(folder / "idx", folder / name)
+        (folder / name / "index-koi8-r.txt").write_bytes(line)
+        told, made = f"refused: {refusal} index-koi8-r.txt {line.count(b'0x') or 1}", ["--blocks", BLOCKS]
+        cases += [(told, f"{name}/index-koi8-r.txt is damaged", "format", "new", *made, "--indexes", name)]
+    nowhere = ["format", "new", "--blocks", BLOCKS, "--indexes", "nowhere"]
+    cases += [("refused: 33 Io", "The standard's index files are in /usr/share/wovelatsa/indexes", *nowhere)]
+    cases += [("refused: 8 NoSuch", "`gateway list` prints the numbers that there are", "delete", "deleted", 99)]
     cases += [("refused: 39 CannotOpen", "No such file or directory", "format", "no/where", *formats)]
     for word, *more in ["list"], ["upgrade"], ["script"], ["delete", 1], ["export", "idx"], ["up"], ["list", "--json"]:
         cases += [("refused: 39 CannotOpen", "cannot open the spool mistyped: No such file", word, "mistyped", *more)]
@@ -293,7 +380,7 @@ def try_refusals(program):
         cases += [("refused: 15 NotASpool", "short begins as a spool, but is cut short", word, "short", *more)]
         cases += [("refused: 16 Version", "later is of another version", word, "later", *more)]
         if word != "upgrade":  # which finds first that there is nothing to do
-            cases += [("refused: 2 Damaged", "torn is damaged: go back to a copy", word, "torn", *more)]
+            cases += [("refused: 2 Damaged", "torn is damaged: go back to another copy", word, "torn", *more)]
     for refusal, advice, *words in cases:
         program.refuses(2, refusal, advice, *words)
     same("a spool that was refused", (folder / "whole").read_bytes(), whole)

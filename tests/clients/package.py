@@ -310,7 +310,7 @@ def logged(gateway, path, text):
 def in_use(gateway):
     """While another process has its spool, its command line is refused, and that process goes on."""
     other = Service(gateway.debian, gateway.name, gateway.unit)
-    refused(other, "38 InUse", "{} is in use: stop the gateway that serves it")
+    refused(other, "38 InUse", "{0} is in use: stop the gateway that serves it (`fuser {0}` prints its process)")
     same("the status of the one that has it", gateway.process.poll(), None)
 
 

@@ -9,3 +9,4 @@ pub mod Refusals
 pub mod Rows
 pub mod Shifts
 pub mod Singles
+pub mod StillOpen

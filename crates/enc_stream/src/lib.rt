@@ -5,6 +5,7 @@
 mod decoder;
 mod error;
 mod numbers;
+mod open;
 mod progress;
 mod sniff;
 mod stage;
@@ -12,6 +13,8 @@ mod states;
 mod transcoder;
 mod written;
 
+pub use enc_encode::EncodeError;
 pub use error::TranscodeError;
+pub use open::OpenTranscoder;
 pub use progress::Progress;
 pub use transcoder::Transcoder;

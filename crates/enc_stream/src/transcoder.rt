@@ -182,7 +182,7 @@ impl Transcoder {
     }
 
     /// Whether it takes no more bytes.
-    fn is_done(&self) -> bool
+    pub(crate) fn is_done(&self) -> bool
         ensures { result ≡ is_done self.now }
     {
         matches!(self.stage, Stage::Over | Stage::Spent)

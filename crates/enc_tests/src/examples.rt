@@ -3,7 +3,7 @@
 use crate::sets::set_of;
 use enc_index::{IndexSet, Kind};
 use enc_model::{Encoding, Mode};
-use enc_stream::{Progress, TranscodeError, Transcoder};
+use enc_stream::{EncodeError, OpenTranscoder, Progress, TranscodeError, Transcoder};
 use std::alloc::Global;
 use std::process::Abort;
 use std::test::Fail;
@@ -42,6 +42,21 @@ fn example_of_progress(rt: HostRuntime) -> Result<(), Fail> {
     transcoder.finish(&set, &mut out)?;
     assert_eq!(rt; transcoder.progress(), Progress::Ended);
     Ok(())
+}
+
+#[test]
+fn example_of_open_transcoder(rt: HostRuntime) {
+    let (rt, alloc) = (&rt, rt.alloc());
+    let set = small_set(rt, alloc);
+    let mut out = Vec::new(alloc);
+    let new = Transcoder::new(Encoding::Utf8, Encoding::ShiftJis, Mode::Fatal);
+    let open = OpenTranscoder::of(new).expect(rt, "a new one");
+    let refused = open.fed(&set, "\u{1F600}".as_bytes(), &mut out);
+    assert!(rt; matches!(refused, Err(EncodeError::Unencodable('\u{1F600}'))));
+    let next = open.fed(&set, b"a", &mut out).expect(rt, "it has a code");
+    let end = next.ended(&set, &mut out).expect(rt, "no memory is needed");
+    assert!(rt; out.as_slice() == b"a".as_slice() && next.pack() == next.copy().pack());
+    assert!(rt; OpenTranscoder::of(end).is_none());
 }
 
 #[test]

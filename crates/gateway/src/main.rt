@@ -51,8 +51,9 @@ fn obey<'a>(rt: &'a HostRuntime, order: Order<'a>) -> Result<u8, Failure<'a>> {
             blocks,
             indexes,
             overwrite,
+            standard,
         } => {
-            let made = format_file(rt, alloc, spool, blocks, indexes, overwrite)?;
+            let made = format_file(rt, alloc, spool, blocks, indexes, overwrite, standard)?;
             report_formatted(&mut io::writer(rt), blocks, made.pages)?;
             // If standard error can't be written, neither the index files nor the file's length are reported.
             drop(report_read(&mut rt.stderr(), made.files.as_slice()));
@@ -71,7 +72,9 @@ fn obey<'a>(rt: &'a HostRuntime, order: Order<'a>) -> Result<u8, Failure<'a>> {
         Order::List { spool, long } => list_file(rt, alloc, spool, long)?,
         Order::Json { spool } => json_file(rt, alloc, spool)?,
         Order::Delete { spool, numbers } => delete_file(rt, alloc, spool, &numbers)?,
-        Order::DeleteIncomplete { spool, yes } => delete_incomplete_file(rt, alloc, spool, yes)?,
+        Order::DeleteIncomplete { spool, but, yes } => {
+            delete_incomplete_file(rt, alloc, spool, &but, yes)?
+        }
         Order::Export { spool, folder, all } => export_file(rt, alloc, spool, folder, all)?,
         Order::Text {
             from,

@@ -120,7 +120,8 @@ fn listen_at<'a>(rt: &HostRuntime, address: SocketAddr) -> Result<Bound, Failure
     }
 }
 
-// Asks the system for a listener whose calls don't wait: that it listens at the address that it was asked for, and nowhere else, is trusted.
+// Asks the system for a listener whose calls don't wait: that it listens at the address that it was asked for, and
+// nowhere else, is trusted.
 fn bind(rt: &HostRuntime, asked: SocketAddr) -> io::Result<Bound>
     ensures { IfOk result (λ bound. bound.asked ≡ asked) }
 {

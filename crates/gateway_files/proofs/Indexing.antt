@@ -1,6 +1,7 @@
 -- Index files that are read one after the other, and their table at worked examples.
-use Rattle.std.proofs.Common.{◌≡◌, ◌∙◌, ◌+◌, ◌<◌, ◌≤◌, ℕ, Bor, List, [], ◌∷◌, codes, drop, get_or, length, map, refl}
-use Rattle.std.proofs.lemmas.List.{at_drop_more, at_drop_all}
+use Rattle.std.proofs.Common.{◌≡◌, ◌∙◌, ◌+◌, ◌++◌, ◌<◌, ◌≤◌, ℕ, Bor, List, [], ◌∷◌, ap, ap₂, codes, drop, get_or}
+use Rattle.std.proofs.Common.{length, map, refl, sym, take}
+use Rattle.std.proofs.lemmas.List.{at_drop_more, at_drop_all, map-append, take_more}
 use Rattle.enc_model.specs.Indexes.{IndexSet}
 use Rattle.enc_index.specs.declared.kind.Kind.{Kind}
 use Rattle.enc_index.specs.declared.kind.Kind.TheVariants.{Jis0208, Single}
@@ -37,3 +38,11 @@ how_many = refl
 last_file : get_or index_files 17 ([], Jis0208) ≡ (codes "index-windows-1258.txt", Single e.Windows1258)
 unfolding index_files
 last_file = refl
+
+-- what is told of one row more
+pub told_more : {X Y Z : Type 0} (f : X → Z) (g : Y → Z) (told now : List X) (x : X) (ys : List Y) (i : ℕ) (d : Y)
+    → map f told ≡ map g (take i ys) → i < length ys → now ≡ told ++ x ∷ [] → f x ≡ g (get_or ys i d)
+    → map f now ≡ map g (take (i + 1) ys)
+told_more f g told now x ys i d so_far below pushed here =
+    ap (map f) pushed ∙ map-append f told (x ∷ []) ∙ ap₂ (λ zs z. zs ++ z ∷ []) so_far here
+    ∙ sym (ap (map g) (take_more ys i d below) ∙ map-append g (take i ys) (get_or ys i d ∷ []))

@@ -15,3 +15,4 @@ mod Exported
 mod Blank
 mod Held
 mod Indexing
+mod Digested

@@ -35,6 +35,10 @@ incomplete_one entry = unless_complete (is_complete entry.1) entry.0
 abbrev pub incomplete_of : Store → List ℕ
 incomplete_of m = flat_map incomplete_one m.uploads
 
+-- those of them that aren't among these
+abbrev pub incomplete_but : Store → List ℕ → List ℕ
+incomplete_but m but = filter (λ n. not (is_among but n)) (incomplete_of m)
+
 abbrev pub incomplete_record : Record → List ℕ
 incomplete_record r = unless_complete (is_length r.declared r.accepted) r.number
 

@@ -37,6 +37,7 @@ numbered_refusal_of faults.FileDiffers = Some (37, codes "FileDiffers")
 numbered_refusal_of faults.InUse = Some (38, codes "InUse")
 numbered_refusal_of faults.CannotOpen = Some (39, codes "CannotOpen")
 numbered_refusal_of faults.NotEmpty = Some (40, codes "NotEmpty")
+numbered_refusal_of faults.OtherIndexes = Some (41, codes "OtherIndexes")
 
 -- a number and a name, as the code gives them
 abbrev pub row : ℕ × Bor (List ℕ) → ℕ × List ℕ

@@ -19,3 +19,5 @@ pub mod Copies
 pub mod Exporting
 pub mod Surveying
 pub mod Transcoding
+pub mod Digests
+pub mod Found

@@ -1,6 +1,9 @@
 -- What the program prints of what it did.
-use Rattle.std.specs.Prelude.{ℕ, Bool, List, [], ◌∷◌, ◌++◌, ◌==◌, codes, count_by, decimal, flat_map, is_some}
-use Rattle.std.specs.Prelude.{if◌then◌else◌, Option, Some, None}
+use Rattle.std.specs.Prelude.{ℕ, Bool, List, [], ◌∷◌, ◌++◌, ◌==◌, codes, count_by, decimal, flat_map}
+use Rattle.std.specs.Prelude.{if◌then◌else◌}
+use Rattle.gateway_files.specs.Digests.{is_there}
+use Rattle.gateway_files.specs.declared.found.Found.{Found}
+use Rattle.gateway_files.specs.declared.found.Found.TheVariants.{Missing, Standard, Other}
 use Rattle.gateway_files.specs.declared.index_files.IndexFile.{IndexFile}
 use Rattle.gateway_files.specs.declared.surveying.Survey.{Survey}
 
@@ -22,21 +25,35 @@ served_line connections = codes "served " ++ (decimal connections ++ codes " con
 
 -- the file was there
 abbrev pub is_read : IndexFile → Bool
-is_read file = is_some file.entries
+is_read file = is_there file.found
 
--- what is printed of an index file of which so many entries were read, where the standard's has so many
-abbrev pub entries_lines : IndexFile → Option ℕ → List ℕ
-entries_lines file None =
+-- what is printed of an index file
+abbrev pub found_lines : IndexFile → Found → List ℕ
+found_lines file Missing =
     codes "not offered: " ++ (file.encodings.now ++ (codes ", since " ++ (file.name.now ++ codes " isn't there\n")))
-entries_lines file (Some count) =
-    if count == file.standard then file.name.now ++ (codes ": " ++ (decimal count ++ codes " entries\n"))
+found_lines file Standard = file.name.now ++ (codes ": " ++ (decimal file.standard ++ codes " entries\n"))
+found_lines file (Other count) =
+    if count == file.standard
+    then codes "WARNING: " ++ (file.name.now ++ (codes " isn't the standard's: other entries, though as many ("
+    ++ (decimal count ++ (codes ")\nWARNING: texts in " ++ (file.encodings.now
+    ++ codes " will be spoiled for good: make the spool again, with the standard's file\n")))))
     else codes "WARNING: " ++ (file.name.now ++ (codes " isn't whole: it has " ++ (decimal count
     ++ (codes " entries, and the standard's " ++ (decimal file.standard ++ (codes "\nWARNING: texts in "
     ++ (file.encodings.now
     ++ codes " will be spoiled for good: make the spool again, with the standard's file\n")))))))
 
 abbrev pub file_lines : IndexFile → List ℕ
-file_lines file = entries_lines file file.entries
+file_lines file = found_lines file file.found
+
+-- and of an index in a spool: of the standard's nothing
+abbrev pub held_lines : IndexFile → Found → List ℕ
+held_lines file Missing =
+    codes "not offered: " ++ (file.encodings.now ++ (codes ", since the spool has no " ++ (file.name.now ++ (10 ∷ []))))
+held_lines file Standard = []
+held_lines file (Other count) = file_lines file
+
+abbrev pub spool_lines : IndexFile → List ℕ
+spool_lines file = held_lines file file.found
 
 -- how many index files were read, and what is printed of each
 abbrev pub read_lines : List IndexFile → List ℕ

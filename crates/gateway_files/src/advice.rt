@@ -1,6 +1,7 @@
 //! What the system failed at, and what to do next.
 
 use std::fmt;
+use std::io::ErrorKind;
 use std::net::SocketAddr;
 
 /// What the system failed at.
@@ -54,6 +55,21 @@ impl fmt::Display for Task<'_> {
     }
 }
 
+impl Task<'_> {
+    /// What to do next, where that is known, behind the system's error.
+    pub(crate) fn advice(&self, error: ErrorKind) -> &'static str {
+        match (self, error) {
+            (Task::OpenSpool(_), ErrorKind::PermissionDenied | ErrorKind::ReadOnlyFilesystem) => {
+                ". Each command needs the right to write it, `list` and `export` too"
+            }
+            (Task::FindFolder(_), ErrorKind::NotFound) => {
+                ". The standard's index files are in /usr/share/wovelatsa/indexes, or encoding.spec.whatwg.org has them"
+            }
+            _ => "",
+        }
+    }
+}
+
 /// What is wrong with what a command was given, and what to do next.
 #[derive(Clone, Copy, Debug, PartialEq, Eq, Drop)]
 pub enum Advice<'a> {
@@ -73,6 +89,12 @@ pub enum Advice<'a> {
     NotEmpty(&'a str),
     /// Another process has the spool at this path open.
     InUse(&'a str),
+    /// The index file of this name in this folder isn't of the form.
+    IndexFile(&'a str, &'static str),
+    /// Some of the index files of this folder aren't the standard's.
+    OtherIndexes(&'a str),
+    /// Some of the numbers that were to be deleted have no upload.
+    Undeleted,
     /// The number of blocks is out of range.
     Blocks,
     /// A file in this folder isn't as long as its upload's text.
@@ -87,9 +109,13 @@ impl fmt::Display for Advice<'_> {
             Advice::NoSpool(path) => write!(f, "{path} is no spool: see whether the path is right"),
             Advice::CutShort(path) => write!(
                 f,
-                "{path} begins as a spool, but is cut short or damaged: go back to a copy of it"
+                "{path} begins as a spool, but is cut short or damaged: go back to another copy of it, or see what \
+                tools/read-spool finds"
             ),
-            Advice::Damaged(path) => write!(f, "{path} is damaged: go back to a copy of it"),
+            Advice::Damaged(path) => write!(
+                f,
+                "{path} is damaged: go back to another copy of it, or see what tools/read-spool finds"
+            ),
             Advice::Version(path) => write!(
                 f,
                 "{path} is of another version: take a newer program"
@@ -108,11 +134,29 @@ impl fmt::Display for Advice<'_> {
                     "An interrupted format leaves such a file; a damaged spool is one too: see docs/FORMAT.md",
                 )
             }
-            Advice::InUse(path) => write!(f, "{path} is in use: stop the gateway that serves it"),
+            Advice::InUse(path) => write!(
+                f,
+                "{path} is in use: stop the gateway that serves it (`fuser {path}` prints its process)"
+            ),
+            Advice::IndexFile(folder, name) => write!(
+                f,
+                "{folder}/{name} is damaged, or no index file: fetch it again from encoding.spec.whatwg.org"
+            ),
+            Advice::OtherIndexes(folder) => write!(
+                f,
+                "{folder} hasn't the standard's 18 index files, and no spool was made: take those of \
+                /usr/share/wovelatsa/indexes or encoding.spec.whatwg.org"
+            ),
+            Advice::Undeleted => {
+                f.write_str(
+                    "all others are deleted; `gateway list` prints the numbers that there are",
+                )
+            }
             Advice::Blocks => f.write_str("the number of blocks is 16 to 65536"),
             Advice::Differs(folder) => write!(
                 f,
-                "{folder} has a file that isn't its upload's text, which is in no file: look before you delete the upload"
+                "{folder} has a file that isn't its upload's text, which is in no file: look before you delete the \
+                upload"
             ),
             Advice::Text(advice) => write!(f, "{advice}"),
         }

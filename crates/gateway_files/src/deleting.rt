@@ -15,6 +15,7 @@ ghost use Rattle.gateway_files.specs.Deleting.{all_there, deletion_line, deletio
 ghost use Rattle.gateway_files.specs.Leaving.{LeavesOne};
 ghost use Rattle.gateway_files.specs.Listing.{AnswersAs, ListRefusedFor, RefusesListAs};
 
+use crate::advice::Advice;
 use crate::failures::Failure;
 use crate::faults::Fault;
 use crate::spool_files::{open_spool, refused_spool};
@@ -48,7 +49,7 @@ pub(crate) fn delete_numbers<'a>(
     let (disk, deleted) = delete_on(alloc, &mut output, disk, numbers);
     match deleted {
         Ok(true) => Ok(()),
-        Ok(false) => Err(Failure::from(Fault::NoSuch)),
+        Ok(false) => Err(Failure::advised(Fault::NoSuch, Advice::Undeleted)),
         Err(Fault::Io) => Err(Failure::on_streams(Fault::Io, None, output.error())),
         Err(fault) => Err(refused_spool(fault, spool, disk)),
     }

@@ -254,7 +254,8 @@ fn report_done<W: Write>(writer: &mut W, done: ExportTally, uploads: usize) -> i
     if differs {
         return writeln!(
             writer,
-            "exported {exported} of {uploads} uploads, {there} there; a file that was there isn't the text of its upload"
+            "exported {exported} of {uploads} uploads, {there} there; a file that was there isn't the text of its \
+            upload"
         );
     }
     writeln!(

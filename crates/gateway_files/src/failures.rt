@@ -138,7 +138,10 @@ pub fn ended<W: Write>(writer: &mut W, outcome: Result<u8, Failure>) -> u8
 impl fmt::Display for Failure<'_> {
     fn fmt<W: fmt::Write>(&self, f: &mut fmt::Formatter<W>) -> fmt::Result {
         match &self.cause {
-            Some(Cause::System(task, error)) => write!(f, "{}\n{task}: {error}", self.fault),
+            Some(Cause::System(task, error)) => {
+                let advice = task.advice(error.kind());
+                write!(f, "{}\n{task}: {error}{advice}", self.fault)
+            }
             Some(Cause::Advice(advice)) => write!(f, "{}\n{advice}", self.fault),
             None => write!(f, "{}", self.fault),
         }

@@ -38,11 +38,13 @@ pub enum Fault {
     FileDiffers,
     /// Another process has the spool's file open.
     InUse,
-    /// The spool's file can't be opened or made: it or its folder isn't there, or is a folder, rights are missing, or as
-    /// many files are open as may be.
+    /// The spool's file can't be opened or made: it or its folder isn't there, or is a folder, rights are missing, or
+    /// as many files are open as may be.
     CannotOpen,
     /// The file that is to become a spool has bytes, and is none.
     NotEmpty,
+    /// Index files that aren't the standard's, though they have to be.
+    OtherIndexes,
     /// A number that no upload has.
     NoSuch,
     /// A label or a mode that isn't known, or an encoding whose index files aren't there.
@@ -108,6 +110,7 @@ impl Fault {
             Fault::InUse => (38, "InUse"),
             Fault::CannotOpen => (39, "CannotOpen"),
             Fault::NotEmpty => (40, "NotEmpty"),
+            Fault::OtherIndexes => (41, "OtherIndexes"),
         })
     }
 

@@ -1,5 +1,5 @@
 //! A new spool in a file.
-ghost use Rattle.std.specs.Prelude.{◌≡◌, ◌↔◌, ℕ, Err, IfOk, IsErr, IsOk, OnOk, Some, true, false};
+ghost use Rattle.std.specs.Prelude.{◌≡◌, ◌↔◌, ℕ, Err, IfErr, IfOk, IsErr, IsOk, OnOk, Some, map, true, false};
 ghost use Rattle.std.specs.IoError.{error_kind};
 ghost use Rattle.std.specs.declared.io.ErrorKind.{ErrorKind};
 ghost use Rattle.spool_disk.specs.Disk.{Counts, IsImage, Preserves};
@@ -10,13 +10,16 @@ ghost use Rattle.spool_image.specs.Format.{FitsSpool, HasMagic, IsRefusal, LeftB
 ghost use Rattle.spool_image.specs.LeftOnly.{AllShow};
 ghost use Rattle.gateway_files.specs.Blanks.{IsBlank};
 ghost use Rattle.gateway_files.specs.Failures.{fault_in};
+ghost use Rattle.gateway_files.specs.Found.{AreStandard, all_standard, row_for, row_of};
+ghost use Rattle.gateway_files.specs.IndexFiles.{index_files};
 ghost use Rattle.gateway_files.specs.SpoolFiles.{Disks, Leaves, LeavesOthers, OnlyRead};
 
 use crate::advice::{Advice, Task};
 use crate::blanks::is_blank;
 use crate::failures::Failure;
 use crate::faults::Fault;
-use crate::index_files::{IndexFile, IndexFiles, read_indexes};
+use crate::index_files::{IndexFile, IndexFiles, read_indexes, refuse_others};
+use crate::reports::report_read;
 use crate::spool_files::{SpoolFiles, SystemFiles};
 use enc_index::IndexSet;
 use spool_disk::Disk;
@@ -32,7 +35,7 @@ pub struct Formatted {
     pub pages: u32,
     /// The length of the file that was there, in bytes, if it is longer than these pages. So long it is still.
     pub longer: Option<u64>,
-    /// The index files, and how much of each was read.
+    /// The index files, and what was found of each.
     pub files: Vec<IndexFile>,
 }
 
@@ -70,7 +73,8 @@ pub fn format_on<D: Disk>(disk: &mut D, blocks: u32, indexes: &IndexSet) -> Resu
 }
 
 /// Makes a spool without uploads in a file, which is made or lengthened. One that is a spool stays as it is, and so
-/// does one that has a byte other than zero, unless it may be overwritten.
+/// does one that has a byte other than zero, unless it may be overwritten. With `standard` the index files have to be
+/// the standard's: if some aren't, they are reported on standard error, and the file isn't even opened.
 pub fn format_file<'a>(
     rt: &HostRuntime,
     alloc: Global,
@@ -78,10 +82,15 @@ pub fn format_file<'a>(
     blocks: u32,
     folder: &'a str,
     overwrite: bool,
+    standard: bool,
 ) -> Result<Formatted, Failure<'a>>
-    ensures { IfOk result (λ made. made.pages ≡ all_pages blocks) }
+    ensures pages { IfOk result (λ made. made.pages ≡ all_pages blocks) }
+    ensures standard { standard ≡ true → IfOk result (λ made. AreStandard made.files.items) }
 {
     let IndexFiles { set, files } = read_indexes(rt, alloc, folder)?;
+    if standard {
+        wants_standard(rt, &files, folder)?;
+    }
     let made = format_in(&mut SystemFiles::new(rt), spool, blocks, &set, overwrite)?;
     let Made { pages, there } = made;
     let longer = there.filter(|len| *len > PAGE as u64 * pages as u64);
@@ -90,6 +99,23 @@ pub fn format_file<'a>(
         longer,
         files,
     })
+}
+
+// Refuses index files some of which aren't the standard's. Then they are reported on standard error.
+fn wants_standard<'a>(
+    rt: &HostRuntime,
+    files: &[IndexFile],
+    folder: &'a str,
+) -> Result<(), Failure<'a>>
+    ensures standard { IsOk result ↔ (all_standard files.now ≡ true) }
+    ensures fault { IfErr result (λ failure. fault_in failure ≡ Fault.OtherIndexes) }
+{
+    let refused = refuse_others(files, folder);
+    if refused.is_err() {
+        // If standard error can't be written, they aren't reported.
+        drop(report_read(&mut rt.stderr(), files));
+    }
+    refused
 }
 
 /// What `format_in` came to.

@@ -1,5 +1,5 @@
 //! The uploads of a spool that aren't complete.
-ghost use Rattle.std.specs.Prelude.{◌≡◌, ◌++◌, ℕ, Err, IfErr, IfOk, IsOk, OnOk, flat_map, Bool};
+ghost use Rattle.std.specs.Prelude.{◌≡◌, ◌++◌, ℕ, Err, IfErr, IfOk, IsOk, OnOk, filter, flat_map, not, Bool};
 ghost use Rattle.std.specs.Io.KnownBytes.{Appends};
 ghost use Rattle.spool_disk.specs.Disk.{Counts, IsImage};
 ghost use Rattle.spool_disk.specs.Views.{Lasts};
@@ -10,7 +10,7 @@ ghost use Rattle.upload_rules.specs.World.{World};
 ghost use Rattle.spool_image.specs.LeftOnly.{AllShow, IsSpool, LeftOrShows};
 ghost use Rattle.spool_image.specs.Opening.{ReadsBy};
 ghost use Rattle.gateway_files.specs.declared.faults.Fault.{Fault};
-ghost use Rattle.gateway_files.specs.Deleting.{doomed_line, incomplete_of, incomplete_record};
+ghost use Rattle.gateway_files.specs.Deleting.{doomed_line, incomplete_but, incomplete_of, incomplete_record, is_among};
 ghost use Rattle.gateway_files.specs.Lines.{IsInOrder};
 ghost use Rattle.gateway_files.specs.Listing.{AnswersAs, ListRefusedFor, IsListResult, RefusesListAs};
 
@@ -25,36 +25,45 @@ use std::alloc::{AllocError, Global};
 use std::io::{self, Write};
 use upload_rules::{Record, Uploads, is_length};
 
-/// Deletes the uploads that aren't complete from the spool in a file, and prints a line for each. Without `yes` it
-/// deletes none, and prints which it would delete.
+/// Deletes the uploads that aren't complete from the spool in a file, but those with some numbers, and prints a line
+/// for each. Without `yes` it deletes none, and prints which it would delete.
 pub fn delete_incomplete_file<'a>(
     rt: &HostRuntime,
     alloc: Global,
     spool: &'a str,
+    but: &[u64],
     yes: bool,
 ) -> Result<(), Failure<'a>> {
-    let (disk, found) = incomplete_on(alloc, open_spool(rt, spool)?);
+    let (disk, found) = incomplete_on(alloc, open_spool(rt, spool)?, but);
     let numbers = match found {
         Ok(numbers) => numbers,
         Err(fault) => return Err(refused_spool(fault, spool, disk)),
     };
+    if numbers.is_empty() {
+        // If standard error can't be written, this is left out.
+        let reported = eprintln!(rt; "nothing to delete");
+        drop(reported);
+        return Ok(());
+    }
     if yes {
         return delete_numbers(rt, alloc, spool, disk, &numbers);
     }
     report_doomed(&mut io::writer(rt), &numbers)?;
-    if !numbers.is_empty() {
-        // If standard error can't be written, this is left out.
-        let reported = eprintln!(rt; "nothing was deleted: --yes deletes them");
-        drop(reported);
-    }
+    // If standard error can't be written, this is left out.
+    let reported = eprintln!(rt; "nothing was deleted: --yes deletes them");
+    drop(reported);
     Ok(())
 }
 
-/// The numbers of the uploads on a disk that aren't complete: their length isn't known yet, or fewer bytes came. The
-/// disk is handed back.
-pub fn incomplete_on<D: Disk + Drop>(alloc: Global, disk: D) -> (D, Result<Vec<u64>, Fault>)
+/// The numbers of the uploads on a disk that aren't complete, but these: their length isn't known yet, or fewer bytes
+/// came. The disk is handed back.
+pub fn incomplete_on<D: Disk + Drop>(
+    alloc: Global,
+    disk: D,
+    but: &[u64],
+) -> (D, Result<Vec<u64>, Fault>)
     ensures numbers { (n : ℕ) (m : Store) → IsSpool D.Disk disk n m
-        → IfOk result.1 (λ numbers. numbers.items ≡ incomplete_of m) }
+        → IfOk result.1 (λ numbers. numbers.items ≡ incomplete_but m but.now) }
 
     // The disk shows its uploads still, and a crash leaves what it might have left before, or what shows the same.
     ensures shows { (n : ℕ) (m : Store) → IsSpool D.Disk disk n m → IsOk result.1 → AllShow D.Disk result.0 n m }
@@ -68,7 +77,7 @@ pub fn incomplete_on<D: Disk + Drop>(alloc: Global, disk: D) -> (D, Result<Vec<u
     // answers by what the reads of its opening gave.
     ensures listed { (n : ℕ) (m : Store) → IsSpool D.Disk disk n m → IsListResult result.1 }
     ensures given { ReadsBy (D.reads disk) (D.reads result.0) (AnswersAs
-        (λ m. IfOk result.1 (λ numbers. numbers.items ≡ incomplete_of m)) (D.size disk) result.1) }
+        (λ m. IfOk result.1 (λ numbers. numbers.items ≡ incomplete_but m but.now)) (D.size disk) result.1) }
     ensures refused { D.honest disk → IfErr result.1 (ListRefusedFor (D.size disk) (D.current disk)) }
     ensures not_a_spool { D.honest disk → IsNoSpool (D.size disk) (D.current disk)
         → RefusesListAs result.1 Fault.NotASpool }
@@ -79,11 +88,36 @@ pub fn incomplete_on<D: Disk + Drop>(alloc: Global, disk: D) -> (D, Result<Vec<u
 {
     match Spool::open(alloc, disk) {
         Ok(spool) => {
-            let numbers = incomplete_numbers(alloc, &spool);
+            let numbers = numbers_but(alloc, &spool, but);
             (spool.into_disk(), numbers)
         }
         Err((disk, fault)) => (disk, Err(Fault::from(fault))),
     }
+}
+
+// The numbers of the uploads that aren't complete, in order, but these.
+fn numbers_but<U: Uploads>(alloc: Global, uploads: &U, but: &[u64]) -> Result<Vec<u64>, Fault>
+    ensures numbers { (sure : Bool) (w : World) → U.represents uploads.now sure w → IsInOrder w.store
+        → IfOk result (λ numbers. numbers.items ≡ incomplete_but w.store but.now) }
+    ensures refused { IfErr result (λ fault. fault ≡ Fault.Stop Stop.NoMemory) }
+{
+    let mut numbers = incomplete_numbers(alloc, uploads)?;
+    take_out(&mut numbers, but);
+    Ok(numbers)
+}
+
+// Takes these numbers out of others.
+fn take_out(numbers: &mut Vec<u64>, but: &[u64])
+    ensures { numbers.new.items ≡ filter (λ n. not (is_among but.now n)) numbers.old.items }
+{
+    numbers.retain(|number| !is_one_of(but, *number))
+}
+
+// Whether a number is one of these.
+fn is_one_of(numbers: &[u64], number: u64) -> bool
+    ensures { result ≡ is_among numbers.now number }
+{
+    numbers.iter().any(|other| number == *other)
 }
 
 /// The numbers of the uploads that aren't complete, in order.

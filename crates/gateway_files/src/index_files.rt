@@ -1,21 +1,23 @@
 //! The operator's index files.
-ghost use Rattle.std.specs.Prelude.{◌≡◌, ◌≤◌, IfErr, IfOk, OnOk, map, option_map};
-ghost use Rattle.enc_model.specs.Index.{code};
+ghost use Rattle.std.specs.Prelude.{◌≡◌, ◌↔◌, ◌++◌, ◌∷◌, [], true, IfErr, IfOk, IsOk, OnOk, map, option_map};
 ghost use Rattle.enc_model.specs.Indexes.{no_indexes};
+ghost use Rattle.gateway_files.specs.declared.faults.Fault.{Fault};
+ghost use Rattle.gateway_files.specs.Digests.{found_in};
 ghost use Rattle.gateway_files.specs.Failures.{fault_in};
 ghost use Rattle.gateway_files.specs.Folders.{Files};
-ghost use Rattle.gateway_files.specs.IndexFiles.{IsReadFault, entries, indexes_of, named, one_of, read_as};
+ghost use Rattle.gateway_files.specs.IndexFiles.{IsReadFault, index_files, indexes_of, named, read_as};
 ghost use Rattle.gateway_files.specs.IndexFiles.{standard_entries, with_file};
+ghost use Rattle.gateway_files.specs.Found.{all_standard, found_by, row_for, row_of};
 
-use crate::advice::Task;
+use crate::advice::{Advice, Task};
 use crate::failures::Failure;
 use crate::faults::Fault;
 use crate::folders::find_folder;
-use common::Stop;
-use enc_index::{Index, IndexSet, Kind};
+use crate::found::Found;
+use enc_index::{Index, IndexSet, Kind, ReadError};
 use enc_labels::name_of;
 use enc_model::Encoding;
-use std::alloc::Global;
+use std::alloc::{AllocError, Global};
 use std::fmt;
 use std::fs::File;
 use std::io::{self, ErrorKind, Read};
@@ -23,11 +25,8 @@ use std::io::{self, ErrorKind, Read};
 // The most bytes of an index file.
 const MOST: u64 = 1_048_576;
 
-// The pointers of the longest index, jis0208.
-const MOST_POINTERS: u32 = 11_280;
-
 // The names of the files in their folder (the Encoding Standard, section 5), in the order of a spool's index area.
-static FILES: [(&str, Kind); 18] = [
+pub(crate) static FILES: [(&str, Kind); 18] = [
     ("index-jis0208.txt", Kind::Jis0208),
     ("index-jis0212.txt", Kind::Jis0212),
     ("index-iso-2022-jp-katakana.txt", Kind::Katakana),
@@ -75,7 +74,7 @@ static FILES: [(&str, Kind); 18] = [
     ),
 ];
 
-/// An index file, and how much of it was found.
+/// An index file, and what was found of it.
 #[derive(Clone, Copy, Debug, PartialEq, Eq, Drop)]
 pub struct IndexFile {
     /// Its name.
@@ -84,12 +83,26 @@ pub struct IndexFile {
     pub encodings: &'static str,
     /// How many entries the standard's file has.
     pub standard: u32,
-    /// How many entries were read. `None` where the file isn't there.
-    pub entries: Option<u32>,
+    /// What was found of it.
+    pub found: Found,
 }
 
-/// What is found of a file: its entries, and whether it is whole. A file that isn't whole is accepted, so this is a
-/// warning.
+impl IndexFile {
+    /// The file of this name for an index of this kind, and what was found of it.
+    pub(crate) fn new(name: &'static str, kind: Kind, found: Found) -> Self
+        ensures row { row_of result ≡ row_for (name.now, kind) }
+        ensures found { result.found ≡ found }
+    {
+        IndexFile {
+            name,
+            encodings: encodings_of(kind),
+            standard: standard_entries(kind),
+            found,
+        }
+    }
+}
+
+/// What is found of a file: whether it is the standard's. Another one is accepted too, so this is a warning.
 impl fmt::Display for IndexFile {
     ghost use Rattle.std.specs.Prelude.{Some};
     ghost use Rattle.gateway_files.specs.Reports.{file_lines};
@@ -101,12 +114,17 @@ impl fmt::Display for IndexFile {
             name,
             encodings,
             standard,
-            entries,
+            found,
         } = self;
-        match entries {
-            None => writeln!(f, "not offered: {encodings}, since {name} isn't there"),
-            Some(count) if count == standard => writeln!(f, "{name}: {count} entries"),
-            Some(count) => writeln!(
+        match found {
+            Found::Missing => writeln!(f, "not offered: {encodings}, since {name} isn't there"),
+            Found::Standard => writeln!(f, "{name}: {standard} entries"),
+            Found::Other(count) if count == standard => writeln!(
+                f,
+                "WARNING: {name} isn't the standard's: other entries, though as many ({count})\n\
+                WARNING: texts in {encodings} will be spoiled for good: make the spool again, with the standard's file"
+            ),
+            Found::Other(count) => writeln!(
                 f,
                 "WARNING: {name} isn't whole: it has {count} entries, and the standard's {standard}\n\
                 WARNING: texts in {encodings} will be spoiled for good: make the spool again, with the standard's file"
@@ -170,7 +188,9 @@ pub(crate) fn read_indexes<'a>(
     rt: &HostRuntime,
     alloc: Global,
     folder: &'a str,
-) -> Result<IndexFiles, Failure<'a>> {
+) -> Result<IndexFiles, Failure<'a>>
+    ensures { IfOk result (λ read. map row_of read.files.items ≡ map row_for index_files) }
+{
     find_folder(rt, folder)?;
     read_indexes_from(alloc, &IndexFolder { rt, path: folder }, folder)
 }
@@ -181,7 +201,12 @@ pub fn read_indexes_from<'a, F: Readable>(
     folder: &F,
     path: &'a str,
 ) -> Result<IndexFiles, Failure<'a>>
-    ensures { (files : Files) → F.has folder.now files → IfOk result (λ read. read.set ≡ indexes_of files) }
+    ensures set { (files : Files) → F.has folder.now files → IfOk result (λ read. read.set ≡ indexes_of files) }
+
+    // All files of the standard are told of, each as what it has.
+    ensures rows { IfOk result (λ read. map row_of read.files.items ≡ map row_for index_files) }
+    ensures found { (files : Files) → F.has folder.now files
+        → IfOk result (λ read. map (λ file. file.found) read.files.items ≡ map (found_by files) index_files) }
 {
     read_rows(alloc, folder, path, &FILES)
 }
@@ -193,27 +218,30 @@ fn read_rows<'a, F: Readable>(
     path: &'a str,
     table: &[(&'static str, Kind)],
 ) -> Result<IndexFiles, Failure<'a>>
-    ensures { (files : Files) → F.has folder.now files
+    ensures set { (files : Files) → F.has folder.now files
         → IfOk result (λ read. read.set ≡ read_as (map named table.now) files no_indexes) }
+    ensures rows { IfOk result (λ read. map row_of read.files.items ≡ map (λ row. row_for (named row)) table.now) }
+    ensures found { (files : Files) → F.has folder.now files → IfOk result
+        (λ read. map (λ file. file.found) read.files.items ≡ map (λ row. found_by files (named row)) table.now) }
 {
     let mut set = IndexSet::new(alloc)?;
     let mut files = Vec::new(alloc);
     for (name, kind) in table {
-        let entries = read_into(alloc, &mut set, folder, path, name, *kind)?;
-        let file = IndexFile {
-            name,
-            encodings: encodings_of(*kind),
-            standard: standard_entries(*kind),
-            entries,
-        };
-        if files.push(file).is_err() {
-            return Err(Failure::from(Fault::Stop(Stop::NoMemory)));
-        }
+        let found = read_into(alloc, &mut set, folder, path, name, *kind)?;
+        tell(&mut files, IndexFile::new(name, *kind, found))?;
     }
     Ok(IndexFiles { set, files })
 }
 
-// Reads the index file of this name, where it is there, into a set: how many entries it has.
+// Adds a file to those that are told of.
+fn tell(files: &mut Vec<IndexFile>, file: IndexFile) -> Result<(), AllocError>
+    ensures { OnOk result (files.new.items ≡ files.old.items ++ file ∷ []) }
+{
+    files.push(file)?;
+    Ok(())
+}
+
+// Reads the index file of this name, where it is there, into a set: what was found of it.
 fn read_into<'a, F: Readable>(
     alloc: Global,
     set: &mut IndexSet,
@@ -221,15 +249,17 @@ fn read_into<'a, F: Readable>(
     path: &'a str,
     name: &'static str,
     kind: Kind,
-) -> Result<Option<u32>, Failure<'a>>
+) -> Result<Found, Failure<'a>>
     ensures read { (files : Files) → F.has folder.now files
         → OnOk result (set.new ≡ with_file set.old kind (files name.now)) }
+    ensures found { (files : Files) → F.has folder.now files
+        → IfOk result (λ found. found ≡ found_in kind (files name.now)) }
     ensures refused { (files : Files) → F.has folder.now files
         → IfErr result (λ failure. IsReadFault name.now kind (files name.now) (fault_in failure)) }
 {
     let bytes = match folder.read(alloc, name) {
         Ok(Some(bytes)) => bytes,
-        Ok(None) => return Ok(None),
+        Ok(None) => return Ok(Found::Missing),
         Err(error) => {
             let task = Task::ReadIndex(path, name);
             return Err(Failure::new(Fault::from(error), task, error));
@@ -237,12 +267,41 @@ fn read_into<'a, F: Readable>(
     };
     match Index::read(alloc, &bytes, kind) {
         Ok(index) => {
-            let entries = entries_of(&index);
+            let found = Found::of(kind, &index);
             set.set(index);
-            Ok(Some(entries))
+            Ok(found)
         }
-        Err(error) => Err(Failure::from(Fault::Index(name, error))),
+        Err(error) => Err(refused_index(path, name, error)),
     }
+}
+
+// The refusal of an index file, with an advice where it isn't of the form.
+fn refused_index<'a>(path: &'a str, name: &'static str, error: ReadError) -> Failure<'a>
+    ensures { fault_in result ≡ Fault.Index name.entry error }
+{
+    let fault = Fault::Index(name, error);
+    match error {
+        ReadError::NoMemory => Failure::from(fault),
+        _ => Failure::advised(fault, Advice::IndexFile(path, name)),
+    }
+}
+
+/// Refuses index files some of which aren't the standard's.
+pub(crate) fn refuse_others<'a>(files: &[IndexFile], folder: &'a str) -> Result<(), Failure<'a>>
+    ensures standard { IsOk result ↔ (all_standard files.now ≡ true) }
+    ensures fault { IfErr result (λ failure. fault_in failure ≡ Fault.OtherIndexes) }
+{
+    if are_standard(files) {
+        return Ok(());
+    }
+    Err(Failure::advised(Fault::OtherIndexes, Advice::OtherIndexes(folder)))
+}
+
+// Whether all of them are the standard's.
+fn are_standard(files: &[IndexFile]) -> bool
+    ensures { result ≡ all_standard files.now }
+{
+    files.iter().all(|file| file.found.is_standard())
 }
 
 /// How many entries an index of this kind has in the Encoding Standard, section 5.
@@ -267,27 +326,5 @@ fn encodings_of(kind: Kind) -> &'static str {
         Kind::Jis0212 => "EUC-JP",
         Kind::Katakana => "ISO-2022-JP",
         Kind::Single(encoding) => name_of(encoding),
-    }
-}
-
-/// How many entries an index has.
-pub fn entries_of(index: &Index) -> u32
-    ensures { result ≡ entries index.now.pairs 11280 }
-{
-    let mut count = 0;
-    for pointer in 0..MOST_POINTERS {
-        count += entry_at(index, pointer);
-    }
-    count
-}
-
-// Whether an index has an entry at a pointer: 1, or 0.
-fn entry_at(index: &Index, pointer: u32) -> u32
-    ensures one { result ≡ one_of (code index.now.pairs pointer) }
-    ensures most { result ≤ 1 }
-{
-    match index.code(pointer) {
-        Some(_) => 1,
-        None => 0,
     }
 }

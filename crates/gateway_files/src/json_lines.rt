@@ -5,6 +5,7 @@ use crate::faults::Fault;
 use crate::losses::losses_of;
 use crate::naming::given_name;
 use crate::spool_files::{open_spool, refused_spool};
+use crate::spool_indexes::{Doubtful, doubtful_of};
 use crate::streams::Noted;
 use crate::upload_lines::mode_name;
 use common::{SLOTS, Stop};
@@ -37,7 +38,14 @@ struct UploadLine<'a> {
     losses: u64,
 }
 
-/// Prints a line of JSON for each upload of the spool in a file, by number. Each text is read for that.
+/// The last line: which of the spool's indexes are in doubt.
+#[derive(Drop, Serialize)]
+struct IndexesLine {
+    indexes: Doubtful,
+}
+
+/// Prints a line of JSON for each upload of the spool in a file, by number, and one for its indexes. Each text is read
+/// for that.
 pub fn json_file<'a>(rt: &HostRuntime, alloc: Global, spool: &'a str) -> Result<(), Failure<'a>> {
     let mut uploads = match Spool::open(alloc, open_spool(rt, spool)?) {
         Ok(uploads) => uploads,
@@ -53,7 +61,7 @@ pub fn json_file<'a>(rt: &HostRuntime, alloc: Global, spool: &'a str) -> Result<
     }
 }
 
-// Writes a line for each upload.
+// Writes a line for each upload, and the line of the indexes.
 fn write_all<W: Write, U: Uploads>(
     alloc: Global,
     writer: &mut W,
@@ -62,7 +70,7 @@ fn write_all<W: Write, U: Uploads>(
     let mut number = 0;
     for _ in 0..SLOTS {
         let Some(record) = uploads.record_after(number) else {
-            return Ok(());
+            break;
         };
         number = record.number;
         let to = record.to;
@@ -71,7 +79,8 @@ fn write_all<W: Write, U: Uploads>(
             write_line(alloc, writer, record, losses)?;
         }
     }
-    Ok(())
+    let indexes = doubtful_of(alloc, uploads.indexes())?;
+    write_json(alloc, writer, &IndexesLine { indexes })
 }
 
 // Writes the line of an upload.
@@ -95,8 +104,17 @@ fn write_line<W: Write>(
         metadata: record.metadata.as_str(),
         losses,
     };
+    write_json(alloc, writer, &line)
+}
+
+// Writes a line of JSON.
+fn write_json<W: Write, T: Serialize>(
+    alloc: Global,
+    writer: &mut W,
+    line: &T,
+) -> Result<(), Fault> {
     // It fails only when out of memory.
-    let Ok(line) = serde_json::to_string(alloc, &line) else {
+    let Ok(line) = serde_json::to_string(alloc, line) else {
         return Err(Fault::Stop(Stop::NoMemory));
     };
     writeln!(writer, "{line}")?;

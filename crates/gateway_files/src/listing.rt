@@ -24,6 +24,7 @@ use crate::faults::Fault;
 use crate::losses::losses_of;
 use crate::reports::{report_free, report_losses_of};
 use crate::spool_files::{SpoolFiles, SystemFiles, open_in, refused_by, refused_spool};
+use crate::spool_indexes::report_indexes;
 use crate::streams::Noted;
 use crate::surveying::{Survey, open_surveyed};
 use crate::upload_lines::lines_of;
@@ -35,7 +36,8 @@ use std::io::{self, Write};
 use upload_rules::Uploads;
 
 /// Prints the uploads of the spool in a file, by number, with their metadata or without. On standard error it prints
-/// how much of the spool is free, and, with the metadata, which texts have U+FFFD.
+/// how much of the spool is free, which indexes it hasn't or are others than the standard's, and, with the metadata,
+/// which texts have U+FFFD.
 pub fn list_file<'a>(
     rt: &HostRuntime,
     alloc: Global,
@@ -46,6 +48,7 @@ pub fn list_file<'a>(
     let (disk, survey) = list_in(alloc, &mut SystemFiles::new(rt), &mut output, spool, long)?;
     // If standard error can't be written, this isn't reported.
     drop(report_free(&mut rt.stderr(), &survey));
+    drop(report_indexes(&mut rt.stderr(), &survey.indexes));
     if long {
         report_losses_first(rt, alloc, spool, disk)?;
     }

@@ -27,7 +27,7 @@ pub fn report_longer<W: Write>(writer: &mut W, spool: &str, len: u64) -> io::Res
     )
 }
 
-/// Prints which index files were read, and which of them aren't whole.
+/// Prints which index files were read, and which of them aren't the standard's.
 pub fn report_read<W: Write>(writer: &mut W, files: &[IndexFile]) -> io::Result<()>
     ensures { OnOk result (Appends (W.contents writer.old) (W.contents writer.new) (read_lines files.now)) }
 {
@@ -42,7 +42,7 @@ pub fn report_read<W: Write>(writer: &mut W, files: &[IndexFile]) -> io::Result<
 fn count_read(files: &[IndexFile]) -> usize
     ensures { result ≡ count_by is_read files.now }
 {
-    files.iter().filter(|file| file.entries.is_some()).count()
+    files.iter().filter(|file| file.found.is_there()).count()
 }
 
 /// Prints that a spool was upgraded.

@@ -13,6 +13,8 @@ ghost use Rattle.spool_catalog.specs.Shows.{Shows};
 ghost use Rattle.spool_pages.specs.View.{View, version_number};
 ghost use Rattle.gateway_files.specs.Surveying.{disk_left};
 
+use crate::found::Found;
+use crate::spool_indexes::found_in;
 use common::SLOTS;
 use spool_disk::Disk;
 use spool_image::{OpenFault, Spool};
@@ -23,8 +25,8 @@ use upload_rules::{Uploads, is_length};
 /// How many bytes of a text a block has.
 const BLOCK: u64 = PAGE as u64;
 
-/// A spool's version and size, and how much of it is in use.
-#[derive(Clone, Copy, Debug, PartialEq, Eq, Drop)]
+/// A spool's version and size, how much of it is in use, and what it has of the standard's indexes.
+#[derive(Clone, Copy, Drop)]
 pub struct Survey {
     /// The version of its layout.
     pub version: u32,
@@ -34,6 +36,8 @@ pub struct Survey {
     pub free_blocks: u64,
     /// How many uploads more it may have.
     pub free_slots: u64,
+    /// What it has of each index, in the order of its index area.
+    pub indexes: [Found; 18],
 }
 
 /// Opens the spool on a disk, and surveys it. The disk comes back with each refusal.
@@ -97,6 +101,7 @@ fn survey_of<D: Disk>(spool: &Spool<D>) -> Survey
         blocks,
         free_blocks: blocks.saturating_sub(used.blocks),
         free_slots: used.free_slots,
+        indexes: found_in(spool.indexes()),
     }
 }
 

@@ -16,9 +16,9 @@ enum Part {
     Value,
 }
 
-/// A line of a head that passes in pieces: its first 256 bytes. Of a field the blanks before the value aren't stored and
-/// don't count, so that they can't push the value out. It needs no memory, since a lost line would give a body another
-/// length.
+/// A line of a head that passes in pieces: its first 256 bytes. Of a field the blanks before the value aren't stored
+/// and don't count, so that they can't push the value out. It needs no memory, since a lost line would give a body
+/// another length.
 #[derive(Drop)]
 pub(crate) struct Line {
     held: [u8; MOST_HELD],

@@ -32,8 +32,8 @@ struct Cut {
 }
 
 /// A log, which the connections of a server share. Its lines are gathered, and written when the server accepts, or a
-/// second later when it reads or writes. Out of memory a line is lost, and if the writer fails, so is what was gathered;
-/// neither is reported.
+/// second later when it reads or writes. Out of memory a line is lost, and if the writer fails, so is what was
+/// gathered; neither is reported.
 #[derive(Drop)]
 pub struct Log<'a, T: Clock, W: Write + Drop> {
     alloc: Global,

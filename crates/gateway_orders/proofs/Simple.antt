@@ -54,6 +54,7 @@ plain_is_local c plain = no_more (out-Command c).has_globals
 simple_with : (w : With) (name : List _) → (rule_with w name).is_simple ≡ true
 simple_with with.Word name = refl
 simple_with (with.NumbersOr others) name = refl
+simple_with (with.NumbersWith value other) name = refl
 simple_with with.Nothing name = refl
 simple_with (with.NothingOr other) name = refl
 simple_with (with.NothingWith other) name = refl

@@ -1,5 +1,6 @@
 -- What clap found for a command, by the names of its arguments.
 use Rattle.std.specs.Prelude.{◌≡◌, ◌<◌, ◌^◌, ℕ, Bool, true, false, List, [], ◌∷◌, Some, None, IsSomeAnd, codes, ⊤}
+use Rattle.std.specs.Prelude.{MatchOption}
 use Rattle.std.specs.Str.Parse.{IsNumeral, digits_value, without_leading_plus}
 use Rattle.clap.specs.Walk.{Row, Text, first_of, many_of, one_of}
 
@@ -26,6 +27,11 @@ WriteAll bits (text ∷ texts) (n ∷ numbers) = IsNumeralOf bits text n × Writ
 -- the numbers that the texts of an argument write, in their order
 abbrev pub HasNumbers : ℕ → List Row → Text → List ℕ → Type 0
 HasNumbers bits given name numbers = IsSomeAnd (many_of name given) (λ texts. WriteAll bits texts numbers)
+
+-- the same, and no numbers where the argument isn't given
+abbrev pub HasNumbersIfAny : ℕ → List Row → Text → List ℕ → Type 0
+HasNumbersIfAny bits given name numbers =
+    MatchOption (many_of name given) (numbers ≡ []) (λ texts. WriteAll bits texts numbers)
 
 -- whether an argument without a value is given, which clap stores as one of two texts
 abbrev pub HasFlag : List Row → Text → Bool → Type 0

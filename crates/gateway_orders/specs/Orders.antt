@@ -3,7 +3,7 @@ use Rattle.std.specs.Prelude.{◌≡◌, true, false, List, IsSomeAnd, codes}
 use Rattle.std.specs.Net.Grammar.{IsSocketText}
 use Rattle.clap.specs.Simple.{subcommand_of}
 use Rattle.clap.specs.Walk.{Row, Text, first_of}
-use Rattle.gateway_orders.specs.Given.{HasFlag, HasNumber, HasNumbers, HasArgument}
+use Rattle.gateway_orders.specs.Given.{HasArgument, HasFlag, HasNumber, HasNumbers, HasNumbersIfAny}
 use Rattle.gateway_orders.specs.Program.{program}
 use Rattle.gateway_orders.specs.declared.orders.Order.{Order}
 use Rattle.gateway_orders.specs.declared.orders.Order.TheVariants.{Format, Script, Serve, Up, Json}
@@ -12,9 +12,10 @@ use Rattle.gateway_orders.specs.declared.orders.Order.TheVariants as orders
 
 -- the order is the one that belongs to the command of this name with these arguments
 abbrev pub IsOrder : Text → List Row → Order → Type 0
-IsOrder name given (Format spool blocks indexes overwrite) = (name ≡ codes "format")
+IsOrder name given (Format spool blocks indexes overwrite standard) = (name ≡ codes "format")
     × HasArgument given (codes "SPOOL") spool.now × HasNumber 32 given (codes "blocks") blocks
     × HasArgument given (codes "indexes") indexes.now × HasFlag given (codes "overwrite") overwrite
+    × HasFlag given (codes "standard-indexes") standard
 IsOrder name given (Script spool) = (name ≡ codes "script") × HasArgument given (codes "SPOOL") spool.now
 IsOrder name given (Serve service) = (name ≡ codes "serve") × HasArgument given (codes "SPOOL") service.spool.now
     × HasNumber 16 given (codes "port") service.port
@@ -29,8 +30,10 @@ IsOrder name given (Json spool) = (name ≡ codes "list") × HasArgument given (
     × HasFlag given (codes "json") true
 IsOrder name given (Delete spool numbers) = (name ≡ codes "delete") × HasArgument given (codes "SPOOL") spool.now
     × HasFlag given (codes "incomplete") false × HasNumbers 64 given (codes "NUMBER") numbers.items
-IsOrder name given (DeleteIncomplete spool sure) = (name ≡ codes "delete") × HasArgument given (codes "SPOOL") spool.now
-    × HasFlag given (codes "incomplete") true × HasFlag given (codes "yes") sure
+IsOrder name given (DeleteIncomplete spool but sure) = (name ≡ codes "delete")
+    × HasArgument given (codes "SPOOL") spool.now
+    × HasFlag given (codes "incomplete") true × HasNumbersIfAny 64 given (codes "but") but.items
+    × HasFlag given (codes "yes") sure
 IsOrder name given (Export spool folder all) = (name ≡ codes "export") × HasArgument given (codes "SPOOL") spool.now
     × HasArgument given (codes "DIR") folder.now × HasFlag given (codes "all") all
 IsOrder name given (orders.Text from to mode indexes) = (name ≡ codes "text")

@@ -35,6 +35,14 @@ bound_rule name = record (flag_rule name) { is_free = false }
 abbrev pub option_rule : Text → Rule
 option_rule name = record (new_rule name) { long = Some name; action = Some Set; value_names = 1 }
 
+-- the same with one or more numbers, and another one is required beside them
+abbrev pub later_numbers_rule : Text → Rule
+later_numbers_rule name = record (option_rule name) {
+  range = Some (record { start_inclusive = 1; end_inclusive = usize_max });
+  parser = Some (Unsigned 0 18446744073709551615);
+  is_free = false;
+}
+
 abbrev pub text_rule : Text → Rule
 text_rule name = record (option_rule name) { required = true }
 
@@ -56,6 +64,7 @@ u64_rule = number_rule (Unsigned 0 18446744073709551615)
 abbrev pub rule_with : With → Text → Rule
 rule_with with.Word = word_rule
 rule_with (with.NumbersOr others) = numbers_rule (map (λ other. other.now) others.now)
+rule_with (with.NumbersWith value other) = later_numbers_rule
 rule_with with.Nothing = flag_rule
 rule_with (with.NothingOr other) = bound_rule
 rule_with (with.NothingWith other) = bound_rule
@@ -78,15 +87,15 @@ shape_for described = shape_named described.name.now (map rule_for described.tak
 abbrev pub shapes : List Shape
 shapes = shape_named (codes "format")
     (word_rule (codes "SPOOL") ∷ u32_rule (codes "blocks") ∷ text_rule (codes "indexes")
-    ∷ flag_rule (codes "overwrite") ∷ [])
+    ∷ flag_rule (codes "overwrite") ∷ flag_rule (codes "standard-indexes") ∷ [])
     ∷ shape_named (codes "up")
     (word_rule (codes "SPOOL") ∷ default_rule (codes "127.0.0.1:8080") (codes "listen") ∷ flag_rule (codes "quiet")
     ∷ flag_rule (codes "log") ∷ [])
     ∷ shape_named (codes "list")
     (word_rule (codes "SPOOL") ∷ flag_rule (codes "long") ∷ bound_rule (codes "json") ∷ [])
     ∷ shape_named (codes "delete")
-    (word_rule (codes "SPOOL") ∷ numbers_rule (codes "incomplete" ∷ codes "yes" ∷ []) (codes "NUMBER")
-    ∷ flag_rule (codes "incomplete") ∷ bound_rule (codes "yes") ∷ [])
+    (word_rule (codes "SPOOL") ∷ numbers_rule (codes "incomplete" ∷ codes "but" ∷ codes "yes" ∷ []) (codes "NUMBER")
+    ∷ flag_rule (codes "incomplete") ∷ later_numbers_rule (codes "but") ∷ bound_rule (codes "yes") ∷ [])
     ∷ shape_named (codes "export")
     (word_rule (codes "SPOOL") ∷ word_rule (codes "DIR") ∷ flag_rule (codes "all") ∷ [])
     ∷ shape_named (codes "text")

@@ -1,9 +1,11 @@
 //! The commands of the program, as its help describes them.
 
 ghost use Rattle.std.specs.Prelude.{◌≡◌, Some, IfOk, map};
+ghost use Rattle.clap.specs.Lexer.{usize_max};
 ghost use Rattle.clap.specs.Words.{app_of, new_rule, rule_of, shape_of};
 ghost use Rattle.clap.specs.declared.builder.ArgAction.TheVariants.{Set, SetTrue};
 ghost use Rattle.clap.specs.declared.builder.texts.Texts.TheVariants.{One};
+ghost use Rattle.clap.specs.declared.builder.value_parser.ValueParser.TheVariants.{Unsigned};
 ghost use Rattle.gateway_orders.specs.Program.{numbers_rule, program, rule_for, shape_for};
 
 use clap::{Arg, ArgAction, Command, value_parser};
@@ -40,6 +42,8 @@ enum With {
     /// One or more numbers by themselves, which are required where none of these arguments is given, and refused beside
     /// them.
     NumbersOr(&'static [&'static str]),
+    /// One or more numbers with this name in the help, and this other argument is required beside them.
+    NumbersWith(&'static str, &'static str),
     /// Nothing: the argument is given or not.
     Nothing,
     /// Nothing, and this other argument is refused beside it.
@@ -102,7 +106,8 @@ static COMMANDS: [Described; 9] = [
     Described {
         name: "format",
         about: "Makes a spool without uploads",
-        example: "A spool for 4 MiB of text:\n\n  gateway format spool --blocks 1024 --indexes idx",
+        example: "A spool for 4 MiB of text:\n\n  \
+            gateway format spool --blocks 1024 --indexes idx --standard-indexes",
         takes: &[
             Given {
                 name: "SPOOL",
@@ -119,6 +124,11 @@ static COMMANDS: [Described; 9] = [
                 name: "overwrite",
                 with: With::Nothing,
                 help: "Overwrites a file that is no spool, whatever it has",
+            },
+            Given {
+                name: "standard-indexes",
+                with: With::Nothing,
+                help: "Refuses index files that aren't the Encoding Standard's 18",
             },
         ],
     },
@@ -146,18 +156,23 @@ static COMMANDS: [Described; 9] = [
         about: "Deletes uploads of a spool. There is no way back",
         example: "Uploads 3 and 7, while no gateway serves the spool:\n\n  gateway delete spool 3 7\n\n\
             Those whose last byte hasn't come, after a look at them:\n\n  \
-            gateway delete spool --incomplete\n  gateway delete spool --incomplete --yes",
+            gateway delete spool --incomplete\n  gateway delete spool --incomplete --but 3 7 --yes",
         takes: &[
             SPOOL,
             Given {
                 name: "NUMBER",
-                with: With::NumbersOr(&["incomplete", "yes"]),
+                with: With::NumbersOr(&["incomplete", "but", "yes"]),
                 help: "The numbers of the uploads, as `list` prints them",
             },
             Given {
                 name: "incomplete",
                 with: With::Nothing,
                 help: "Prints the uploads whose last byte hasn't come; with --yes deletes them",
+            },
+            Given {
+                name: "but",
+                with: With::NumbersWith("NUMBER", "incomplete"),
+                help: "Keeps the uploads with these numbers",
             },
             Given {
                 name: "yes",
@@ -261,7 +276,7 @@ pub(crate) fn gateway<'a>(alloc: Global) -> Result<Command<'a>, AllocError>
         .about("A gateway for resumable uploads (tus 1.0.0) of text in old and new encodings")
         .after_help(
             "`gateway help COMMAND` says more of a command. First steps:\n\n  \
-            gateway format spool --blocks 1024 --indexes idx\n  gateway up spool",
+            gateway format spool --blocks 1024 --indexes idx --standard-indexes\n  gateway up spool",
         )
         .subcommand_required(true)
         .subcommands(commands)
@@ -313,6 +328,9 @@ fn argument<'a>(alloc: Global, given: &Given) -> Result<Arg<'a>, AllocError>
     match given.with {
         With::Word => Ok(arg.required(true)),
         With::NumbersOr(others) => numbers(arg, others),
+        With::NumbersWith(value, other) => numbers_after(arg, given.name, value).requires_arg(
+            other,
+        ),
         With::Nothing => Ok(flag(arg, given.name)),
         With::NothingOr(other) => flag(arg, given.name).conflicts_with(other),
         With::NothingWith(other) => flag(arg, given.name).requires_arg(other),
@@ -347,6 +365,21 @@ fn numbers<'a>(arg: Arg<'a>, others: &[&'a str]) -> Result<Arg<'a>, AllocError>
         .value_parser(value_parser!(u64))
         .required_unless_present_any(others)?
         .conflicts_with_all(others)
+}
+
+// An argument after `--` and this name, with one or more numbers after it, of this name in the help.
+fn numbers_after<'a>(arg: Arg<'a>, name: &'a str, value: &'a str) -> Arg<'a>
+    ensures { result ≡ record arg.entry {
+      long = Some name.entry;
+      action = Some Set;
+      val_names = One value.entry;
+      num_vals = Some (record { start_inclusive = 1; end_inclusive = usize_max });
+      value_parser = Some (Unsigned 0 18446744073709551615);
+    } }
+{
+    option(arg, name, value)
+        .num_args(1..)
+        .value_parser(value_parser!(u64))
 }
 
 // An argument after `--` that is this name, with nothing after it.

@@ -1,8 +1,9 @@
 //! Orders.
 #![tactic(auto, using(crate::proofs::Rows::by_rows))]
 
-ghost use Rattle.std.specs.Prelude.{codes, map, string_bytes, IfOk, IfSome};
+ghost use Rattle.std.specs.Prelude.{codes, map, string_bytes, true, IfOk, IfSome};
 ghost use Rattle.clap.specs.Words.{found_of, rows_of};
+ghost use Rattle.gateway_orders.specs.Given.{HasArgument, HasFlag, HasNumbers};
 ghost use Rattle.gateway_orders.specs.Orders.{IsOrder, IsOrderOf};
 
 use crate::commands::{gateway, up};
@@ -15,12 +16,14 @@ use std::net::SocketAddr;
 #[derive(Debug, Drop)]
 pub enum Order<'a> {
     /// Makes a spool at this path with this many text blocks and the index files of this folder. A file that is there,
-    /// is no spool and has a byte other than zero is refused, unless `overwrite` is given.
+    /// is no spool and has a byte other than zero is refused, unless `overwrite` is given. With `standard`, index files
+    /// that aren't the standard's are refused.
     Format {
         spool: &'a str,
         blocks: u32,
         indexes: &'a str,
         overwrite: bool,
+        standard: bool,
     },
     /// Runs standard input as a script over the spool at this path, or over a fresh one in memory for `-`.
     Script {
@@ -50,9 +53,10 @@ pub enum Order<'a> {
         spool: &'a str,
         numbers: Vec<u64>,
     },
-    /// Lists the uploads whose last byte hasn't come, or deletes them with `yes`.
+    /// Lists the uploads whose last byte hasn't come, or deletes them with `yes`: all but those with some numbers.
     DeleteIncomplete {
         spool: &'a str,
+        but: Vec<u64>,
         yes: bool,
     },
     /// Writes the texts of the complete uploads, or of all, into files in this folder.
@@ -133,6 +137,7 @@ fn format_order<'a>(given: &ArgMatches<'a>) -> Option<Order<'a>>
         blocks: given.get_one::<u32>("blocks")?,
         indexes: given.get_str("indexes")?,
         overwrite: given.get_flag("overwrite"),
+        standard: given.get_flag("standard-indexes"),
     })
 }
 
@@ -194,7 +199,6 @@ fn list_order<'a>(given: &ArgMatches<'a>) -> Option<Order<'a>>
     })
 }
 
-// Numbers that can't be parsed were refused before.
 fn delete_order<'a>(alloc: Global, given: &ArgMatches<'a>) -> Result<Option<Order<'a>>, AllocError>
     ensures { IfOk result (λ read. IfSome read (IsOrder (codes "delete") (rows_of (found_of given.now)))) }
 {
@@ -202,10 +206,46 @@ fn delete_order<'a>(alloc: Global, given: &ArgMatches<'a>) -> Result<Option<Orde
         return Ok(None);
     };
     if given.get_flag("incomplete") {
-        let yes = given.get_flag("yes");
-        return Ok(Some(Order::DeleteIncomplete { spool, yes }));
+        return incomplete_order(alloc, given, spool);
     }
-    let Some(read) = given.get_many::<u64>("NUMBER") else {
+    match numbers_of(alloc, given, "NUMBER")? {
+        Some(numbers) => Ok(Some(Order::Delete { spool, numbers })),
+        None => Ok(None),
+    }
+}
+
+// The order to delete the uploads that aren't complete, of the spool at this path.
+fn incomplete_order<'a>(
+    alloc: Global,
+    given: &ArgMatches<'a>,
+    spool: &'a str,
+) -> Result<Option<Order<'a>>, AllocError>
+    requires spool { HasArgument (rows_of (found_of given.now)) (codes "SPOOL") spool.now }
+    requires incomplete { HasFlag (rows_of (found_of given.now)) (codes "incomplete") true }
+    ensures { IfOk result (λ read. IfSome read (IsOrder (codes "delete") (rows_of (found_of given.now)))) }
+{
+    let but = if given.contains_id("but") {
+        numbers_of(alloc, given, "but")?
+    } else {
+        Some(Vec::new(alloc))
+    };
+    let Some(but) = but else {
+        return Ok(None);
+    };
+    let yes = given.get_flag("yes");
+    Ok(Some(Order::DeleteIncomplete { spool, but, yes }))
+}
+
+// The numbers of an argument. `None` where it isn't given; those that can't be parsed were refused before.
+fn numbers_of(
+    alloc: Global,
+    given: &ArgMatches<'_>,
+    name: &str,
+) -> Result<Option<Vec<u64>>, AllocError>
+    ensures { IfOk result (λ read. IfSome read
+        (λ numbers. HasNumbers 64 (rows_of (found_of given.now)) name.now numbers.items)) }
+{
+    let Some(read) = given.get_many::<u64>(name) else {
         return Ok(None);
     };
     let mut numbers = Vec::new(alloc);
@@ -215,7 +255,7 @@ fn delete_order<'a>(alloc: Global, given: &ArgMatches<'a>) -> Result<Option<Orde
         };
         numbers.push(number)?;
     }
-    Ok(Some(Order::Delete { spool, numbers }))
+    Ok(Some(numbers))
 }
 
 fn export_order<'a>(given: &ArgMatches<'a>) -> Option<Order<'a>>

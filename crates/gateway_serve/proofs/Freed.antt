@@ -72,7 +72,8 @@ module _ (sure : Bool) (ended : List Seen) (st : State) (past : List Marked) (n 
   all_went : (j : Joint) (is : Joins sure j (current_of n ended) st past n) → j.output ≡ [] → j.went ≡ is.latest.gave
   all_went j is none = sym (append-nil j.went) ∙ (ap (λ l. j.went ++ l) (sym none) ∙ is.given)
 
-  fits : (latest : Latest) (spell : Spell) (reason : Reason) (j : Joint) (is : Joins sure j (current_of n ended) st past n)
+  fits : (latest : Latest) (spell : Spell) (reason : Reason) (j : Joint)
+      (is : Joins sure j (current_of n ended) st past n)
       (c : Conversation) → c.took ≡ is.latest.took → c.gave ≡ is.latest.gave
       → (reason ≡ Why.Closed → c.disconnected ≡ false) → IfWhole reason j → FewWait j.output
       → sockets.Fits (current_at n j latest spell reason) c
@@ -113,8 +114,8 @@ module _ (sure : Bool) (ended : List Seen) (st : State) (past : List Marked) (n 
       → PlaceJoins sure p' (current_of n ended') st ((Ended n, mark_of answer) ∷ past) n
   reported_place reason Free p' ended' answer free with may few used ok is = absurd (used refl)
   reported_place reason (Open l) p' ended' answer free with may few used ok is =
-      let all = reported_pairs l.socket.latest l.socket.spell reason (mark_of answer) (joint_of l) (if_whole reason l may)
-      (not_closed reason (Open l) may) few is in
+      let all = reported_pairs l.socket.latest l.socket.spell reason (mark_of answer) (joint_of l)
+      (if_whole reason l may) (not_closed reason (Open l) may) few is in
       rw (free, with) (all.0, all.1, all.2, reported_none answer ok ∙ sym is.apart)
 
   pub fallen_place : {S : Type 0} (reason : Reason) (p p' : Place S) (ended' : List Seen) (m : Mark) → p' ≡ Free
@@ -135,7 +136,8 @@ module _ (sure : Bool) (ended : List Seen) (st : State) (past : List Marked) (n 
     is.latest ∷ is.others,
     is.talks,
     rw (first_current n (current n l.socket Why.Over) ended refl) (
-      fits l.socket.latest l.socket.spell Why.Over (joint_of l) is is.latest refl refl (λ e. is.disconnected) (λ w. absurd w) few,
+      fits l.socket.latest l.socket.spell Why.Over (joint_of l) is is.latest refl refl (λ e. is.disconnected)
+          (λ w. absurd w) few,
       loosely (current_of n ended) is.others is.pairs,
     ),
   )

@@ -1,5 +1,5 @@
-//! Sockets whose connections the session closed. What their clients still send is read and dropped, so that none of them
-//! loses the end of its reply to a reset (RFC 9112, section 9.6).
+//! Sockets whose connections the session closed. What their clients still send is read and dropped, so that none of
+//! them loses the end of its reply to a reset (RFC 9112, section 9.6).
 
 use crate::idle::Pace;
 use std::alloc::Global;
@@ -107,8 +107,8 @@ impl<S: Drop> Drains<S> {
         }
     }
 
-    /// Adds the socket of a connection that was closed now. Where as many drain as may, the one that was closed first is
-    /// let go. Out of memory, this one is.
+    /// Adds the socket of a connection that was closed now. Where as many drain as may, the one that was closed first
+    /// is let go. Out of memory, this one is.
     pub(crate) fn add(&mut self, stream: S, now: Duration) {
         if self.sockets.len() >= MOST_DRAINING {
             drop(self.sockets.remove(0));

@@ -86,7 +86,8 @@ impl<S: Read + Write + Drop> Place<S> {
         ensures others { OthersStay conn ended.old.items ended.new.items }
         ensures kept { length ended.new.items + one_if_open self.new ≡ length ended.old.items + one_if_open self.old }
         ensures closed { result ≡ Ok Turned.Closed → length ended.new.items ≡ length ended.old.items + 1 }
-        ensures open { IfOk result (λ turned. turned ≢ Turned.Closed → length ended.new.items ≡ length ended.old.items) }
+        ensures open { IfOk result
+            (λ turned. turned ≢ Turned.Closed → length ended.new.items ≡ length ended.old.items) }
         ensures counts { Counts (IsErr result) (C.failures gateway.old) (C.failures gateway.new) }
     {
         let Place::Open(link) = self else {

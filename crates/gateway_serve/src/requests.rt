@@ -72,8 +72,9 @@ impl Request {
     }
 }
 
-/// The request that a connection is in, which was in another one or in none, after so many bytes were taken: the session
-/// says what it is at now. Bytes of one part belong to one request, since each call takes bytes of one request alone.
+/// The request that a connection is in, which was in another one or in none, after so many bytes were taken: the
+/// session says what it is at now. Bytes of one part belong to one request, since each call takes bytes of one request
+/// alone.
 pub(crate) fn request_after(
     request: Option<Request>,
     at: Option<tus_session::At>,

@@ -41,8 +41,8 @@ pub struct Outcome<C> {
 /// on at each open connection, in order. If something is left to write, it is written; else, if a text is pending, its
 /// next piece is asked for; else up to 4,096 bytes are read and given to the session, and what it gives is written. A
 /// socket that fails or is at its end ends its connection. So does a socket over which nothing came or went for a
-/// minute, or whose request's head isn't whole after one; the body of a request that was refused is a body as any other.
-/// At the end the open connections are ended.
+/// minute, or whose request's head isn't whole after one; the body of a request that was refused is a body as any
+/// other. At the end the open connections are ended.
 ///
 /// A connection that the session closed is closed once all is written, and its place is free. Its socket drains: the
 /// writing side is shut down, and what still comes is read and dropped (RFC 9112, section 9.6), so that the client
@@ -50,10 +50,10 @@ pub struct Outcome<C> {
 /// ten if something came before, after 1,073,741,824 bytes, once 64 others were closed after it, and at the end.
 ///
 /// If all are open, one more client is taken in and waits for a place. Meanwhile a connection gives way. One whose
-/// socket has nothing to do: the one that has been between requests longest, after 20 milliseconds; any between requests
-/// that has had its place for ten seconds; a head or a body that brought less than 4,096 bytes a second for two seconds.
-/// And a body that has come for ten seconds, however fast. A reply never does. A socket that still waits when serving
-/// ends is closed.
+/// socket has nothing to do: the one that has been between requests longest, after 20 milliseconds; any between
+/// requests that has had its place for ten seconds; a head or a body that brought less than 4,096 bytes a second for
+/// two seconds. And a body that has come for ten seconds, however fast. A reply never does. A socket that still waits
+/// when serving ends is closed.
 ///
 /// While there is something to do, the listener and each connection that had nothing are passed over in more and more
 /// turns, in at most 31 one after the other and for at most some 10 milliseconds. A connection whose time is over is

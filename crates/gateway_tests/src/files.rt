@@ -16,6 +16,13 @@ const FOLDER: &str = "gateway_file_test";
 
 const SPOOL: &str = "gateway_file_test/spool";
 
+const OTHER: &str = "gateway_file_test/other";
+
+/// What is said where index files aren't the standard's, though they have to be.
+const OTHERS: &str = "refused: 41 OtherIndexes\n\
+    gateway_file_test hasn't the standard's 18 index files, and no spool was made: take those of \
+    /usr/share/wovelatsa/indexes or encoding.spec.whatwg.org";
+
 const JIS0208: &str = "gateway_file_test/index-jis0208.txt";
 
 const JIS0212: &str = "gateway_file_test/index-jis0212.txt";
@@ -86,7 +93,7 @@ fn spool_is_made_used_listed_and_upgraded(rt: HostRuntime) {
     fs::create_dir(&rt, FOLDER).expect(&rt, "a folder");
     fs::write(&rt, JIS0208, "0\t3000\n").expect(&rt, "a file");
     fs::write(&rt, JIS0212, "# two\n108\t02D8\n").expect(&rt, "a file");
-    let made = format_file(&rt, alloc, SPOOL, 16, FOLDER, false).expect(&rt, "a spool");
+    let made = format_file(&rt, alloc, SPOOL, 16, FOLDER, false, false).expect(&rt, "a spool");
     let mut lines = Vec::new(alloc);
     report_formatted(&mut lines, 16, made.pages).expect(&rt, "a line");
     report_read(&mut lines, made.files.as_slice()).expect(&rt, "lines");
@@ -106,6 +113,9 @@ fn spool_is_made_used_listed_and_upgraded(rt: HostRuntime) {
     let last_line =
         "refused: 35 AlreadyNew\ngateway_file_test/spool is of version 2: there is nothing to do";
     fails(&rt, alloc, again, 2, last_line);
+    let other = format_file(&rt, alloc, OTHER, 16, FOLDER, false, true).map(drop);
+    fails(&rt, alloc, other, 2, OTHERS);
+    assert!(rt; !fs::exists(&rt, OTHER).expect(&rt, "a folder"));
     fs::remove_dir_all(&rt, FOLDER).expect(&rt, "a folder");
 }
 
@@ -122,29 +132,64 @@ fn spool_stays_as_it_is(rt: HostRuntime) {
     let _ = fs::remove_dir_all(&rt, AGAIN);
     fs::create_dir(&rt, AGAIN).expect(&rt, "a folder");
     fs::write(&rt, "gateway_again_test/spool", "no spool").expect(&rt, "a file");
-    let foreign = format_file(&rt, alloc, "gateway_again_test/spool", 16, AGAIN, false).map(drop);
+    let foreign = format_file(
+        &rt,
+        alloc,
+        "gateway_again_test/spool",
+        16,
+        AGAIN,
+        false,
+        false,
+    )
+    .map(drop);
     let last_line = "refused: 40 NotEmpty\n\
     gateway_again_test/spool isn't empty, and no spool: take another path, or --overwrite if nobody needs it. \
     An interrupted format leaves such a file; a damaged spool is one too: see docs/FORMAT.md";
     fails(&rt, alloc, foreign, 2, last_line);
-    let made = format_file(&rt, alloc, "gateway_again_test/spool", 16, AGAIN, true).expect(
-        &rt, "a spool",
-    );
+    let made = format_file(
+        &rt,
+        alloc,
+        "gateway_again_test/spool",
+        16,
+        AGAIN,
+        true,
+        false,
+    )
+    .expect(&rt, "a spool");
     assert_eq!(rt; (made.pages, made.longer), (557, None));
     let before = fs::read(&rt, "gateway_again_test/spool").expect(&rt, "its bytes");
-    let again = format_file(&rt, alloc, "gateway_again_test/spool", 32, AGAIN, true).map(drop);
+    let again = format_file(
+        &rt,
+        alloc,
+        "gateway_again_test/spool",
+        32,
+        AGAIN,
+        true,
+        false,
+    )
+    .map(drop);
     let last_line = "refused: 13 AlreadySpool\n\
     gateway_again_test/spool is a spool, and stays as it is: take another path, or remove it yourself";
     fails(&rt, alloc, again, 2, last_line);
     let index = "gateway_again_test/index-jis0212.txt";
     fs::write(&rt, index, "0\t3000\n8836\t3000\n").expect(&rt, "a file");
-    let unread = format_file(&rt, alloc, "gateway_again_test/other", 16, AGAIN, false).map(drop);
+    let unread = format_file(
+        &rt,
+        alloc,
+        "gateway_again_test/other",
+        16,
+        AGAIN,
+        false,
+        false,
+    )
+    .map(drop);
     fails(
         &rt,
         alloc,
         unread,
         2,
-        "refused: 4 Range index-jis0212.txt 2",
+        "refused: 4 Range index-jis0212.txt 2\n\
+        gateway_again_test/index-jis0212.txt is damaged, or no index file: fetch it again from encoding.spec.whatwg.org",
     );
     let after = fs::read(&rt, "gateway_again_test/spool").expect(&rt, "its bytes");
     assert_eq!(rt; before.len(), 557 * 4096);
@@ -166,22 +211,24 @@ fn failure_says_what_the_system_said(rt: HostRuntime) {
         16,
         "no_such_folder",
         false,
+        true,
     )
     .map(drop);
     let last_line = "refused: 33 Io\n\
-    cannot look into the folder no_such_folder: No such file or directory (os error 2)";
+    cannot look into the folder no_such_folder: No such file or directory (os error 2). The standard's index files \
+    are in /usr/share/wovelatsa/indexes, or encoding.spec.whatwg.org has them";
     fails(&rt, alloc, unmade, 2, last_line);
     assert!(rt; !fs::exists(&rt, "gateway_unmade_test").expect(&rt, "a folder"));
     let used = FileDisk::create(&rt, "gateway_used_test", 4).expect(&rt, "a file");
     let twice = open_spool(&rt, "gateway_used_test").map(drop);
     let last_line = "refused: 38 InUse\n\
-    gateway_used_test is in use: stop the gateway that serves it";
+    gateway_used_test is in use: stop the gateway that serves it (`fuser gateway_used_test` prints its process)";
     for ended in [
         open_spool(&rt, "gateway_used_test").map(drop),
         list_file(&rt, alloc, "gateway_used_test", false),
         upgrade_file(&rt, alloc, "gateway_used_test"),
         export_file(&rt, alloc, "gateway_used_test", ".", false),
-        delete_incomplete_file(&rt, alloc, "gateway_used_test", true),
+        delete_incomplete_file(&rt, alloc, "gateway_used_test", &[], true),
         json_file(&rt, alloc, "gateway_used_test"),
     ] {
         fails(&rt, alloc, ended, 2, last_line);

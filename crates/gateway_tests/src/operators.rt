@@ -6,7 +6,8 @@ use crate::talks::{Talk, fresh};
 use enc_index::{Index, IndexSet, Kind};
 use enc_model::{Encoding, Mode};
 use gateway_files::{
-    Conversion, Fault, Tally, Used, conversion_of, delete_on, entries_of, incomplete_on, list_on,
+    Conversion, Fault, Found, Tally, Used, conversion_of, delete_on, digest_of, entries_of,
+    found_in, incomplete_on, is_standard, list_on, report_indexes, standard_digest,
     standard_entries, text_on, used_of,
 };
 use spool_disk::MemoryDisk;
@@ -71,10 +72,15 @@ fn uploads_are_deleted_by_their_numbers(rt: HostRuntime) {
 #[test]
 fn uploads_that_are_not_complete(rt: HostRuntime) {
     let alloc = rt.alloc();
-    let (_, numbers) = incomplete_on(alloc, spool_with_three(&rt, alloc));
+    let (disk, numbers) = incomplete_on(alloc, spool_with_three(&rt, alloc), &[]);
     assert_eq!(rt;
         numbers.expect(&rt, "numbers").as_slice(),
         [1u64, 3].as_slice()
+    );
+    let (_, numbers) = incomplete_on(alloc, disk, &[2, 3, 9]);
+    assert_eq!(rt;
+        numbers.expect(&rt, "numbers").as_slice(),
+        [1u64].as_slice()
     );
 }
 
@@ -100,6 +106,37 @@ fn entries_of_an_index(rt: HostRuntime) {
         (2, 63)
     );
 }
+
+/// The SHA-256 digest of two entries, U+3000 at pointer 0 and U+0041 at pointer 2, by Python's hashlib.
+const DIGEST: [u8; 32] = [
+    0x4A, 0xFE, 0x80, 0x1F, 0xFE, 0x60, 0xE2, 0x9E, 0x17, 0xB5, 0x4B, 0xD6, 0x75, 0x4A, 0x84, 0x3C,
+    0xE6, 0x4B, 0xAE, 0x13, 0xA2, 0x9B, 0x8C, 0xD8, 0x3E, 0x64, 0x78, 0x6E, 0x24, 0x39, 0x76, 0x4E,
+];
+
+#[test]
+fn index_is_told_from_the_standards(rt: HostRuntime) {
+    let read = Index::read(rt.alloc(), b"2\t41\n0\t3000\n", Kind::Katakana);
+    let index = read.expect(&rt, "an index");
+    assert!(rt; digest_of(&index) == DIGEST);
+    assert!(rt; standard_digest(Kind::Katakana) != DIGEST);
+    assert!(rt; !is_standard(Kind::Katakana, &index));
+    assert_eq!(rt; Found::of(Kind::Katakana, &index), Found::Other(2));
+    let mut set = IndexSet::new(rt.alloc()).expect(&rt, "a set");
+    set.set(index);
+    assert_eq!(rt; Found::of_set(&set, Kind::Katakana), Found::Other(2));
+    assert_eq!(rt; Found::of_set(&set, Kind::Jis0212), Found::Missing);
+    let mut lines = Vec::new(rt.alloc());
+    report_indexes(&mut lines, &found_in(&set)).expect(&rt, "lines");
+    assert!(rt; lines.starts_with(INDEXES));
+}
+
+/// The first lines of what is told of a set with one index, which isn't the standard's.
+const INDEXES: &[u8] =
+    b"not offered: Shift_JIS, EUC-JP and ISO-2022-JP, since the spool has no index-jis0208.txt\n\
+    not offered: EUC-JP, since the spool has no index-jis0212.txt\n\
+    WARNING: index-iso-2022-jp-katakana.txt isn't whole: it has 2 entries, and the standard's 63\n\
+    WARNING: texts in ISO-2022-JP will be spoiled for good: make the spool again, with the standard's file\n\
+    not offered: IBM866, since the spool has no index-ibm866.txt\n";
 
 /// Each row: the encoding of a text, its pieces, and how often it has the sign of lost bytes.
 static SIGNS: [(Encoding, &[&[u8]], u64); 6] = [

@@ -6,14 +6,18 @@ use std::process::Abort;
 
 /// Command lines, and what each one parses to: an order, a call for help, or a usage error. The errors have a word too
 /// few, a word too many, or one that isn't valid.
-static LINES: [(&str, &str); 53] = [
+static LINES: [(&str, &str); 61] = [
     (
         "gateway format new --blocks 16 --indexes idx",
-        r#"Format { spool: "new", blocks: 16, indexes: "idx", overwrite: false }"#,
+        r#"Format { spool: "new", blocks: 16, indexes: "idx", overwrite: false, standard: false }"#,
+    ),
+    (
+        "gateway format new --blocks 16 --indexes idx --standard-indexes",
+        r#"Format { spool: "new", blocks: 16, indexes: "idx", overwrite: false, standard: true }"#,
     ),
     (
         "gateway format new --blocks 16 --indexes idx --overwrite",
-        r#"Format { spool: "new", blocks: 16, indexes: "idx", overwrite: true }"#,
+        r#"Format { spool: "new", blocks: 16, indexes: "idx", overwrite: true, standard: false }"#,
     ),
     ("gateway script -", r#"Script { spool: "-" }"#),
     (
@@ -74,11 +78,19 @@ static LINES: [(&str, &str); 53] = [
     ),
     (
         "gateway delete old --incomplete",
-        r#"DeleteIncomplete { spool: "old", yes: false }"#,
+        r#"DeleteIncomplete { spool: "old", but: [], yes: false }"#,
     ),
     (
         "gateway delete --yes old --incomplete",
-        r#"DeleteIncomplete { spool: "old", yes: true }"#,
+        r#"DeleteIncomplete { spool: "old", but: [], yes: true }"#,
+    ),
+    (
+        "gateway delete old --incomplete --but 3 7 --yes",
+        r#"DeleteIncomplete { spool: "old", but: [3, 7], yes: true }"#,
+    ),
+    (
+        "gateway delete --but=3 --incomplete old",
+        r#"DeleteIncomplete { spool: "old", but: [3], yes: false }"#,
     ),
     ("gateway help", "help"),
     ("gateway list --help", "help"),
@@ -101,12 +113,20 @@ static LINES: [(&str, &str); 53] = [
     ("gateway delete old --incomplete 3", "usage"),
     ("gateway delete old 3 --incomplete", "usage"),
     ("gateway delete old 3 --incomplete --yes", "usage"),
+    ("gateway delete old --incomplete --but", "usage"),
+    ("gateway delete old --incomplete --but three", "usage"),
+    ("gateway delete old --but 3", "usage"),
+    ("gateway delete old 3 --but 4", "usage"),
     ("gateway delete old --yes", "usage"),
     ("gateway delete old 3 --yes", "usage"),
     ("gateway delete old three", "usage"),
     ("gateway delete old -3", "usage"),
     ("gateway up old --listen localhost:80", "usage"),
     ("gateway format new --blocks -1 --indexes idx", "usage"),
+    (
+        "gateway format new --blocks 16 --indexes idx --standard-indexes=no",
+        "usage",
+    ),
     (
         "gateway serve old --port 65536 --connections 1 --turns 1",
         "usage",

@@ -14,9 +14,10 @@ use Rattle.enc_model.specs.declared.Mode.{Mode}
 use Rattle.enc_model.specs.declared.Mode.TheVariants.{Html, Fatal}
 use Rattle.enc_model.specs.Encode.{Tables}
 use Rattle.enc_model.specs.Indexes.{IndexSet, tables}
-use Rattle.enc_model.specs.Decode.{Held, Reading, decoded, decoding, decoding_start, sniffed, undecided}
+use Rattle.enc_model.specs.Decode.{Decoded, Held, Reading, decoded, decoding, decoding_start, sniffed, undecided}
 use Rattle.enc_model.specs.Transcode.{Phase, Before, During, Over, phase_of, fed_text}
 use Rattle.enc_stream.specs.StateBytes.{state_bytes, encoding_number, mode_number}
+use Rattle.enc_stream.specs.TranscoderState.{is_phase_over}
 use Rattle.enc_stream.proofs.Bytes.{from_there, to_there, mode_there}
 use Rattle.upload_rules.specs.Lengths.{is_length, known_or, longest}
 use Rattle.upload_rules.specs.Store.{Origin, Upload, accepted_count, is_complete, origin_count, patched}
@@ -41,6 +42,25 @@ phase_fits t e (b ∷ bytes) declared more = go (undecided (b ∷ bytes))
         (decoding t false (decoding_start s.0) s.1))) (length (b ∷ bytes)) declared
     go true = (refl, more)
     go false = (omega arith, more)
+
+-- past the end only where all bytes came
+phase_open : (d : Decoded) → is_phase_over (phase_of d) ≡ false
+phase_open (Held b) = refl
+phase_open (Reading r) = refl
+
+not_over : (p : Phase) (n : ℕ) (declared : Option ℕ) → FitsPhase p n declared → is_length declared n ≡ false
+    → is_phase_over p ≡ false
+not_over (Before held) n declared fits still = refl
+not_over (During s) n declared fits still = refl
+not_over Over n declared fits still = absurd cc
+
+open_still : (x : IndexSet) (u : Upload) (o : Option Origin) → u.origin ≡ o → FitsAfter x u o → is_complete u ≡ false
+    → is_phase_over (transcoder_with x u [] (is_complete u)).phase ≡ false
+open_still x u None e fits still =
+    subst (λ (b : Bool). is_phase_over (transcoder_with x u [] b).phase ≡ false) (sym still)
+    (subst (λ (o : Option Origin). is_phase_over (phase_from (tables x) o u.from (u.accepted ++ [])) ≡ false) (sym e)
+    (phase_open (decoded (tables x) u.from (u.accepted ++ []) false)))
+open_still x u (Some o) e fits still = not_over _ _ _ fits still
 
 -- and it fits on with more bytes
 fed_fits : (t : Tables) (e : Encoding) (p : Phase) (n : ℕ) (known declared : Option ℕ) (bytes : List ℕ)
@@ -203,5 +223,5 @@ module _ (x : IndexSet) (q : SlotRecord) (shown : List ℕ) (u : Upload) (is : I
           metadata = ap (λ (p : SlotRecord). p.metadata) slot_record ∙ is.metadata;
         };
         encodable = is.encodable;
-        valid = is.valid;
+        valid = record { valid = is.valid; takes_more = open_still x u u.origin refl is.phase };
       }

@@ -9,6 +9,7 @@ ghost use Rattle.spool_texts.specs.TextOn.{AllBelow};
 ghost use Rattle.upload_rules.specs.Answers.{Answers};
 ghost use Rattle.upload_rules.specs.Reading.{no_such, text_at, IsRead};
 ghost use Rattle.upload_rules.specs.Records.{IsShort, RepresentsOf, above, with_number};
+ghost use Rattle.upload_rules.specs.States.{IsSomeState};
 ghost use Rattle.upload_rules.specs.Store.{Store, upload_of};
 ghost use Rattle.spool_catalog.specs.Records.{IsInSlot};
 ghost use Rattle.spool_catalog.specs.Holding.{IsOwnedBy};
@@ -69,6 +70,7 @@ impl Catalog {
         ensures owned { IfSome result (λ u. IsOwnedBy self.now.slots self.now.blocks.rows number u.list.now) }
         ensures numbered { IfSome result (λ u. u.upload.now.number < self.now.next) }
         ensures in_slot { IfSome result (λ u. IsInSlot self.now.slots u.upload.now) }
+        ensures state { IfSome result (λ u. IsSomeState u.upload.now.state) }
         ensures recorded { (v : View) (m : Store) → HasView self.now v → Shows v m
             → MatchOption result (upload_of m number ≡ None) (λ u. IsUploadOf m number u.upload.now) }
         ensures text { (v : View) (m : Store) (bytes : ℕ → ℕ) → HasView self.now v → Shows v m → Encodes bytes v

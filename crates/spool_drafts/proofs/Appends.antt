@@ -13,7 +13,8 @@ use Rattle.upload_rules.specs.Store.{is_complete}
 use Rattle.upload_rules.specs.World.{Patch, is_there, patch_text}
 use Rattle.spool_drafts.specs.Drafts.{Holds, IsLonger, open_text, with_piece, shortened, transcoder_of}
 use Rattle.spool_drafts.specs.Effect.{RunsShort}
-use Rattle.spool_drafts.specs.Progress.{IsStateAfter, ReadsOn, HoldsLen, IsStored, IsGrowing, blocks_in, transcoder_in}
+use Rattle.spool_drafts.specs.Progress.{IsCompleteIn, IsStateAfter, ReadsOn, HoldsLen, IsStored, IsGrowing, blocks_in}
+use Rattle.spool_drafts.specs.Progress.{transcoder_in}
 use Rattle.spool_drafts.specs.declared.draft.SpoolDraft.{SpoolDraft}
 use Rattle.spool_drafts.specs.declared.progress.Progress.{Progress}
 use Rattle.spool_drafts.specs.declared.progress.Progress.TheVariants.{Text, OutOfRoom, Unencodable, Complete}
@@ -38,6 +39,15 @@ short_of short len n (OutOfRoom t) other growing stored = stored
 short_of short len n Unencodable other growing stored = absurd growing
 short_of short len n Complete other growing stored = absurd growing
 
+-- a draft takes no bytes for a complete upload, since its patch has none
+pub not_complete : {x : IndexSet} {p : Patch} {d : SpoolDraft} → Holds x p d → (piece : List ℕ) (empty : Bool)
+    → length p.body + length piece ≤ p.count → empty ≡ eqb (length piece) 0 → empty ≡ false → d.progress ≡ Complete → ⊥
+not_complete {p = p} held piece empty fits is_empty not_empty is =
+    let still = is_open p.began p.declare p.count (omega (arith, some_of piece empty is_empty not_empty, fits))
+    held.within in
+    let complete = subst (IsCompleteIn p.began) is held.complete in
+    cc
+
 module _ {x : IndexSet} {p : Patch} {d : SpoolDraft} (held : Holds x p d) {piece : List ℕ}
     (fits : length p.body + length piece ≤ p.count) {empty : Bool} (is_empty : empty ≡ eqb (length piece) 0)
     (not_empty : empty ≡ false) {next : Option TranscoderState} {added : List ℕ}
@@ -55,10 +65,11 @@ module _ {x : IndexSet} {p : Patch} {d : SpoolDraft} (held : Holds x p d) {piece
 
   -- what stays
   went_on : (short : Bool) (s : Progress) → IsStateAfter x p.began (p.body ++ piece) (transcoder_in s)
+      → IsCompleteIn p.began s
       → length (blocks_in s) ≡ need x (record longer { short = short }) false
       → IsStored short d.committed_len (length (open_text x (record longer { short = short }) false)) s
       → Holds x (record longer { short = short }) (gone_on d s (length piece))
-  went_on short s state_after needs stored = record {
+  went_on short s state_after complete needs stored = record {
     number = held.number;
     offset = held.offset;
     came = omega (arith, held.came, held.within, held.fits, fits, length-append p.body piece);
@@ -69,6 +80,7 @@ module _ {x : IndexSet} {p : Patch} {d : SpoolDraft} (held : Holds x p d) {piece
     fits = held.fits;
     committed = held.committed;
     state_after = state_after;
+    complete = complete;
     needs = needs;
     stored = stored;
   }
@@ -77,7 +89,7 @@ module _ {x : IndexSet} {p : Patch} {d : SpoolDraft} (held : Holds x p d) {piece
   pub longer_fault : next ≡ None → Holds x longer (gone_on d Unencodable (length piece))
   longer_fault none =
       let state_after = subst (IsStateAfter x p.began (p.body ++ piece)) none reads.state_after in
-      went_on p.short Unencodable state_after
+      went_on p.short Unencodable state_after tt
       (sym (need_fault x longer false (ap (λ r. is_there r.fault) (patch_text_is x longer false)
       ∙ state_after still))) tt
 
@@ -90,7 +102,7 @@ module _ {x : IndexSet} {p : Patch} {d : SpoolDraft} (held : Holds x p d) {piece
         → (IsGrowing next → IsGrowing (transcoder_of d)) → Holds x longer (gone_on d (OutOfRoom t) (length piece))
     longer_short other growing =
         let short = short_of p.short _ _ d.progress other (growing (subst IsGrowing (sym some) tt)) held.stored in
-        went_on p.short (OutOfRoom t) reads_on.state_after (sym (need_short x longer false short)) short
+        went_on p.short (OutOfRoom t) reads_on.state_after tt (sym (need_short x longer false short)) short
 
     encodable_after : (patch_text x longer false).fault ≡ None
     encodable_after = ap (λ r. r.fault) (patch_text_is x longer false)
@@ -119,7 +131,7 @@ module _ {x : IndexSet} {p : Patch} {d : SpoolDraft} (held : Holds x p d) {piece
           let holds = stored.1 in
           let needs = need_more d.committed_len _ (length added) old holds new.blocks same
           (λ some. listed some ∙ ap (λ (k : ℕ). (k + 4095) / PAGE) grown) in
-          went_on p.short (Text t new) reads_on.state_after (needs ∙ wanted
+          went_on p.short (Text t new) reads_on.state_after tt (needs ∙ wanted
           ∙ sym (need_roomy x longer false stored.0)) (
             stored.0,
             subst (HoldsLen d.committed_len new) size record {
@@ -135,6 +147,6 @@ module _ {x : IndexSet} {p : Patch} {d : SpoolDraft} (held : Holds x p d) {piece
           → RunsShort blocks blocks' (blocks_in d.progress) wanted)
           → IsLonger x longer d (gone_on d (OutOfRoom t) (length piece)) blocks blocks'
       longer_full blocks blocks' some ran = inr (
-        went_on true (OutOfRoom t) reads_on.state_after (sym (need_short x (shortened longer) false refl)) refl,
+        went_on true (OutOfRoom t) reads_on.state_after tt (sym (need_short x (shortened longer) false refl)) refl,
         ran (wants x longer false) (need_some_more d.committed_len _ (length added) old stored.1 some ∙ wanted),
       )

@@ -18,7 +18,8 @@ use Rattle.spool_texts.specs.Drafts.{draft_bytes}
 use Rattle.spool_texts.specs.TextOn.{blocks_on, text_on}
 use Rattle.spool_texts.proofs.Shown.{length-blocks_on}
 use Rattle.spool_drafts.specs.Drafts.{Holds, open_text}
-use Rattle.spool_drafts.specs.Progress.{HasBytes, IsGrowing, IsStored, IsStateAfter, Starts, blocks_in, transcoder_in}
+use Rattle.spool_drafts.specs.Progress.{HasBytes, IsCompleteIn, IsGrowing, IsStored, IsStateAfter, Starts, blocks_in}
+use Rattle.spool_drafts.specs.Progress.{transcoder_in}
 use Rattle.spool_drafts.specs.declared.progress.Progress.{Progress}
 use Rattle.spool_drafts.specs.declared.progress.Progress.TheVariants.{Text, OutOfRoom, Unencodable, Complete}
 use Rattle.spool_drafts.proofs.Patches.{fault_cases, need_fault, need_roomy, patch_text_is, wants_is}
@@ -93,7 +94,7 @@ module _ (x : IndexSet) (u : Upload) (n count : ℕ) (declare : Option ℕ) wher
   pub begins : (r : Record) (list : List ℕ) (offset : ℕ) (s : Progress) → RepresentsValid x n r u
       → (r.accepted ≡ offset) × (offset + count ≤ longest (known_or r.declared declare))
       × (longest (known_or r.declared declare) < 2 ^ 64) → is_too_large declare ≡ false
-      → IsStateAfter x u [] (transcoder_in s) → (IsGrowing (transcoder_in s) → is_complete u ≡ false)
+      → IsStateAfter x u [] (transcoder_in s) → IsCompleteIn u s → (IsGrowing (transcoder_in s) → is_complete u ≡ false)
       → Starts r.text_len list s → Holds x first (record {
         number = r.number;
         offset = offset;
@@ -103,7 +104,7 @@ module _ (x : IndexSet) (u : Upload) (n count : ℕ) (declare : Option ℕ) wher
         progress = s;
         spare = tt;
       })
-  begins r list offset s valid_record room small state_after is_open starts =
+  begins r list offset s valid_record room small state_after complete is_open starts =
       let committed = valid_record.represents.text_len in
       let same_longest = ap (λ (known : Option ℕ). longest (known_or known declare)) valid_record.represents.declared in
       record {
@@ -117,6 +118,7 @@ module _ (x : IndexSet) (u : Upload) (n count : ℕ) (declare : Option ℕ) wher
         fits = omega (arith, room.2, same_longest);
         committed = committed;
         state_after = state_after;
+        complete = complete;
         needs = ap length (starts_none r.text_len list s starts) ∙ sym first_need;
         stored = stored s is_open starts;
       }

@@ -15,14 +15,13 @@ use Rattle.upload_rules.specs.Store.{Upload, text_with, is_complete}
 use Rattle.upload_rules.specs.Texts.{IsEnded, IsReading, IsRest}
 use Rattle.upload_rules.specs.World.{is_there}
 use Rattle.upload_rules.proofs.Transcoders.{further}
-use Rattle.spool_drafts.specs.Progress.{ReadsOn, FinishesAs}
+use Rattle.spool_drafts.specs.Progress.{ReadsOn, FinishesAs, IsCompleteIn, refusal_in}
+use Rattle.spool_drafts.specs.declared.progress.Progress.{Progress}
+use Rattle.spool_drafts.specs.declared.progress.Progress.TheVariants as progress
 
 -- an upload with these bytes accepted, of a length that isn't known
 abbrev pub after : Upload → List ℕ → Upload
 after u bytes = record u { accepted = u.accepted ++ bytes; declared = None }
-
-pub after_open : (u : Upload) (bytes : List ℕ) → is_complete (after u bytes) ≡ false
-after_open u bytes = refl
 
 module _ (x : IndexSet) (u : Upload) (bytes : List ℕ) where
   at_nil : (u.accepted ++ bytes) ++ [] ≡ u.accepted ++ bytes
@@ -83,7 +82,7 @@ module _ (x : IndexSet) (u : Upload) (bytes : List ℕ) where
     state_is = ended.state_is
         ∙ ap (λ (b : List ℕ). state_bytes (transcoder_from (tables x) u.origin u.from u.to u.mode b done)) at_nil;
     valid = subst (λ (b : List ℕ). IsValidState (transcoder_from (tables x) u.origin u.from u.to u.mode b done)) at_nil
-        ended.valid;
+        ended.valid.valid;
     encodable = ap (λ r. r.fault) (sym (same_text done)) ∙ ended.encodable;
     adds = ap (λ r. r.bytes ++ parts.1.items) (sym (same_text false)) ∙ ended.rest ∙ ap (λ r. r.bytes) (same_text done);
   }
@@ -95,3 +94,11 @@ module _ (x : IndexSet) (u : Upload) (bytes : List ℕ) where
         ap (λ r. is_there r.fault) (sym (same_text done))
             ∙ subst (λ (r : UploadRefusal). IsEnded x (after u bytes) [] done (Err (Refused r))) is ended,
       )
+
+-- where the upload isn't complete, bytes may not come because of a character
+pub open_refusal : (u : Upload) (s : Progress) → is_complete u ≡ false → IsCompleteIn u s
+    → refusal_in s ≡ refusals.Unencodable
+open_refusal u (progress.Text t text) still complete = refl
+open_refusal u (progress.OutOfRoom t) still complete = refl
+open_refusal u progress.Unencodable still complete = refl
+open_refusal u progress.Complete still complete = absurd cc

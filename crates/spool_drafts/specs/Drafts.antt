@@ -19,8 +19,8 @@ use Rattle.upload_rules.specs.States.{SameEncodings, state_with, transcoder_with
 use Rattle.upload_rules.specs.Store.{Upload, text_of, accepted_count}
 use Rattle.upload_rules.specs.World.{Patch, is_there, patch_text}
 use Rattle.spool_drafts.specs.Effect.{RunsShort}
-use Rattle.spool_drafts.specs.Progress.{IsStateAfter, IsStateOf, IsGrowing, IsStored, HasBytes, blocks_in, tail_in}
-use Rattle.spool_drafts.specs.Progress.{NeedsNoTail, transcoder_in, without_tail}
+use Rattle.spool_drafts.specs.Progress.{IsCompleteIn, IsStateAfter, IsStateOf, IsGrowing, IsStored, HasBytes, blocks_in}
+use Rattle.spool_drafts.specs.Progress.{tail_in, NeedsNoTail, transcoder_in, without_tail}
 use Rattle.spool_drafts.specs.declared.draft.DraftEnd.{DraftEnd}
 use Rattle.spool_drafts.specs.declared.draft.SpoolDraft.{SpoolDraft}
 
@@ -103,6 +103,7 @@ pub record Holds (x : IndexSet) (p : Patch) (d : SpoolDraft) : Type 0 where
   pub fits : longest (known_or p.began.declared p.declare) < 2 ^ 64
   pub committed : committed_len_of d ≡ length (text_of x p.began)
   pub state_after : IsStateAfter x p.began p.body (transcoder_of d)
+  pub complete : IsCompleteIn p.began d.progress
   pub needs : length (list_of d) ≡ need x p false
   pub stored : IsStored p.short (committed_len_of d) (length (open_text x p false)) d.progress
 

@@ -15,9 +15,10 @@ use Rattle.upload_rules.specs.Texts.{IsReading}
 use Rattle.upload_rules.specs.World.{is_there}
 use Rattle.upload_rules.specs.declared.errors.UploadError.{UploadError}
 use Rattle.upload_rules.specs.declared.errors.UploadError.TheVariants.{Stop, Refused}
+use Rattle.upload_rules.specs.declared.errors.UploadRefusal.{UploadRefusal}
 use Rattle.upload_rules.specs.declared.errors.UploadRefusal.TheVariants as refusals
 use Rattle.spool_drafts.specs.declared.progress.Progress.{Progress}
-use Rattle.spool_drafts.specs.declared.progress.Progress.TheVariants.{Text, OutOfRoom}
+use Rattle.spool_drafts.specs.declared.progress.Progress.TheVariants.{Text, OutOfRoom, Complete}
 
 -- The reserved blocks.
 abbrev pub blocks_in : Progress → List ℕ
@@ -44,6 +45,16 @@ abbrev pub transcoder_in : Progress → Option TranscoderState
 transcoder_in (Text t text) = Some t
 transcoder_in (OutOfRoom t) = Some t
 transcoder_in _ = None
+
+-- Why bytes may not come, where they may not.
+abbrev pub refusal_in : Progress → UploadRefusal
+refusal_in Complete = refusals.TooLong
+refusal_in _ = refusals.Unencodable
+
+-- The upload is complete if the draft says so.
+abbrev pub IsCompleteIn : Upload → Progress → Type 0
+IsCompleteIn u Complete = is_complete u ≡ true
+IsCompleteIn u _ = Unit {0}
 
 -- TRANSCODING
 

@@ -9,7 +9,7 @@ ghost use Rattle.spool_texts.specs.Drafts.{IsReserved, GivesBack, bytes_with};
 ghost use Rattle.spool_texts.specs.TextOn.{AllBelow, text_on};
 ghost use Rattle.upload_rules.specs.Calls.{first_patch};
 ghost use Rattle.upload_rules.specs.Records.{RepresentsValid};
-ghost use Rattle.upload_rules.specs.States.{IsState};
+ghost use Rattle.upload_rules.specs.States.{IsSomeState, IsState};
 ghost use Rattle.upload_rules.specs.Store.{Upload, text_of, is_complete};
 ghost use Rattle.upload_rules.specs.World.{Patch};
 ghost use Rattle.upload_rules.specs.declared.errors.UploadRefusal.{UploadRefusal};
@@ -73,6 +73,7 @@ impl SpoolDraft {
     ) -> Result<Self, UploadRefusal>
         requires long { upload.now.text_len ≤ PAGE * length list.now }
         requires few { length list.now ≤ MOST_BLOCKS }
+        requires state { IsSomeState upload.now.state }
         ensures begun { (x : IndexSet) (n : ℕ) (u : Upload) → RepresentsValid x n upload.now u
             → IsBegun x n offset count declare u result }
         ensures content { (x : IndexSet) (n : ℕ) (u : Upload) (current : ℕ → ℕ) (first : ℕ)
@@ -91,16 +92,13 @@ impl SpoolDraft {
         ensures after { IfOk result (IsAfter upload.now.text_len upload.now.state) }
     {
         upload.admits(offset, count, declare)?;
-        let Some(progress) = Progress::after(alloc, upload, list) else {
-            return Err(UploadRefusal::NoSuch);
-        };
         Ok(SpoolDraft {
             number: upload.number,
             offset,
             came: 0,
             declare,
             committed_len: upload.text_len,
-            progress,
+            progress: Progress::after(alloc, upload, list),
             spare: Spare::new(alloc),
         })
     }
@@ -152,8 +150,8 @@ impl SpoolDraft {
         }
     }
 
-    /// Appends bytes to the body, without a sync. If a character is unmappable or no block is free, the draft gives its
-    /// blocks back and reserves no more; `end` then reports the reason.
+    /// Appends bytes to the body, without a sync. If a character is unmappable, the upload was complete or no block is
+    /// free, the draft gives its blocks back and reserves no more; `end` then reports the reason.
     ///
     /// # Errors
     ///
@@ -208,6 +206,10 @@ impl SpoolDraft {
         if piece.is_empty() {
             return Ok(());
         }
+        if let Progress::Complete = &self.progress {
+            self.came = self.came.saturating_add(piece.len() as u64);
+            return Ok(());
+        }
         let mut added = self.spare.take(alloc);
         let Ok(next) = self.progress.fed(indexes, piece, &mut added) else {
             return Err(Stop::NoMemory);
@@ -218,11 +220,8 @@ impl SpoolDraft {
         };
         let Progress::Text { transcoder, text } = &mut self.progress else {
             self.spare.give_back(added);
-            self.leave(
-                Progress::OutOfRoom { transcoder: next },
-                blocks,
-                piece.len(),
-            );
+            let short = Progress::OutOfRoom { transcoder: next };
+            self.leave(short, blocks, piece.len());
             return Ok(());
         };
         match text.put(alloc, disk, layout, blocks, &added) {
@@ -235,11 +234,8 @@ impl SpoolDraft {
             Err(DraftError::Stop(stop)) => Err(stop),
             Err(DraftError::Full) => {
                 self.spare.give_back(added);
-                self.leave(
-                    Progress::OutOfRoom { transcoder: next },
-                    blocks,
-                    piece.len(),
-                );
+                let short = Progress::OutOfRoom { transcoder: next };
+                self.leave(short, blocks, piece.len());
                 Ok(())
             }
         }
@@ -261,7 +257,8 @@ impl SpoolDraft {
     ///
     /// # Errors
     ///
-    /// `Unencodable`, `Full`, `NoMemory`, `DiskFault`; the draft can then only be dropped.
+    /// `Unencodable`; `TooLong` if the upload was complete; `Full`, `NoMemory`, `DiskFault`. The draft can then only be
+    /// dropped.
     #[tactic(auto, using(crate::proofs::Effects::effect_none))]
     pub fn end<D: Disk>(
         &mut self,
@@ -297,7 +294,7 @@ impl SpoolDraft {
         ensures room { (len : ℕ) (state : List ℕ) → IsAfter len state self.old → IsOk result
             → offset_of self.old + 1 < 2 ^ 64 }
         ensures refusal { (e : UploadRefusal) → IsErrOf result (UploadError.Refused e)
-            → (e ≡ UploadRefusal.Unencodable) ⊎ (e ≡ UploadRefusal.Full) }
+            → ((e ≡ UploadRefusal.Unencodable) ⊎ (e ≡ UploadRefusal.TooLong)) ⊎ (e ≡ UploadRefusal.Full) }
 
         // Nothing is written. Nothing is read either if the committed text has no unfinished block.
         ensures unread { tail_of self.old ≡ [] → disk.new ≡ disk.old }

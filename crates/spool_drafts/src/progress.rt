@@ -1,38 +1,37 @@
 //! The progress of a draft: the state of transcoding, and the new text.
-ghost use Rattle.std.specs.Prelude.{◌≡◌, ◌≤◌, ◌*◌, ◌++◌, ℕ, false, None, List, [], length, MatchOption, IfOk, IfSome};
-ghost use Rattle.std.specs.Prelude.{IsErrOf, IsOk};
+ghost use Rattle.std.specs.Prelude.{◌≡◌, ◌⊎◌, ◌≤◌, ◌*◌, ◌++◌, ℕ, false, None, List, [], length, IfOk};
+ghost use Rattle.std.specs.Prelude.{IsErrOf, IsOk, option_copied};
 ghost use Rattle.enc_model.specs.Indexes.{IndexSet};
-ghost use Rattle.enc_stream.specs.StateBytes.{IsValidState};
 ghost use Rattle.spool_texts.specs.Drafts.{IsReserved, GivesBack};
 ghost use Rattle.upload_rules.specs.Lengths.{is_length};
 ghost use Rattle.upload_rules.specs.Records.{Represents};
 ghost use Rattle.upload_rules.specs.Store.{Upload, text_with, is_complete};
-ghost use Rattle.upload_rules.specs.States.{IsState, SameEncodings, transcoder_with};
+ghost use Rattle.upload_rules.specs.States.{IsKeptState, IsSomeState, IsState, SameEncodings, transcoder_with};
 ghost use Rattle.upload_rules.specs.declared.errors.UploadRefusal.{UploadRefusal};
 ghost use Rattle.spool_drafts.specs.Progress.{IsStateAfter, ReadsOn, IsStateOf, IsGrowing, FinishesAs, Starts};
-ghost use Rattle.spool_drafts.specs.Progress.{blocks_in, transcoder_in};
+ghost use Rattle.spool_drafts.specs.Progress.{IsCompleteIn, blocks_in, refusal_in, transcoder_in};
 ghost use Rattle.common.specs.declared.stop.Stop.{Stop};
 
 use enc_index::IndexSet;
-use enc_stream::{TranscodeError, Transcoder};
+use enc_stream::{EncodeError, OpenTranscoder};
 use spool_blocks::{BlockNo, Blocks};
 use spool_journal::PAGE;
 use spool_texts::BlockText;
 use std::alloc::{AllocError, Global};
 use std::mem;
-use upload_rules::{NewText, Record, UploadError, UploadRefusal};
+use upload_rules::{NewText, Record, UploadError, UploadRefusal, end_text};
 
 /// What a draft has after its bytes.
 #[derive(Drop)]
 pub(crate) enum Progress {
     /// More bytes may come, and their text is stored.
     Text {
-        transcoder: Transcoder,
+        transcoder: OpenTranscoder,
         text: BlockText,
     },
     /// More bytes may come, but no block was free for their text: it isn't stored.
     OutOfRoom {
-        transcoder: Transcoder,
+        transcoder: OpenTranscoder,
     },
     /// A character is unmappable: the append can only be refused.
     Unencodable,
@@ -41,40 +40,51 @@ pub(crate) enum Progress {
 }
 
 impl Progress {
-    /// The progress before the first byte of an append to this upload, whose text is on the listed blocks. None if the
-    /// record's state bytes aren't a state.
-    pub(crate) fn after(alloc: Global, upload: &Record, list: &[BlockNo]) -> Option<Self>
-        requires { upload.now.text_len ≤ PAGE * length list.now }
+    /// The progress before the first byte of an append to this upload, whose text is on the listed blocks.
+    pub(crate) fn after(alloc: Global, upload: &Record, list: &[BlockNo]) -> Self
+        requires state { IsSomeState upload.now.state }
+        requires long { upload.now.text_len ≤ PAGE * length list.now }
         ensures state_after { (x : IndexSet) (n : ℕ) (u : Upload) → Represents x n upload.now u
             → (text_with x u [] (is_complete u)).fault ≡ None
-            → IsValidState (transcoder_with x u [] (is_complete u))
-            → MatchOption result ⊥ (λ p. IsStateAfter x u [] (transcoder_in p)) }
-        ensures goes_on { IfSome result (λ p. IsStateOf upload.now.state (transcoder_in p)) }
-        ensures room { IfSome result (λ p. IsGrowing (transcoder_in p)
-            → is_length upload.now.declared upload.now.accepted ≡ false) }
-        ensures starts { IfSome result (Starts upload.now.text_len list.now) }
+            → IsKeptState (transcoder_with x u [] (is_complete u)) (is_complete u)
+            → IsStateAfter x u [] (transcoder_in result) × IsCompleteIn u result }
+        ensures goes_on { IsStateOf upload.now.state (transcoder_in result) }
+        ensures room { IsGrowing (transcoder_in result) → is_length upload.now.declared upload.now.accepted ≡ false }
+        ensures starts { Starts upload.now.text_len list.now result }
     {
-        match NewText::after(alloc, upload)? {
+        match NewText::after(alloc, upload) {
             NewText::Growing {
                 transcoder,
                 text: _text,
-            } => Some(Progress::Text {
+            } => Progress::Text {
                 transcoder,
                 text: BlockText::after(alloc, upload.text_len, list),
-            }),
-            NewText::Unencodable => Some(Progress::Unencodable),
-            NewText::Complete => Some(Progress::Complete),
+            },
+            NewText::Unencodable => Progress::Unencodable,
+            NewText::Complete => Progress::Complete,
         }
     }
 
-    // A copy of the transcoder, if bytes may come.
-    fn transcoder(&self) -> Option<Transcoder>
-        ensures { result ≡ transcoder_in self.now }
+    // The transcoder, if bytes may come.
+    fn transcoder(&self) -> Option<&OpenTranscoder>
+        ensures { option_copied result ≡ transcoder_in self.now }
     {
         match self {
-            Progress::Text { transcoder, .. } => Some(transcoder.copy()),
-            Progress::OutOfRoom { transcoder } => Some(transcoder.copy()),
-            _ => None,
+            Progress::Text { transcoder, .. } | Progress::OutOfRoom { transcoder } => {
+                Some(transcoder)
+            }
+            Progress::Unencodable | Progress::Complete => None,
+        }
+    }
+
+    // Why bytes may not come, where they may not.
+    fn refusal(&self) -> UploadRefusal
+        ensures same { result ≡ refusal_in self.now }
+        ensures either { (result ≡ UploadRefusal.Unencodable) ⊎ (result ≡ UploadRefusal.TooLong) }
+    {
+        match self {
+            Progress::Complete => UploadRefusal::TooLong,
+            _ => UploadRefusal::Unencodable,
         }
     }
 
@@ -85,7 +95,7 @@ impl Progress {
         indexes: &IndexSet,
         piece: &[u8],
         out: &mut Vec<u8>,
-    ) -> Result<Option<Transcoder>, AllocError>
+    ) -> Result<Option<OpenTranscoder>, AllocError>
         requires { out.old.items ≡ [] }
         ensures reads { (u : Upload) (bytes : List ℕ) → is_complete u ≡ false
             → IsStateAfter indexes.now u bytes (transcoder_in self.now)
@@ -93,13 +103,13 @@ impl Progress {
         ensures goes_on { (state : List ℕ) → IsStateOf state (transcoder_in self.now) → IfOk result (IsStateOf state) }
         ensures growing { IfOk result (λ next. IsGrowing next → IsGrowing (transcoder_in self.now)) }
     {
-        let Some(mut next) = self.transcoder() else {
+        let Some(transcoder) = self.transcoder() else {
             return Ok(None);
         };
-        match next.feed(indexes, piece, out) {
-            Ok(()) => Ok(Some(next)),
-            Err(TranscodeError::Unencodable(_)) => Ok(None),
-            Err(_) => Err(AllocError),
+        match transcoder.fed(indexes, piece, out) {
+            Ok(next) => Ok(Some(next)),
+            Err(EncodeError::Unencodable(_)) => Ok(None),
+            Err(EncodeError::NoMemory) => Err(AllocError),
         }
     }
 
@@ -111,22 +121,19 @@ impl Progress {
         completes: bool,
     ) -> Result<([u8; 32], Vec<u8>), UploadError>
         ensures finished { (u : Upload) (bytes : List ℕ) → is_complete u ≡ false
-            → IsStateAfter indexes.now u bytes (transcoder_in self.now)
+            → IsStateAfter indexes.now u bytes (transcoder_in self.now) → IsCompleteIn u self.now
             → FinishesAs indexes.now u bytes completes result }
         ensures same { (state : List ℕ) → IsState state → IsStateOf state (transcoder_in self.now)
             → IfOk result (λ end. SameEncodings state end.0) }
         ensures growing { IsOk result → IsGrowing (transcoder_in self.now) }
         ensures no_disk_fault { IsErrOf result (UploadError.Stop Stop.DiskFault) → ⊥ }
-        ensures refusal { (e : UploadRefusal) → IsErrOf result (UploadError.Refused e) → e ≡ UploadRefusal.Unencodable }
+        ensures refusal { (e : UploadRefusal) → IsErrOf result (UploadError.Refused e)
+            → (e ≡ UploadRefusal.Unencodable) ⊎ (e ≡ UploadRefusal.TooLong) }
     {
         let Some(transcoder) = self.transcoder() else {
-            return Err(UploadError::Refused(UploadRefusal::Unencodable));
+            return Err(UploadError::Refused(self.refusal()));
         };
-        let text = NewText::Growing {
-            transcoder,
-            text: Vec::new(alloc),
-        };
-        text.ended(indexes, completes)
+        end_text(transcoder, Vec::new(alloc), indexes, completes)
     }
 
     /// Goes over to other progress, and gives the blocks back that the text reserved.

@@ -15,6 +15,7 @@ ghost use Rattle.spool_load.specs.Refusals.{IsNoSpool, HasOtherVersion, IsDamage
 ghost use Rattle.spool_image.specs.LeftOnly.{AllShow, IsSpool, LeftOrShows};
 ghost use Rattle.spool_image.specs.Opening.{OpensBy, ReadsBy, ReadsSame, Unwritten};
 
+use common::Stop;
 use enc_index::IndexSet;
 use spool_catalog::{Catalog, OpenFault};
 use spool_disk::Disk;
@@ -258,7 +259,7 @@ impl<D: Disk> Uploads for Spool<D> {
         Ok(SpoolAppend { number })
     }
 
-    fn append(&mut self, draft: &mut SpoolAppend, piece: &[u8]) -> Result<(), UploadError> {
+    fn append(&mut self, draft: &mut SpoolAppend, piece: &[u8]) -> Result<(), Stop> {
         append(
             self.alloc,
             &mut self.disk,

@@ -15,7 +15,8 @@ use Rattle.upload_rules.specs.States.{IsState}
 use Rattle.upload_rules.specs.Store.{find, patched_store, upload_of}
 use Rattle.upload_rules.specs.World.{Patch, World}
 use Rattle.upload_rules.specs.declared.errors.UploadRefusal.{UploadRefusal}
-use Rattle.upload_rules.specs.declared.errors.UploadRefusal.TheVariants.{LengthSet, NoSuch, Offset, TooLong}
+use Rattle.upload_rules.specs.declared.errors.UploadRefusal.TheVariants.{Full, LengthSet, NoSuch, Offset, TooLong}
+use Rattle.upload_rules.specs.declared.errors.UploadRefusal.TheVariants.{Unencodable}
 use Rattle.spool_kept.specs.Drafting.{DraftsHold, IsStillOpen, StandsFor}
 use Rattle.spool_catalog.specs.Holding.{Holding, IsUsedBy}
 use Rattle.spool_kept.specs.declared.finding.Found.{Found}
@@ -94,3 +95,7 @@ pub record IsCommit {D : Type 0} (sure : Bool) (disk : Ghosts D) (d : D) (h : Ho
 pub record PreservesDisk {D : Type 0} (disk : Ghosts D) (old new : D) : Type 0 where
   pub preserves : Preserves (disk.current old) (disk.current new) (disk.unsynced old) (disk.unsynced new)
   pub lasts : Lasts disk old new (IsImage (disk.current old) (disk.unsynced old))
+
+-- why a draft's end is refused: a character is unmappable, the upload was complete, or no block is free
+abbrev pub IsEndRefusal : UploadRefusal → Type 0
+IsEndRefusal e = ((e ≡ Unencodable) ⊎ (e ≡ TooLong)) ⊎ (e ≡ Full)

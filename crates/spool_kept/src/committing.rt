@@ -1,6 +1,6 @@
 //! The text of a draft is put after its upload's.
 
-ghost use Rattle.std.specs.Prelude.{◌≡◌, ◌≤◌, ◌*◌, ◌↔◌, ◌⊎◌, ℕ, false, List, [], Option, Some, None, get_or, slice_set};
+ghost use Rattle.std.specs.Prelude.{◌≡◌, ◌≤◌, ◌*◌, ◌↔◌, ℕ, false, List, [], Option, Some, None, get_or, slice_set};
 ghost use Rattle.std.specs.Prelude.{IsErrOf, IfOk, OnOk, Bool, true};
 ghost use Rattle.spool_disk.specs.Views.{Lasts};
 ghost use Rattle.spool_journal.specs.Image.{journal_pages, all_pages};
@@ -17,7 +17,7 @@ ghost use Rattle.upload_rules.specs.Store.{Store, find, patched_store};
 ghost use Rattle.upload_rules.specs.World.{Patch, World, reached};
 ghost use Rattle.upload_rules.specs.declared.errors.UploadRefusal.{UploadRefusal};
 ghost use Rattle.spool_kept.specs.Committing.{HasOtherCount, IsAfterSlot, IsCommit, IsFound, MayDeclare, PreservesDisk};
-ghost use Rattle.spool_kept.specs.Committing.{with_length_at};
+ghost use Rattle.spool_kept.specs.Committing.{IsEndRefusal, with_length_at};
 ghost use Rattle.spool_kept.specs.Drafting.{DraftsFit, OnlyReserves, StandsFor};
 ghost use Rattle.spool_kept.specs.Extending.{Advances, IsPending};
 ghost use Rattle.spool_catalog.specs.Longer.{MayExtend};
@@ -36,7 +36,7 @@ use std::alloc::Global;
 use upload_rules::{UploadError, UploadRefusal, is_length, taken};
 
 // Ends a draft's text after its upload's, and answers what the upload becomes, and the bytes that are still to be
-// written: refused with `Unencodable`, `Full`, `NoMemory`, `DiskFault`. The blocks stay the draft's. Nothing is
+// written: refused with `Unencodable`, `TooLong`, `Full`, `NoMemory`, `DiskFault`. The blocks stay the draft's. Nothing is
 // written.
 fn ended<D: Disk>(
     alloc: Global,
@@ -64,8 +64,7 @@ fn ended<D: Disk>(
     ensures may { IfOk result (λ e. MayExtend catalog.new e.0 (list_of draft.new)) }
     ensures more { IfOk result (λ e. (r : SlotRecord) → get_or catalog.new.slots e.0.slot None ≡ Some r
         → Advances r e.0) }
-    ensures refusal { (e : UploadRefusal) → IsErrOf result (UploadError.Refused e)
-        → (e ≡ UploadRefusal.Unencodable) ⊎ (e ≡ UploadRefusal.Full) }
+    ensures refusal { (e : UploadRefusal) → IsErrOf result (UploadError.Refused e) → IsEndRefusal e }
     ensures answer { (sure : Bool) (drafts : List (Option SpoolDraft)) (number : ℕ) (w : World) (p : Patch)
         → IsCommit sure D.Disk disk.old catalog.old drafts number draft.old w p
         → Answers (commit_refusal w number p) result
@@ -129,8 +128,7 @@ fn append_to<D: Disk>(
     ensures version { catalog.new.version ≡ catalog.old.version }
     ensures fits { (drafts : List (Option SpoolDraft)) (number : ℕ) → DraftsFit catalog.old drafts
         → draft_at drafts number ≡ Some draft → DraftsFit catalog.new (slice_set drafts number None) }
-    ensures refusal { (e : UploadRefusal) → IsErrOf result (UploadError.Refused e)
-        → (e ≡ UploadRefusal.Unencodable) ⊎ (e ≡ UploadRefusal.Full) }
+    ensures refusal { (e : UploadRefusal) → IsErrOf result (UploadError.Refused e) → IsEndRefusal e }
     ensures answer { (sure : Bool) (drafts : List (Option SpoolDraft)) (number : ℕ) (w : World) (p : Patch)
         → IsCommit sure D.Disk disk.old catalog.old drafts number draft w p
         → Answers (commit_refusal w number p) result

@@ -4,8 +4,7 @@ ghost use Rattle.std.specs.Prelude.{Bool, true};
 ghost use Rattle.spool_disk.specs.Disk.{Counts};
 ghost use Rattle.spool_disk.specs.Views.{Lasts};
 ghost use Rattle.spool_journal.specs.Image.{all_pages, text_page};
-ghost use Rattle.upload_rules.specs.Answers.{Answers};
-ghost use Rattle.upload_rules.specs.Errors.{unrefused};
+ghost use Rattle.upload_rules.specs.Answers.{Answers, DoesOrStops};
 ghost use Rattle.upload_rules.specs.Calls.{appended, begin_refusal, begun, dropped};
 ghost use Rattle.upload_rules.specs.Store.{Store, find};
 ghost use Rattle.upload_rules.specs.World.{Patch, World, free_number};
@@ -80,8 +79,8 @@ pub fn begin<D: Disk>(
     }
 }
 
-/// Adds bytes to the draft of a number, at most its count in all: refused with `NoMemory`, after which it is as before,
-/// and `DiskFault`, after which it may only be dropped. No sync is made.
+/// Adds bytes to the draft of a number, at most its count in all: `NoMemory`, after which it is as before, or
+/// `DiskFault`, after which it may only be dropped. No sync is made. Where no draft has the number, nothing is done.
 pub fn append<D: Disk>(
     alloc: Global,
     disk: &mut D,
@@ -89,19 +88,18 @@ pub fn append<D: Disk>(
     drafts: &mut Vec<Option<SpoolDraft>>,
     number: usize,
     piece: &[u8],
-) -> Result<(), UploadError>
+) -> Result<(), Stop>
     requires room { PAGE * all_pages catalog.old.layout ≤ D.size disk.old }
     requires fits { DraftsFit catalog.old drafts.old.items }
     ensures fits { DraftsFit catalog.new drafts.new.items }
     ensures same { OnlyReserves catalog.old catalog.new }
     ensures size { D.size disk.new ≡ D.size disk.old }
     ensures honest { D.honest disk.old ↔ D.honest disk.new }
-    ensures counts { Counts (IsErrOf result (UploadError.Stop Stop.DiskFault)) (D.failures disk.old)
-        (D.failures disk.new) }
+    ensures counts { Counts (IsErrOf result Stop.DiskFault) (D.failures disk.old) (D.failures disk.new) }
     ensures answer { (sure : Bool) (w : World) (p : Patch)
         → StandsFor sure D.Disk disk.old catalog.old drafts.old.items w
         → find number w.patches ≡ Some p → length p.body + length piece.now ≤ p.count
-        → Answers None result
+        → DoesOrStops result
         (λ done. StandsFor sure D.Disk disk.new catalog.new drafts.new.items (appended w number piece.now))
         (StandsFor sure D.Disk disk.new catalog.new drafts.new.items w) }
     // A crash during it leaves what shows the same.
@@ -111,7 +109,7 @@ pub fn append<D: Disk>(
         (λ image. (n : ℕ) (m : Store) → ImageShows n (D.current disk.old) m → ImageShows n image m) }
 {
     let Some(mut draft) = taken(drafts, number) else {
-        return Err(UploadError::Refused(UploadRefusal::NoSuch));
+        return Ok(());
     };
     let _rows = catalog.blocks.rows();
     let answer = draft.append(
@@ -123,14 +121,7 @@ pub fn append<D: Disk>(
         piece,
     );
     put_back(drafts, number, draft);
-    answer_of(answer)
-}
-
-// The same answer, of a call that the rules can't refuse.
-fn answer_of(answer: Result<(), Stop>) -> Result<(), UploadError>
-    ensures { result ≡ unrefused answer }
-{
-    Ok(answer?)
+    answer
 }
 
 /// Gives the draft of a number up, and its blocks back.

@@ -107,7 +107,7 @@ pub(crate) fn declared<U: Uploads>(
         Ok(()) => uploads.commit(draft),
         Err(e) => {
             uploads.drop_open(draft);
-            Err(e)
+            Err(UploadError::Stop(e))
         }
     }
 }

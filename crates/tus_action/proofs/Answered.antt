@@ -6,7 +6,6 @@ use Rattle.upload_rules.specs.declared.errors.UploadError.{UploadError}
 use Rattle.upload_rules.specs.declared.errors.UploadError.TheVariants as errors
 use Rattle.upload_rules.specs.declared.errors.UploadError.TheVariants.{Refused}
 use Rattle.upload_rules.specs.declared.uploads.Uploads.{Ghosts}
-use Rattle.upload_rules.specs.Errors.{stop_of}
 use Rattle.tus_action.specs.Faults.{reply_fault_of}
 use Rattle.tus_action.specs.Serves.{CutCommits, Feeds, Finishes, Serves, RepliesOnly, RepliesTo}
 use Rattle.tus_action.specs.declared.bodies.OpenPatch.{OpenPatch}
@@ -16,7 +15,7 @@ use Rattle.tus_action.specs.declared.acts.Done as code
 use Rattle.tus_request.specs.Replies.{reply_refused}
 use Rattle.std.proofs.Math.Seq.{take-append_seam}
 use Rattle.std.specs.Prelude.{IsErrOf}
-use Rattle.upload_rules.specs.Answers.{Answers, IsLate, Limits}
+use Rattle.upload_rules.specs.Answers.{Answers, DoesOrStops, IsLate, Limits}
 use Rattle.tus_action.specs.Acts.{fed, fed_patch, Acted, replied}
 use Rattle.upload_rules.specs.Store.{Store, find, replaced}
 use Rattle.upload_rules.specs.World.{Patch, World}
@@ -77,15 +76,13 @@ some_items b list is not_empty none = let e : true ≡ false =
     ap (λ l. length l == 0) (sym none) ∙ (sym is ∙ not_empty) in absurd (cc)
 
 -- bytes that were not taken: the draft is dropped
-pub fed_gone : {U B : Type 0} {sure : Bool} (u : Ghosts U B) (store next : U) (w : World) (e : UploadError) (d d' : ℕ)
-    (w' : World) (b : OpenPatch B) (p : Patch) (done : Unit {0} → Type 0) → Answers {T = Unit {0}} None (Err e) done
+pub fed_gone : {U B : Type 0} {sure : Bool} (u : Ghosts U B) (store next : U) (w : World) (stop : Stop) (d d' : ℕ)
+    (w' : World) (b : OpenPatch B) (p : Patch) (done : Unit {0} → Type 0) → DoesOrStops {T = Unit {0}} (Err stop) done
     (u.represents store sure w) → (u.represents store sure w → u.represents next sure (dropped w d')) → d' ≡ d
-    → Feeds u sure next (Err (stop_of e)) (dropped w d) w' b p
-fed_gone {sure = sure} u store next w (errors.Stop NoMemory) d d' w' b p done a drops same = subst
-    (λ x. u.represents next sure (dropped w x)) same (drops a.1)
-fed_gone {sure = sure} u store next w (errors.Stop DiskFault) d d' w' b p done a drops same = tt {0}
-fed_gone {sure = sure} u store next w (Refused f) d d' w' b p done a drops same = let e : None ≡ Some f = a.0 in absurd
-    (cc)
+    → Feeds u sure next (Err stop) (dropped w d) w' b p
+fed_gone {sure = sure} u store next w NoMemory d d' w' b p done a drops same = subst
+    (λ x. u.represents next sure (dropped w x)) same (drops a)
+fed_gone {sure = sure} u store next w DiskFault d d' w' b p done a drops same = tt {0}
 
 -- a cut body that isn't committed: out of memory, the patch is gone
 pub stops_ends : {U B T : Type 0} (u : Ghosts U B) (sure : Bool) (store : U) (gone w : World) (stop : Stop)

@@ -65,9 +65,9 @@ pub fn feed<U: Uploads>(
             bare,
             closes,
         }),
-        Err(error) => {
+        Err(stop) => {
             store.drop_open(draft);
-            Err(Stop::from(error))
+            Err(stop)
         }
     }
 }

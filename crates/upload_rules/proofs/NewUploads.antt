@@ -13,7 +13,7 @@ use Rattle.enc_model.specs.Utf16.{utf16}
 use Rattle.enc_model.specs.Japanese.{SingleState, single, shift_jis, euc_jp, iso2022}
 use Rattle.enc_model.specs.Decode.{decoding, decoding_start, decoded, decode, text}
 use Rattle.enc_model.proofs.Pieces.{decoded_none}
-use Rattle.enc_stream.specs.TranscoderState.{TranscoderState, start, ended_state}
+use Rattle.enc_stream.specs.TranscoderState.{TranscoderState, is_phase_over, start, ended_state}
 use Rattle.upload_rules.specs.Lengths.{is_length}
 use Rattle.upload_rules.specs.States.{transcoder_with}
 use Rattle.upload_rules.specs.Store.{New, new_upload, text_of, text_with, is_complete}
@@ -78,6 +78,10 @@ pub new_open : (x : IndexSet) (new : New) (t : TranscoderState) → t ≡ start 
     → t.transcoder ≡ transcoder_with x (new_upload new) [] (is_complete (new_upload new))
 new_open x new t is some =
     rw (is, some, decoded_none (tables x) new.from, text_of_nothing (tables x) new.from new.to new.mode false) refl
+
+pub new_open_phase : (x : IndexSet) (new : New) → is_complete (new_upload new) ≡ false
+    → is_phase_over (transcoder_with x (new_upload new) [] (is_complete (new_upload new))).phase ≡ false
+new_open_phase x new some = rw (some, decoded_none (tables x) new.from) refl
 
 pub new_complete : (x : IndexSet) (new : New) (t : TranscoderState) → t ≡ ended_state (start new.from new.to new.mode)
     → is_length new.declared 0 ≡ true

@@ -2,14 +2,13 @@
 use Rattle.std.proofs.Common.{◌≡◌, ℕ, ◌+◌, ◌<◌, ◌≤◌, ◌^◌, [], length, Option, Some, None, Ok, Err, refl, sym, ◌∙◌, ap}
 use Rattle.std.proofs.Common.{arith}
 use Rattle.enc_model.specs.Indexes.{IndexSet}
-use Rattle.enc_stream.specs.StateBytes.{IsValidState}
 use Rattle.upload_rules.specs.declared.new_text.NewText.{NewText}
 use Rattle.upload_rules.specs.declared.slot.Slot.{Slot}
 use Rattle.upload_rules.specs.declared.table.Table.{Table}
 use Rattle.upload_rules.specs.declared.errors.UploadRefusal.{UploadRefusal}
 use Rattle.upload_rules.specs.Lengths.{known_or, longest}
 use Rattle.upload_rules.specs.Store.{Upload, upload_of, text_with, is_complete, accepted_count}
-use Rattle.upload_rules.specs.States.{transcoder_with}
+use Rattle.upload_rules.specs.States.{IsKeptState, transcoder_with}
 use Rattle.upload_rules.specs.Records.{Represents}
 use Rattle.upload_rules.specs.World.{World}
 use Rattle.upload_rules.specs.Calls.{begin_refusal_at}
@@ -36,7 +35,7 @@ module _ (t : Table) (w : World) (represents : TableRepresents t w) where
       → begin_refusal_at offset count declare (Some u) ≡ None)
       → ((x : IndexSet) (n : ℕ) (u : Upload) → Represents x n s.record u
       → (text_with x u [] (is_complete u)).fault ≡ None
-      → IsValidState (transcoder_with x u [] (is_complete u)) → HoldsText x u [] text)
+      → IsKeptState (transcoder_with x u [] (is_complete u)) (is_complete u) → HoldsText x u [] text)
       → IsOpened w n offset count declare u (Ok (record {
         number = n;
         offset = offset;

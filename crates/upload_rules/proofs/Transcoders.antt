@@ -1,17 +1,19 @@
 -- A transcoder that has read an upload's bytes: one piece further, and at the end.
 use Rattle.std.proofs.Common.{◌≡◌, ℕ, Bool, true, false, List, [], ◌++◌, Option, Some, None, refl, sym, ◌∙◌, ap}
-use Rattle.std.proofs.Common.{append_assoc, append-nil, Vec, Global}
+use Rattle.std.proofs.Common.{append_assoc, append-nil, Err, Vec, Global}
 use Rattle.enc_model.specs.Indexes.{IndexSet, tables}
 use Rattle.enc_model.specs.Encode.{Coded, led_by}
 use Rattle.enc_model.specs.Transcode.{Transcoder, fed_text, added, added_end}
-use Rattle.enc_stream.specs.TranscoderState.{TranscoderState, stepped_on, ended_state, RefusedAs}
+use Rattle.enc_stream.specs.TranscoderState.{TranscoderState, is_phase_over, stepped_on, ended_state, IsPartWritten}
 use Rattle.enc_stream.specs.StateBytes.{IsValidState, transcoder_state, state_bytes}
-use Rattle.enc_stream.specs.declared.error.TranscodeError.{TranscodeError}
-use Rattle.enc_stream.specs.declared.error.TranscodeError.TheVariants as errors
+use Rattle.enc_stream.specs.Errors.{error_of}
+use Rattle.enc_encode.specs.declared.error.EncodeError.{EncodeError}
+use Rattle.enc_encode.specs.declared.error.EncodeError.TheVariants as errors
 use Rattle.upload_rules.specs.Store.{Upload, text_from, text_with}
 use Rattle.upload_rules.specs.World.{is_there}
 use Rattle.upload_rules.specs.States.{phase_from, transcoder_with, state_with}
-use Rattle.upload_rules.specs.Texts.{IsReading, IsRest, IsWholeAppend}
+use Rattle.upload_rules.specs.Errors.{encode_error}
+use Rattle.upload_rules.specs.Texts.{IsEnded, IsReading, IsRest, IsWholeAppend}
 use Rattle.upload_rules.proofs.TextGrows.{fault_stays, phase_more, text_end, text_more}
 
 over : (s r : Transcoder) → s.from ≡ r.from → s.to ≡ r.to → s.mode ≡ r.mode → s.phase ≡ r.phase → s.shift ≡ r.shift
@@ -87,12 +89,19 @@ module _ (x : IndexSet) (u : Upload) (bytes : List ℕ) (t : TranscoderState) (h
       → is_there (text_with x u bytes true).fault ≡ true
   end_fault d h = ap is_there (ap (λ r. r.fault) represents_ended ∙ h)
 
+  -- why it isn't written
+  pub end_refused : (e : EncodeError) (old new : Vec ℕ Global)
+      → IsPartWritten (error_of e) (added_end (tables x) t.transcoder) old new
+      → IsEnded x u bytes true (Err (encode_error e))
+  end_refused errors.NoMemory old new why = tt
+  end_refused (errors.Unencodable d) old new why = end_fault d why.reason
+
   pub whole_open : (state old : List ℕ) → state ≡ state_bytes t.transcoder → IsValidState t.transcoder
-      → IsRest x u bytes false old → IsWholeAppend x u bytes false state old
+      → is_phase_over t.transcoder.phase ≡ false → IsRest x u bytes false old → IsWholeAppend x u bytes false state old
   unfolding state_with
-  whole_open state old is valid rest = record {
+  whole_open state old is valid more rest = record {
     state_is = is ∙ ap state_bytes still_open;
-    valid = rw still_open at valid;
+    valid = record { valid = rw still_open at valid; takes_more = λ e. rw still_open at more };
     rest = rest;
     encodable = here.encodable;
   }
@@ -110,7 +119,7 @@ module _ (x : IndexSet) (u : Upload) (bytes : List ℕ) (t : TranscoderState) (h
   unfolding state_with
   whole_ended next state old new is packed valid rest ok grown = record {
     state_is = packed ∙ ap state_bytes (at_end next is);
-    valid = rw (at_end next is) at valid;
+    valid = record { valid = rw (at_end next is) at valid; takes_more = λ e. cc };
     rest = (
         let start = (text_with x u [] false).bytes in
         let more = (added_end (tables x) t.transcoder).bytes in
@@ -140,6 +149,6 @@ unencodable_ended x u bytes done h =
     ap (λ b. is_there (text_with x u b done).fault) (sym (append-nil bytes)) ∙ stays_unencodable x u bytes [] done h
 
 -- why a transcoder stopped
-pub code_fault : (e : TranscodeError) (c : ℕ) (r : Coded) (old new : Vec ℕ Global) (before after : TranscoderState)
-    → e ≡ errors.Unencodable c → RefusedAs e r old new before after → r.fault ≡ Some c
-code_fault e c r old new before after is why = (rw is at why).0.reason
+pub code_fault : (e : EncodeError) (c : ℕ) (r : Coded) (old new : Vec ℕ Global) → e ≡ errors.Unencodable c
+    → IsPartWritten (error_of e) r old new → r.fault ≡ Some c
+code_fault e c r old new is why = (rw is at why).reason

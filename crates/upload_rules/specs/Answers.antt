@@ -1,7 +1,8 @@
 -- The results of calls on a store.
 use Rattle.std.specs.Prelude.{◌≡◌, ◌⊎◌, ◌<◌, ◌≤◌, ◌+◌, ◌^◌, ℕ, List, [], ◌∷◌, Option, Some, None, Result, Ok, Err}
 use Rattle.upload_rules.specs.declared.errors.UploadError.{UploadError}
-use Rattle.upload_rules.specs.declared.errors.UploadError.TheVariants.{Stop, Refused}
+use Rattle.upload_rules.specs.declared.errors.UploadError.TheVariants as errors
+use Rattle.common.specs.declared.stop.Stop.{Stop}
 use Rattle.common.specs.declared.stop.Stop.TheVariants.{NoMemory, DiskFault}
 use Rattle.upload_rules.specs.declared.errors.UploadRefusal.{UploadRefusal}
 use Rattle.upload_rules.specs.declared.errors.UploadRefusal.TheVariants.{Unencodable, Full}
@@ -21,9 +22,15 @@ IsLate (Some e) = ⊥
 -- met a disk fault.
 abbrev pub Answers : {T : Type 0} → Option UploadRefusal → Result T UploadError → (T → Type 0) → Type 0 → Type 0
 Answers refusal (Ok t) done same = (refusal ≡ None) × done t
-Answers refusal (Err (Stop NoMemory)) done same = IsLate refusal × same
-Answers refusal (Err (Stop DiskFault)) done same = IsLate refusal
-Answers refusal (Err (Refused e)) done same = (refusal ≡ Some e) × same
+Answers refusal (Err (errors.Stop NoMemory)) done same = IsLate refusal × same
+Answers refusal (Err (errors.Stop DiskFault)) done same = IsLate refusal
+Answers refusal (Err (errors.Refused e)) done same = (refusal ≡ Some e) × same
+
+-- The call that the rules can't refuse is done, or it was out of memory, or it met a disk fault.
+abbrev pub DoesOrStops : {T : Type 0} → Result T Stop → (T → Type 0) → Type 0 → Type 0
+DoesOrStops (Ok t) done same = done t
+DoesOrStops (Err NoMemory) done same = same
+DoesOrStops (Err DiskFault) done same = Unit {0}
 
 -- The draft represents the first patch of the upload.
 abbrev pub BeginsWith : (Patch → Type 0) → ℕ → ℕ → Option ℕ → Option Upload → Type 0

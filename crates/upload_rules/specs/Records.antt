@@ -4,9 +4,8 @@ use Rattle.common.specs.declared.limits.TheConstants.{MOST_METADATA}
 use Rattle.enc_model.specs.Indexes.{IndexSet, offers}
 use Rattle.enc_model.specs.declared.Encoding.TheVariants.{Utf16Be, Utf16Le}
 use Rattle.upload_rules.specs.declared.records.Record.{Record}
-use Rattle.enc_stream.specs.StateBytes.{IsValidState}
 use Rattle.upload_rules.specs.Store.{New, Upload, text_of, text_with, is_complete, accepted_count}
-use Rattle.upload_rules.specs.States.{state_of, transcoder_with}
+use Rattle.upload_rules.specs.States.{IsKeptState, state_of, transcoder_with}
 
 -- The record represents the upload.
 pub record Represents (x : IndexSet) (number : ℕ) (r : Record) (u : Upload) : Type 0 where
@@ -24,11 +23,12 @@ pub record Represents (x : IndexSet) (number : ℕ) (r : Record) (u : Upload) : 
 abbrev pub IsShort : Record → Type 0
 IsShort r = length r.metadata.bytes.items ≤ MOST_METADATA
 
--- The record represents the upload, its text has no unmappable character, and its state bytes can be unpacked.
+-- The record represents the upload, its text has no unmappable character, and its state bytes can be unpacked: past the
+-- end only if the upload is complete.
 pub record RepresentsValid (x : IndexSet) (number : ℕ) (r : Record) (u : Upload) : Type 0 where
   pub represents : Represents x number r u
   pub encodable : (text_with x u [] (is_complete u)).fault ≡ None
-  pub valid : IsValidState (transcoder_with x u [] (is_complete u))
+  pub valid : IsKeptState (transcoder_with x u [] (is_complete u)) (is_complete u)
 
 -- The record represents the entry, or neither is there.
 abbrev pub RepresentsOf : IndexSet → Option (ℕ × Upload) → Option Record → Type 0

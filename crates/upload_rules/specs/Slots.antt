@@ -1,10 +1,9 @@
 -- The slots of a table.
 use Rattle.std.specs.Prelude.{◌≡◌, ◌≤◌, ◌<◌, ℕ, List, [], ◌∷◌, None, map, length, slice_index}
 use Rattle.enc_model.specs.Indexes.{IndexSet}
-use Rattle.enc_stream.specs.StateBytes.{IsValidState}
 use Rattle.upload_rules.specs.Store.{Upload, text_of, text_with, is_complete}
 use Rattle.upload_rules.specs.Records.{Represents}
-use Rattle.upload_rules.specs.States.{transcoder_with}
+use Rattle.upload_rules.specs.States.{IsKeptState, transcoder_with}
 use Rattle.upload_rules.specs.declared.slot.Slot.{Slot}
 
 -- The slot's number.
@@ -44,7 +43,7 @@ pub record SlotRepresents (x : IndexSet) (n : ℕ) (u : Upload) (s : Slot) : Typ
   pub represents : Represents x n s.record u
   pub text : s.text.items ≡ text_of x u
   pub encodable : (text_with x u [] (is_complete u)).fault ≡ None
-  pub valid : IsValidState (transcoder_with x u [] (is_complete u))
+  pub valid : IsKeptState (transcoder_with x u [] (is_complete u)) (is_complete u)
 
 -- Each slot represents its upload.
 abbrev pub AllRepresent : IndexSet → List (ℕ × Upload) → List Slot → Type 0

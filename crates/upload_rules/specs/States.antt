@@ -7,6 +7,7 @@ use Rattle.enc_model.specs.Indexes.{IndexSet, tables}
 use Rattle.enc_model.specs.Decode.{decoded}
 use Rattle.enc_model.specs.Transcode.{Transcoder, Phase, Over, phase_of, fed_text}
 use Rattle.enc_stream.specs.StateBytes.{IsValidState, state_bytes}
+use Rattle.enc_stream.specs.TranscoderState.{is_phase_over}
 use Rattle.upload_rules.specs.Store.{Origin, Upload, is_complete, text_from}
 
 -- The phase after these bytes, which come after an origin if there is one.
@@ -44,11 +45,20 @@ state_with x u bytes done = state_bytes (transcoder_with x u bytes done)
 abbrev pub state_of : IndexSet → Upload → List ℕ
 state_of x u = state_with x u [] (is_complete u)
 
+-- The transcoder is valid, and it is past its end only if the text was ended.
+pub record IsKeptState (transcoder : Transcoder) (done : Bool) : Type 0 where
+  pub valid : IsValidState transcoder
+  pub takes_more : done ≡ false → is_phase_over transcoder.phase ≡ false
+
 -- These are the state bytes of a valid transcoder.
 pub record IsState (state : List ℕ) : Type 0 where
   pub transcoder : Transcoder
   pub valid : IsValidState transcoder
   pub is : state ≡ state_bytes transcoder
+
+-- Some valid transcoder has these state bytes.
+abbrev pub IsSomeState : List ℕ → Type 0
+IsSomeState state = ((s : Transcoder) → IsValidState s → state_bytes s ≡ state → ⊥) → ⊥
 
 -- The other transcoder has the encodings and the mode of these state bytes.
 pub record IsStateLike (state : List ℕ) (other : Transcoder) : Type 0 where

@@ -3,13 +3,13 @@ use Rattle.std.specs.Prelude.{◌≡◌, ℕ, Bool, true, false, List, [], ◌++
 use Rattle.std.specs.declared.alloc.Global.{Global}
 use Rattle.enc_model.specs.Indexes.{IndexSet, tables}
 use Rattle.enc_stream.specs.TranscoderState.{TranscoderState}
-use Rattle.enc_stream.specs.StateBytes.{IsValidState}
 use Rattle.upload_rules.specs.Store.{Upload, text_with, is_complete}
-use Rattle.upload_rules.specs.States.{IsStateLike, phase_from, transcoder_with, state_with}
+use Rattle.upload_rules.specs.States.{IsKeptState, IsStateLike, phase_from, transcoder_with, state_with}
 use Rattle.upload_rules.specs.World.{is_there}
 use Rattle.upload_rules.specs.declared.errors.UploadError.{UploadError}
 use Rattle.upload_rules.specs.declared.errors.UploadError.TheVariants.{Stop, Refused}
 use Rattle.common.specs.declared.stop.Stop.TheVariants.{NoMemory}
+use Rattle.upload_rules.specs.declared.errors.UploadRefusal.{UploadRefusal}
 use Rattle.upload_rules.specs.declared.errors.UploadRefusal.TheVariants as refusals
 use Rattle.upload_rules.specs.declared.new_text.NewText.{NewText}
 use Rattle.upload_rules.specs.declared.new_text.NewText.TheVariants.{Growing, Unencodable, Complete}
@@ -46,10 +46,15 @@ IsGrowingText (Growing t text) = Unit {0}
 IsGrowingText Unencodable = ⊥
 IsGrowingText Complete = ⊥
 
+-- Why the end is refused where bytes may not come: a character is unmappable, or the upload was complete.
+abbrev pub refusal_of : NewText → UploadRefusal
+refusal_of Complete = refusals.TooLong
+refusal_of _ = refusals.Unencodable
+
 -- The text with the append's bytes has no unmappable character; these are its new part and its state.
 pub record IsWholeAppend (x : IndexSet) (u : Upload) (bytes : List ℕ) (done : Bool) (state text : List ℕ) : Type 0 where
   pub state_is : state ≡ state_with x u bytes done
-  pub valid : IsValidState (transcoder_with x u bytes done)
+  pub valid : IsKeptState (transcoder_with x u bytes done) done
   pub rest : IsRest x u bytes done text
   pub encodable : (text_with x u bytes done).fault ≡ None
 

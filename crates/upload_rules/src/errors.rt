@@ -2,6 +2,7 @@
 ghost use Rattle.std.specs.Prelude.{◌≡◌};
 
 use common::Stop;
+use enc_stream::EncodeError;
 
 /// Why the rules refuse a call.
 #[derive(Clone, Copy, Debug, PartialEq, Eq, Drop)]
@@ -33,16 +34,15 @@ pub enum UploadError {
     Refused(UploadRefusal),
 }
 
-impl From<UploadError> for Stop {
-    ghost use Rattle.upload_rules.specs.Errors.{stop_of};
+impl From<EncodeError> for UploadError {
+    ghost use Rattle.upload_rules.specs.Errors.{encode_error};
 
-    ghost from_gives = { λ error stop. stop ≡ stop_of error };
+    ghost from_gives = { λ error upload. upload ≡ encode_error error };
 
-    /// For calls that the rules can't refuse: a refusal doesn't occur there.
-    fn from(error: UploadError) -> Stop {
+    fn from(error: EncodeError) -> UploadError {
         match error {
-            UploadError::Stop(stop) => stop,
-            UploadError::Refused(_) => Stop::NoMemory,
+            EncodeError::NoMemory => UploadError::Stop(Stop::NoMemory),
+            EncodeError::Unencodable(_) => UploadError::Refused(UploadRefusal::Unencodable),
         }
     }
 }

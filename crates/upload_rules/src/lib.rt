@@ -18,7 +18,7 @@ pub use drafts::{placed, put_back, taken};
 pub use errors::{UploadError, UploadRefusal};
 pub use laws::{same_offset, text_grows};
 pub use lengths::{is_length, is_new, is_too_large, length_then};
-pub use new_text::NewText;
+pub use new_text::{NewText, end_text};
 pub use records::{New, Record};
 pub use table::{NUMBERS_END, Table, TableDraft};
 pub use uploads::Uploads;

@@ -5,13 +5,15 @@ ghost use Rattle.std.specs.Prelude.{IsErrOf, IsOk, MatchOption};
 ghost use Rattle.enc_model.specs.Indexes.{IndexSet};
 ghost use Rattle.upload_rules.specs.Lengths.{is_length};
 ghost use Rattle.upload_rules.specs.Store.{Upload, text_with, is_complete};
+ghost use Rattle.upload_rules.specs.States.{IsSomeState, IsState, IsStateLike, SameEncodings};
+ghost use Rattle.upload_rules.specs.Texts.{IsEnded, IsReading, IsRest, refusal_of};
 ghost use Rattle.upload_rules.specs.declared.errors.UploadRefusal.{UploadRefusal};
 
 use crate::lengths::is_length;
 use crate::{Record, UploadError, UploadRefusal};
 use common::Stop;
 use enc_index::IndexSet;
-use enc_stream::{TranscodeError, Transcoder};
+use enc_stream::{EncodeError, OpenTranscoder, Transcoder};
 use std::alloc::{AllocError, Global};
 
 /// The text that an append adds to its upload.
@@ -20,7 +22,7 @@ pub enum NewText {
     /// The text so far, and the state of transcoding after it.
     Growing {
         /// The state of transcoding.
-        transcoder: Transcoder,
+        transcoder: OpenTranscoder,
         /// The new bytes of the text.
         text: Vec<u8>,
     },
@@ -31,29 +33,34 @@ pub enum NewText {
 }
 
 impl NewText {
-    ghost use Rattle.upload_rules.specs.Texts.{IsTextStateOf, HoldsText, IsEnded, IsGrowingText};
+    ghost use Rattle.upload_rules.specs.Texts.{IsTextStateOf, HoldsText, IsGrowingText};
     ghost use Rattle.upload_rules.specs.Records.{Represents};
-    ghost use Rattle.upload_rules.specs.States.{IsState, SameEncodings, transcoder_with};
-    ghost use Rattle.enc_stream.specs.StateBytes.{IsValidState};
+    ghost use Rattle.upload_rules.specs.States.{IsKeptState, transcoder_with};
 
-    /// Nothing yet, for an append to this upload. None if the record's state bytes aren't a state.
-    pub fn after(alloc: Global, upload: &Record) -> Option<Self>
+    /// Nothing yet, for an append to this upload.
+    pub fn after(alloc: Global, upload: &Record) -> Self
+        requires { IsSomeState upload.now.state }
         ensures holds { (x : IndexSet) (n : ℕ) (u : Upload) → Represents x n upload.now u
             → (text_with x u [] (is_complete u)).fault ≡ None
-            → IsValidState (transcoder_with x u [] (is_complete u)) → MatchOption result ⊥ (HoldsText x u []) }
+            → IsKeptState (transcoder_with x u [] (is_complete u)) (is_complete u) → HoldsText x u [] result }
 
         // These hold of any record, even if it represents no upload.
-        ensures goes_on { IfSome result (IsTextStateOf upload.now.state) }
-        ensures room { IfSome result
-            (λ text. IsGrowingText text → is_length upload.now.declared upload.now.accepted ≡ false) }
+        ensures goes_on { IsTextStateOf upload.now.state result }
+        ensures room { IsGrowingText result → is_length upload.now.declared upload.now.accepted ≡ false }
     {
         if is_length(upload.declared, upload.accepted) {
-            return Some(NewText::Complete);
+            return NewText::Complete;
         }
-        Some(NewText::Growing {
-            transcoder: Transcoder::unpack(&upload.state)?,
-            text: Vec::new(alloc),
-        })
+        let Some(transcoder) = Transcoder::unpack(&upload.state) else {
+            unreachable!();
+        };
+        match OpenTranscoder::of(transcoder) {
+            Some(transcoder) => NewText::Growing {
+                transcoder,
+                text: Vec::new(alloc),
+            },
+            None => NewText::Complete,
+        }
     }
 
     /// With another piece. Out of memory, it is unchanged.
@@ -73,17 +80,16 @@ impl NewText {
                 mut text,
             } => {
                 let before = text.len();
-                let mut next = transcoder.copy();
-                match next.feed(indexes, piece, &mut text) {
-                    Ok(()) => (
+                match transcoder.fed(indexes, piece, &mut text) {
+                    Ok(next) => (
                         NewText::Growing {
                             transcoder: next,
                             text,
                         },
                         Ok(()),
                     ),
-                    Err(TranscodeError::Unencodable(_)) => (NewText::Unencodable, Ok(())),
-                    Err(_) => {
+                    Err(EncodeError::Unencodable(_)) => (NewText::Unencodable, Ok(())),
+                    Err(EncodeError::NoMemory) => {
                         text.truncate(before);
                         (NewText::Growing { transcoder, text }, Err(AllocError))
                     }
@@ -97,7 +103,7 @@ impl NewText {
     ///
     /// # Errors
     ///
-    /// `Unencodable`, `NoMemory`.
+    /// `Unencodable`; `TooLong` if the upload was complete; `NoMemory`.
     pub fn ended(
         self,
         indexes: &IndexSet,
@@ -107,30 +113,47 @@ impl NewText {
             → IsEnded indexes.now u bytes completes result }
         ensures same { (state : List ℕ) → IsState state → IsTextStateOf state self
             → IfOk result (λ end. SameEncodings state end.0) }
+        ensures state { IfOk result (λ end. IsSomeState end.0) }
         ensures growing { IsOk result → IsGrowingText self }
         ensures no_disk_fault { IsErrOf result (UploadError.Stop Stop.DiskFault) → ⊥ }
-        ensures refusal { (e : UploadRefusal) → IsErrOf result (UploadError.Refused e) → e ≡ UploadRefusal.Unencodable }
+        ensures refusal { (e : UploadRefusal) → IsErrOf result (UploadError.Refused e) → e ≡ refusal_of self }
     {
-        let NewText::Growing {
-            mut transcoder,
-            mut text,
-        } = self
-        else {
-            return Err(UploadError::Refused(UploadRefusal::Unencodable));
-        };
-        if completes {
-            match transcoder.finish(indexes, &mut text) {
-                Ok(()) => {}
-                Err(TranscodeError::Unencodable(_)) => return Err(UploadError::Refused(
-                    UploadRefusal::Unencodable,
-                )),
-                Err(_) => return Err(UploadError::Stop(Stop::NoMemory)),
-            }
+        match self {
+            NewText::Growing { transcoder, text } => end_text(
+                &transcoder,
+                text,
+                indexes,
+                completes,
+            ),
+            NewText::Unencodable => Err(UploadError::Refused(UploadRefusal::Unencodable)),
+            NewText::Complete => Err(UploadError::Refused(UploadRefusal::TooLong)),
         }
-        // A spent transcoder has no state bytes.
-        if transcoder.is_spent() {
-            return Err(UploadError::Refused(UploadRefusal::Unencodable));
-        }
-        Ok((transcoder.pack(), text))
     }
+}
+
+/// The state bytes and the new text at an append's end, as `NewText::ended`, where bytes may come.
+///
+/// # Errors
+///
+/// `Unencodable`, `NoMemory`.
+pub fn end_text(
+    transcoder: &OpenTranscoder,
+    text: Vec<u8>,
+    indexes: &IndexSet,
+    completes: bool,
+) -> Result<([u8; 32], Vec<u8>), UploadError>
+    ensures ended { (u : Upload) (bytes : List ℕ) → IsReading indexes.now u bytes transcoder.now
+        → IsRest indexes.now u bytes false text.items → IsEnded indexes.now u bytes completes result }
+    ensures same { (state : List ℕ) → IsState state → IsStateLike state transcoder.now.transcoder
+        → IfOk result (λ end. SameEncodings state end.0) }
+    ensures state { IfOk result (λ end. IsSomeState end.0) }
+    ensures no_disk_fault { IsErrOf result (UploadError.Stop Stop.DiskFault) → ⊥ }
+    ensures refusal { (e : UploadRefusal) → IsErrOf result (UploadError.Refused e) → e ≡ UploadRefusal.Unencodable }
+{
+    let mut text = text;
+    if completes {
+        let end = transcoder.ended(indexes, &mut text)?;
+        return Ok((end.pack(), text));
+    }
+    Ok((transcoder.pack(), text))
 }

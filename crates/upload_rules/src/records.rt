@@ -62,11 +62,13 @@ impl Model for New {
 
 impl Record {
     ghost use Rattle.upload_rules.specs.Records.{RepresentsValid, Represents};
+    ghost use Rattle.upload_rules.specs.States.{IsSomeState};
 
     /// The record of a new upload. One of length 0 is complete at once.
     pub fn first(number: u64, fields: New) -> Record
         requires { IsOutput fields.to }
         ensures valid { (x : IndexSet) → RepresentsValid x number result (new_upload fields) }
+        ensures state { IsSomeState result.state }
         ensures metadata { result.metadata.bytes.items ≡ fields.metadata }
     {
         let New {

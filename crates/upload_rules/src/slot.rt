@@ -1,6 +1,7 @@
 //! A slot of a table.
 
 ghost use Rattle.upload_rules.specs.Records.{IsShort};
+ghost use Rattle.upload_rules.specs.States.{IsSomeState};
 
 use crate::{New, Record};
 use common::MOST_METADATA;
@@ -14,6 +15,7 @@ pub(crate) struct Slot {
     /// The stored text.
     pub(crate) text: Vec<u8>,
     ghost short: { IsShort «record» },
+    ghost state: { IsSomeState «record».state },
 }
 
 impl Slot {
@@ -43,6 +45,7 @@ impl Slot {
         accepted: u64,
         state: [u8; 32],
     ) -> Result<(), AllocError>
+        requires { IsSomeState state }
         ensures text { OnOk result (self.new.text.items ≡ self.old.text.items ++ text.now) }
         ensures record { OnOk result
             (self.new.record ≡ record self.old.record

@@ -74,15 +74,12 @@ impl Table {
             return Err(UploadRefusal::NoSuch);
         };
         slot.record.admits(offset, count, declare)?;
-        let Some(text) = NewText::after(self.alloc, &slot.record) else {
-            return Err(UploadRefusal::NoSuch);
-        };
         Ok(OpenAppend {
             number,
             offset,
             came: 0,
             declare,
-            text,
+            text: NewText::after(self.alloc, &slot.record),
         })
     }
 }
@@ -169,16 +166,13 @@ impl Uploads for Table {
         }
     }
 
-    fn append(&mut self, draft: &mut TableDraft, piece: &[u8]) -> Result<(), UploadError> {
+    fn append(&mut self, draft: &mut TableDraft, piece: &[u8]) -> Result<(), Stop> {
         let Some(mut append) = taken(&mut self.appends, draft.number) else {
-            return Err(UploadError::Refused(UploadRefusal::NoSuch));
+            return Ok(());
         };
         let outcome = append.feed(&self.indexes, piece);
         put_back(&mut self.appends, draft.number, append);
-        match outcome {
-            Ok(()) => Ok(()),
-            Err(_) => Err(UploadError::Stop(Stop::NoMemory)),
-        }
+        Ok(outcome?)
     }
 
     fn commit(&mut self, draft: TableDraft) -> Result<u64, UploadError> {

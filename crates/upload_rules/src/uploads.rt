@@ -9,11 +9,12 @@ ghost use Rattle.upload_rules.specs.Calls.{create_refusal, created, create_outco
 ghost use Rattle.upload_rules.specs.Calls.{terminate_outcome, begin_refusal, begun, appended, longer_patch};
 ghost use Rattle.upload_rules.specs.Calls.{commit_refusal};
 ghost use Rattle.upload_rules.specs.Calls.{committed, commit_outcome, dropped};
-ghost use Rattle.upload_rules.specs.Answers.{Answers, BeginsWith, Among, Limits, Quiet, Counts};
+ghost use Rattle.upload_rules.specs.Answers.{Answers, DoesOrStops, BeginsWith, Among, Limits, Quiet, Counts};
 ghost use Rattle.upload_rules.specs.Records.{IsShort, RepresentsOf, with_number, above, IsValidNew, IsOffered};
 ghost use Rattle.upload_rules.specs.Reading.{no_such, text_at, IsReadOf};
 
 use crate::{New, Record, UploadError};
+use common::Stop;
 use enc_index::IndexSet;
 
 /// A store of uploads, with the appends that are under way.
@@ -123,26 +124,25 @@ pub trait Uploads {
         ensures crash { Quiet (moment self.old) (moment self.new) (left_only self.old) (left_only self.new) }
         ensures counts { failures self.new ≡ failures self.old };
 
-    /// Appends bytes to a draft, at most its count in all. If they can't be encoded, or there is no room for their
-    /// text, the draft records that and its commit is refused.
+    /// Appends bytes to a draft, at most its count in all. The rules refuse none: if they can't be encoded, or there is
+    /// no room for their text, or the draft is another store's, its commit is refused.
     ///
     /// # Errors
     ///
     /// `NoMemory`, `DiskFault`; the draft can then only be dropped.
-    fn append(&mut self, draft: &mut Self::Draft, piece: &[u8]) -> Result<(), UploadError>
+    fn append(&mut self, draft: &mut Self::Draft, piece: &[u8]) -> Result<(), Stop>
         ensures same { Self.number_of draft.new ≡ Self.number_of draft.old }
         ensures answer { (sure : Bool) (w : World) (p : Patch) → represents self.old sure w
             → find (Self.number_of draft.old) w.patches ≡ Some p → holds draft.old p
             → length p.body + length piece.now ≤ p.count
-            → Answers None result
+            → DoesOrStops result
             (λ done. holds draft.new (longer_patch w (Self.number_of draft.old) p piece.now) × represents self.new sure
             (appended w (Self.number_of draft.old) piece.now))
             (represents self.new sure w) }
         ensures crash { (w : World) (p : Patch) → represents self.old true w
             → find (Self.number_of draft.old) w.patches ≡ Some p → holds draft.old p
             → Quiet (moment self.old) (moment self.new) (left_only self.old) (left_only self.new) }
-        ensures counts { Counts (IsErrOf result (UploadError.Stop Stop.DiskFault)) (failures self.old)
-            (failures self.new) };
+        ensures counts { Counts (IsErrOf result Stop.DiskFault) (failures self.old) (failures self.new) };
 
     /// Appends the draft's text to the upload's, gives the upload the length that the draft declares if it had none,
     /// and returns the new offset. The draft is spent in every case.

@@ -22,7 +22,8 @@ use Rattle.upload_rules.specs.declared.errors.UploadRefusal.TheVariants.{NoSuch,
 use Rattle.upload_rules.specs.declared.errors.UploadRefusal.TheVariants.{LengthSet}
 use Rattle.upload_rules.proofs.Refusals.{no_such_upload, other_offset}
 use Rattle.upload_rules.proofs.Same.{same_upload}
-use Rattle.spool_kept.specs.Committing.{Finds, HasOtherCount, HasSameCount, IsCommit, IsFound, with_length_at}
+use Rattle.spool_kept.specs.Committing.{Finds, HasOtherCount, HasSameCount, IsCommit, IsEndRefusal, IsFound}
+use Rattle.spool_kept.specs.Committing.{with_length_at}
 use Rattle.spool_kept.specs.Drafting.{DraftRepresents, DraftsHold, IsStillOpen, StandsFor}
 use Rattle.spool_catalog.specs.Holding.{Holding, IsUsedBy}
 use Rattle.spool_catalog.specs.Shows.{IsRecorded}
@@ -258,12 +259,17 @@ same_exactly slots o slot result has not_gone not_other = (
   (λ refused. absurd (not_other refused), λ other. absurd (other.none slot has)),
 )
 
+not_at_end : (e : UploadRefusal) → IsEndRefusal e → (e ≡ Unencodable → ⊥) → (e ≡ TooLong → ⊥) → (e ≡ Full → ⊥) → ⊥
+not_at_end e (inl (inl is)) unencodable long full = unencodable is
+not_at_end e (inl (inr is)) unencodable long full = long is
+not_at_end e (inr is) unencodable long full = full is
+
 done_exactly : {T : Type 0} (slots : List (Option SlotRecord)) (o : SpoolDraft) (slot : ℕ)
     (result : Result T UploadError) → HasSameCount slots o slot
-    → ((e : UploadRefusal) → IsErrOf result (Refused e) → (e ≡ Unencodable) ⊎ (e ≡ Full)) → IsExactFor slots o result
+    → ((e : UploadRefusal) → IsErrOf result (Refused e) → IsEndRefusal e) → IsExactFor slots o result
 done_exactly slots o slot result has late = same_exactly slots o slot result has
-    (λ refused. elim (late NoSuch refused) [ inl e ↦ cc | inr e ↦ cc ])
-    (λ refused. elim (late Offset refused) [ inl e ↦ cc | inr e ↦ cc ])
+    (λ refused. not_at_end NoSuch (late NoSuch refused) (λ e. cc) (λ e. cc) (λ e. cc))
+    (λ refused. not_at_end Offset (late Offset refused) (λ e. cc) (λ e. cc) (λ e. cc))
 
 refused_exactly : {T : Type 0} (slots : List (Option SlotRecord)) (o : SpoolDraft) (e : UploadRefusal)
     → Finds slots o (Err e) → IsExactFor {T = T} slots o (Err (Refused e))
@@ -279,14 +285,14 @@ refused_exactly slots o e found = absurd found
 
 -- a stop is no refusal
 pub stop_refuses_not : {T : Type 0} (result : Result T UploadError) (stop : stops.Stop) → result ≡ Err (Stop stop)
-    → (e : UploadRefusal) → IsErrOf result (Refused e) → (e ≡ Unencodable) ⊎ (e ≡ Full)
+    → (e : UploadRefusal) → IsErrOf result (Refused e) → IsEndRefusal e
 stop_refuses_not result stop is e refused = absurd cc
 
 -- the draft that was taken is the one of its number
 module _ {T : Type 0} {slots : List (Option SlotRecord)} {o o' : SpoolDraft} {there : Option SpoolDraft}
     (taken : Some o ≡ there) (here : there ≡ Some o') where
   pub done_for : {slot : ℕ} (result : Result T UploadError) → HasSameCount slots o slot
-      → ((e : UploadRefusal) → IsErrOf result (Refused e) → (e ≡ Unencodable) ⊎ (e ≡ Full)) → IsExactFor slots o' result
+      → ((e : UploadRefusal) → IsErrOf result (Refused e) → IsEndRefusal e) → IsExactFor slots o' result
   done_for {slot = slot} result has late = subst (λ (d : SpoolDraft). IsExactFor slots d result)
       (same_Some o o' (taken ∙ here)) (done_exactly slots o slot result has late)
 

@@ -31,11 +31,9 @@ use Rattle.upload_rules.specs.World.{Patch, World, patch_text}
 use Rattle.upload_rules.proofs.Finds.{find_replaced_same, find_replaced_other}
 use Rattle.upload_rules.proofs.Patches.{apart_replaced}
 use Rattle.spool_pages.proofs.Resting.{rests_writes}
-use Rattle.upload_rules.specs.Answers.{Answers}
+use Rattle.upload_rules.specs.Answers.{DoesOrStops}
 use Rattle.common.specs.declared.stop.Stop.{Stop}
 use Rattle.common.specs.declared.stop.Stop.TheVariants as Stops
-use Rattle.upload_rules.specs.Errors.{unrefused}
-use Rattle.upload_rules.specs.declared.errors.UploadError.{UploadError}
 use Rattle.spool_catalog.specs.Holding.{Holding}
 use Rattle.spool_kept.specs.Stored.{Stored}
 use Rattle.spool_kept.specs.Changed.{slot_of}
@@ -314,21 +312,10 @@ ok_more (Ok t) x y on = on x y
 ok_more (Err e) x y on = tt
 
 pub answered : {T : Type 0} (X Y : Type 0) (r : Result T Stop) → OnOk r X → (IsErrOf r Stops.NoMemory → Y)
-    → Answers None (unrefused r) (λ t. X) Y
-answered X Y (Ok t) done same = (refl, done)
-answered X Y (Err Stops.NoMemory) done same = (tt, same refl)
+    → DoesOrStops r (λ t. X) Y
+answered X Y (Ok t) done same = done
+answered X Y (Err Stops.NoMemory) done same = same refl
 answered X Y (Err Stops.DiskFault) done same = tt
-
--- a disk fault is answered as such
-pub is_recorded : {T : Type 0} (r : Result T Stop) → IsErrOf r Stops.DiskFault
-    → IsErrOf (unrefused r) (UploadError.Stop Stops.DiskFault)
-is_recorded (Ok t) is = absurd (cc)
-is_recorded (Err stop) is = cc
-
-pub was_recorded : {T : Type 0} (r : Result T Stop) → IsErrOf (unrefused r) (UploadError.Stop Stops.DiskFault)
-    → IsErrOf r Stops.DiskFault
-was_recorded (Ok t) is = absurd (cc)
-was_recorded (Err stop) is = cc
 
 pub longer_world : {D : Type 0} {sure : Bool} {disk : Ghosts D} {d : D} {h : Holding} {drafts : List
     (Option SpoolDraft)}

@@ -17,7 +17,7 @@ returns-in-Ok-clause-lasts g c n m is =
 
 pub returns-in-Ok-clause-numbers : goal.returns-in-Ok-clause-numbers
 returns-in-Ok-clause-numbers g c n m is =
-    c.incomplete_numbers-numbers.ensures.numbers true (at_rest m (Some n)) (c.in-Ok.ensures.represents n m is)
+    c.numbers_but-numbers.ensures.numbers true (at_rest m (Some n)) (c.in-Ok.ensures.represents n m is)
     (in_order g.D.Disk c.args.disk n m is)
 
 pub returns-in-Err-clause-version : goal.returns-in-Err-clause-version
@@ -28,7 +28,7 @@ returns-in-Err-clause-damaged g c honest is = is_damaged _ _ c.from.ensures (c.i
 
 pub returns-in-Ok-clause-given : goal.returns-in-Ok-clause-given
 returns-in-Ok-clause-given g c =
-    let found = c.incomplete_numbers-numbers in
+    let found = c.numbers_but-numbers in
     by_same c.in-Ok.ensures.given (ap g.D.Disk.reads c.into_disk.ensures.same)
     (λ before after is. record {
       refused = memory_refused _ before after found.result found.ensures.refused;

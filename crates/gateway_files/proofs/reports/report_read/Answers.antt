@@ -1,10 +1,10 @@
-use Rattle.std.proofs.Common.{ℕ, List, [], ◌∷◌, ◌++◌, ◌∙◌, None, ap, append-nil, Bor, codes, count_by, flat_map}
-use Rattle.std.proofs.Common.{sym, take}
+use Rattle.std.proofs.Common.{ℕ, List, [], ◌∷◌, ◌++◌, append-nil, Bor, codes, count_by}
 use Rattle.std.proofs.lemmas.List.{take_all}
 use Rattle.std.specs.Prelude.{decimal}
 use Rattle.gateway_files.specs.Reports.{file_lines, is_read}
+use Rattle.gateway_files.specs.declared.found.Found.TheVariants.{Missing}
 use Rattle.gateway_files.specs.declared.index_files.IndexFile.{IndexFile}
-use Rattle.gateway_files.proofs.Writing.{appends_is, wrote_item}
+use Rattle.gateway_files.proofs.Writing.{wrote_item}
 use Rattle.gateway_files.proofs.reports.report_read.Goals as goal
 
 -- the first line
@@ -15,7 +15,7 @@ abbrev no_text : Bor (List ℕ)
 no_text = record { ref_ptr = (0, 0); now = [] }
 
 abbrev other : IndexFile
-other = record { name = no_text; encodings = no_text; standard = 0; entries = None }
+other = record { name = no_text; encodings = no_text; standard = 0; found = Missing }
 
 pub loop-file-init : goal.loop-file-init
 loop-file-init g c = rw (append-nil, ← c.count_read.ensures) c.in_ok-writeln.ensures.bytes

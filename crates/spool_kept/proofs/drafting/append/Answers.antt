@@ -12,12 +12,11 @@ use Rattle.spool_catalog.specs.Holding.{IsOwnedBy}
 use Rattle.spool_kept.proofs.drafts.Drafted.{reserves_only}
 use Rattle.spool_kept.proofs.SameView.{shows_still}
 use Rattle.spool_catalog.specs.Holding.{Holding}
-use Rattle.spool_kept.proofs.drafts.DraftLonger.{answered, fit_longer, is_recorded, was_recorded, longer_carries}
+use Rattle.spool_kept.proofs.drafts.DraftLonger.{answered, fit_longer, longer_carries}
 use Rattle.spool_kept.proofs.drafts.DraftLonger.{longer_holds, longer_world}
 use Rattle.spool_kept.proofs.drafts.DraftLonger.{moved, ok_more, owned_or_none, represents_longer, went_back}
 use Rattle.spool_kept.proofs.drafts.OfUploads.{each_changed, of_longer}
 use Rattle.spool_kept.proofs.drafting.append.Goals as goal
-use Rattle.spool_texts.proofs.Steps.{counts_same}
 use Rattle.std.proofs.lemmas.Option.{same_Some}
 use Rattle.spool_kept.proofs.commits.CommitHead.{opened, own_draft}
 
@@ -47,12 +46,6 @@ returns-clause-fits g c =
           (of_longer c.catalog.inside.slots.items c.in-Some.draft new same.0 same.1 c.append-answer.ensures.after
           (fit.uploads c.args.number c.in-Some.draft here)));
     }
-
-pub returns-clause-counts : goal.returns-clause-counts
-returns-clause-counts g c =
-    let r = c.append-answer.result in
-    counts_same c.append-answer.ensures.counts (λ f. rw c.answer_of.ensures (is_recorded r f))
-    (λ f. was_recorded r (rw c.answer_of.ensures at f))
 
 pub returns-clause-quiet : goal.returns-clause-quiet
 returns-clause-quiet g c w p s there =
@@ -105,7 +98,7 @@ returns-clause-answer g c sure w p s there fits =
     let tail : IsStillOpen w.store p → IsOwnedBy records h'.rows p.number (tail_of new) =
     λ still. owned_or_none o new c.append-answer.ensures.same.4 (rw (← rows) at (is.tail still)) in
     let same_patches = replaced_same number p w.patches there in
-    rw c.answer_of.ensures (answered _ _ c.append-answer.result
+    answered _ _ c.append-answer.result
     (ok_more c.append-answer.result (c.append-answer.ensures.answer p held fits)
     (λ (known : (sure ≡ true) × IsStillOpen w.store p). c.append-answer.ensures.content p (honest known.0) held fits
     (subst (λ (x : IndexSet). Carries x current first p o) (sym ix) (is.carries known.0 known.1))) (λ l carries.
@@ -132,4 +125,4 @@ returns-clause-answer g c sure w p s there fits =
             (rw (← ix) at (is.carries known still)));
         tail = tail;
       });
-    }))
+    })

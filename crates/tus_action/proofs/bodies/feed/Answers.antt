@@ -15,9 +15,9 @@ returns-in-Ok-clause-answer g c = λ sure w p represents found holds fits.
     let patch = fed_patch_some w d p piece some in
     let world = fed_some w d piece some in record {
       number = c.append.ensures.same;
-      holds = subst (λ x. g.U.Uploads.holds c.append.new.draft x) patch a.1.0;
+      holds = subst (λ x. g.U.Uploads.holds c.append.new.draft x) patch a.0;
       found = ap (λ x. find d x.patches) (sym world) ∙ (find_appended w d p piece found ∙ ap Some patch);
-      shown = subst (λ x. g.U.Uploads.represents c.append.new.self sure x) world a.1.1;
+      shown = subst (λ x. g.U.Uploads.represents c.append.new.self sure x) world a.1;
       reached = refl;
       bare = refl;
       closes = refl;
@@ -26,8 +26,6 @@ returns-in-Ok-clause-answer g c = λ sure w p represents found holds fits.
 pub returns-in-Err-clause-answer : goal.returns-in-Err-clause-answer
 returns-in-Err-clause-answer g c = λ sure w p represents found holds fits.
     let d = g.U.Uploads.number_of c.args.patch.draft in
-    subst (λ s. Feeds g.U.Uploads sure c.drop_open.new.self (Err s) (dropped w d) (fed w d c.args.piece.now)
-    c.args.patch (fed_patch w d p c.args.piece.now)) (sym c.from.ensures)
-    (fed_gone g.U.Uploads c.append.new.self c.drop_open.new.self w c.in-Err.error d _ _ _ _ _
+    fed_gone g.U.Uploads c.append.new.self c.drop_open.new.self w c.in-Err.stop d _ _ _ _ _
     (c.in-Err.ensures.answer sure w p represents found holds fits) (c.drop_open.ensures.represents sure w)
-    c.append.ensures.same)
+    c.append.ensures.same

@@ -56,3 +56,8 @@ pub returns-clause-text : goal.returns-clause-text
 returns-clause-text c v m bytes catalog shows encodes u there =
     rw c.list-list.ensures.blocks (text_recorded catalog shows (record_there c) c.in_ok-slot.ensures.used bytes
     encodes u there)
+
+pub returns-clause-state : goal.returns-clause-state
+returns-clause-state c =
+    let is = c.record.ensures.unpacked in
+    λ none. none is.transcoder is.valid (sym is.is)

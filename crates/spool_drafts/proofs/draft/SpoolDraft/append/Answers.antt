@@ -8,7 +8,7 @@ use Rattle.spool_drafts.specs.Drafts.{PreservesTail, list_of, upload_number_of, 
 use Rattle.spool_drafts.specs.Progress.{IsStateOf, HasBytes, IsGrowing}
 use Rattle.spool_drafts.specs.declared.draft.SpoolDraft.{SpoolDraft}
 use Rattle.spool_drafts.specs.declared.progress.Progress.TheVariants.{Text}
-use Rattle.spool_drafts.proofs.Appends.{longer_fault, longer_full, longer_short, longer_text, open_longer}
+use Rattle.spool_drafts.proofs.Appends.{longer_fault, longer_full, longer_short, longer_text, not_complete, open_longer}
 use Rattle.spool_drafts.proofs.Effects.{effect_none, grasp_gives, only_none, takes_in}
 use Rattle.spool_texts.proofs.Reserves.{takes_none}
 use Rattle.spool_drafts.proofs.draft.SpoolDraft.append.Goals as goal
@@ -16,8 +16,30 @@ use Rattle.spool_drafts.proofs.draft.SpoolDraft.append.Goals as goal
 pub returns-then-is_empty-clause-effect : goal.returns-then-is_empty-clause-effect
 returns-then-is_empty-clause-effect g c = effect_none _ c.requires.reserved
 
-pub returns-in_default-clause-effect : goal.returns-in_default-clause-effect
-returns-in_default-clause-effect g c = effect_none _ c.requires.reserved
+pub returns-in-Complete : goal.returns-in-Complete
+returns-in-Complete g c =
+    record {
+      size = refl;
+      honest = (λ h. h, λ h. h);
+      counts = search rules;
+      nothing = search rules;
+      same = (refl, refl, refl, refl, inl refl);
+      after = λ len state is. record { committed = is.committed; goes_on = is.goes_on; room = is.room };
+      placed = record { below = c.requires.placed.below; few = c.requires.placed.few };
+      rows = refl;
+      reserved = c.requires.reserved;
+      effect = effect_none _ c.requires.reserved;
+      answer = λ p held fits. absurd (not_complete held c.args.piece.now c.is_empty.result fits c.is_empty.ensures
+          c.if-is_empty.false c.in-Complete.is);
+      content = λ p honest held fits carries. absurd (not_complete held c.args.piece.now c.is_empty.result fits
+          c.is_empty.ensures c.if-is_empty.false c.in-Complete.is);
+      memory = λ e. cc;
+      holds_on = λ p held e. cc;
+      content_on = λ p honest e carries. cc;
+    }
+
+pub returns-in_default-fed-clause-effect : goal.returns-in_default-fed-clause-effect
+returns-in_default-fed-clause-effect g c = effect_none _ c.requires.reserved
 
 pub returns-in_default-next-clause-effect : goal.returns-in_default-next-clause-effect
 returns-in_default-next-clause-effect g c = record {
@@ -94,7 +116,7 @@ returns-in-Ok-put-clause-answer g c p held fits =
     inl (subst (λ (came : ℕ). Holds c.args.indexes.now (with_piece p c.args.piece.now) (record c.args.self.now {
       progress = Text c.in-Some.next c.put.new.self;
       came = came;
-    })) (sym c.saturating_add-self.ensures)
+    })) (sym c.saturating_add-self-in-Ok-put.ensures)
     (longer_text held fits c.is_empty.ensures c.if-is_empty.false (c.in-Ok.ensures.reads p.began p.body)
     c.in-Some.next c.in-Some.is c.in-Text.is c.put.new.self
     (λ none. ap (λ (t : Draft). t.blocks) (c.in-Ok-put.ensures.nothing (ap length value ∙ none)).0)
@@ -111,6 +133,9 @@ returns-in-Ok-put-clause-content g c p honest held fits carries =
     ∙ ap (λ (xs : List ℕ). xs ++ c.fed.new.out.items) before
     ∙ sym (open_longer held fits c.is_empty.ensures c.if-is_empty.false (c.in-Ok.ensures.reads p.began p.body)
     c.in-Some.next c.in-Some.is)
+
+pub returns-in-Err-Stop-clause-size : goal.returns-in-Err-Stop-clause-size
+returns-in-Err-Stop-clause-size g c = c.put.ensures.size
 
 pub returns-in-Err-Full-clause-after : goal.returns-in-Err-Full-clause-after
 returns-in-Err-Full-clause-after g c len state is =

@@ -11,20 +11,22 @@ returns-in_err-admits-clause-begun c x n u valid_record =
     (c.in_err-admits.ensures.rules x n u valid_record.represents)
 
 pub returns-clause-begun : goal.returns-clause-begun
-returns-clause-begun c x n u valid_record = (
-  c.in_ok-admits.ensures.rules x n u valid_record.represents,
-  begins x u n c.args.count c.args.declare c.args.upload.now c.args.list.now c.args.offset c.in-Some.progress
-      valid_record
-      (c.in_ok-admits.ensures.room refl) (c.in_ok-admits.ensures.small refl)
-      (c.in-Some.ensures.state_after x n u valid_record.represents valid_record.encodable valid_record.valid)
-      (λ growing. open_still x u n c.args.count c.args.declare c.args.upload.now valid_record
-      (c.in-Some.ensures.room growing))
-      c.in-Some.ensures.starts,
-)
+returns-clause-begun c x n u valid_record =
+    let state = c.after.ensures.state_after x n u valid_record.represents valid_record.encodable
+    valid_record.valid in (
+      c.in_ok-admits.ensures.rules x n u valid_record.represents,
+      begins x u n c.args.count c.args.declare c.args.upload.now c.args.list.now c.args.offset c.after.result
+          valid_record
+          (c.in_ok-admits.ensures.room refl) (c.in_ok-admits.ensures.small refl)
+          state.0 state.1
+          (λ growing. open_still x u n c.args.count c.args.declare c.args.upload.now valid_record
+          (c.after.ensures.room growing))
+          c.after.ensures.starts,
+    )
 
 pub returns-clause-content : goal.returns-clause-content
 returns-clause-content c x n u current first valid_record same =
     begins_carries x u n c.args.count c.args.declare current first c.args.upload.now.text_len c.args.list.now
-    c.in-Some.progress c.requires.long c.in-Some.ensures.starts same valid_record.represents.text_len
+    c.after.result c.requires.long c.after.ensures.starts same valid_record.represents.text_len
     (λ growing. open_still x u n c.args.count c.args.declare c.args.upload.now valid_record
-    (c.in-Some.ensures.room growing))
+    (c.after.ensures.room growing))

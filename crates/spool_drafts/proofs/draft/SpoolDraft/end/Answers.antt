@@ -18,7 +18,7 @@ returns-in_err-state-clause-answer g c p held still =
     let e = err_from_is_err_and c.from_residual.result c.from_residual.ensures.1 in
     subst (EndsAs x p c.args.completes d d c.args.blocks.now c.args.blocks.now) (sym (e.1 ∙ ap Err e.2))
     (refused held still c.args.completes c.args.blocks.now c.args.blocks.now d c.in_err-state.field-0.0
-    (c.in_err-state.ensures.finished p.began p.body still held.state_after))
+    (c.in_err-state.ensures.finished p.began p.body still held.state_after held.complete))
 
 pub returns-in_default : goal.returns-in_default
 returns-in_default g c =
@@ -39,7 +39,7 @@ returns-in_default g c =
       preserves = search rules;
       lasts = search rules;
       answer = λ p held still.
-          let finished = c.in_ok-state.ensures.finished p.began p.body still held.state_after in
+          let finished = c.in_ok-state.ensures.finished p.began p.body still held.state_after held.complete in
           full held still c.args.completes finished c.args.blocks.now
           c.args.blocks.now d
           (inl (short_of p.short _ _ d.progress c.in_default.not-Text (c.in_ok-state.ensures.growing refl)
@@ -58,7 +58,7 @@ returns-in-Ok-clause-answer g c p held still =
     let x = c.args.indexes.now in
     let d = c.args.self.now in
     let size = ap length c.deref.ensures.value in
-    let finished = c.in_ok-state.ensures.finished p.began p.body still held.state_after in
+    let finished = c.in_ok-state.ensures.finished p.began p.body still held.state_after held.complete in
     whole held still c.args.completes finished c.in-Text.is
     _ _ c.end.new.self.blocks c.in-Ok.last.items refl refl (λ none. (c.in-Ok.ensures.nothing (size ∙ none)).0)
     (λ some. c.in-Ok.ensures.listed (omega (arith, some, size))
@@ -76,7 +76,7 @@ returns-in-Ok-clause-content g c p honest held still carries there =
     let current = g.D.Disk.current c.args.disk.now in
     let first = text_page c.args.layout.now in
     let added = c.in_ok-state.added.items in
-    let finished = c.in_ok-state.ensures.finished p.began p.body still held.state_after in
+    let finished = c.in_ok-state.ensures.finished p.began p.body still held.state_after held.complete in
     c.in-Ok.ensures.content honest there
     ∙ ap (λ (xs : List ℕ). draft_bytes current first c.in-Text.text ++ xs) c.deref.ensures.value
     ∙ ap (λ (xs : List ℕ). xs ++ added) (subst (HasBytes current first (open_text x p false)) c.in-Text.is carries)
@@ -100,7 +100,7 @@ returns-clause-answer g c p held still =
     let added = c.in_ok-state.added.items in
     let size = ap length c.deref.ensures.value in
     let is_full = ap (λ e. Err e) c.in-Err-Full.field-0-is in
-    let finished = c.in_ok-state.ensures.finished p.began p.body still held.state_after in
+    let finished = c.in_ok-state.ensures.finished p.began p.body still held.state_after held.complete in
     let some : 1 ≤ length added = omega (arith, c.in-Err-Full.ensures.some is_full, size) in
     let wanted = lacks held still c.args.completes finished c.in-Text.is some in
     full held still c.args.completes finished c.args.blocks.now c.leave.new.blocks d

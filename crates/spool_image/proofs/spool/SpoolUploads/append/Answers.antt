@@ -1,13 +1,12 @@
-use Rattle.std.proofs.Common.{None, ap}
+use Rattle.std.proofs.Common.{ap}
 use Rattle.spool_catalog.specs.Holding.{Holding}
-use Rattle.spool_image.proofs.AnswersMore.{answers_more}
+use Rattle.spool_image.proofs.AnswersMore.{does_more}
 use Rattle.spool_image.proofs.LeftImages.{quiet_shown}
 use Rattle.spool_image.proofs.spool.SpoolUploads.append.Goals as goal
 
 pub returns-clause-answer : goal.returns-clause-answer
 returns-clause-answer g c sure w p represents there holds fits =
-    answers_more None c.append.result (λ done after. (tt, after)) (λ after. after)
-    (c.append.ensures.answer sure w p represents there fits)
+    does_more c.append.result _ (λ done after. (tt, after)) (c.append.ensures.answer sure w p represents there fits)
 
 pub returns-clause-crash : goal.returns-clause-crash
 returns-clause-crash g c w p represents there holds =

@@ -1,4 +1,4 @@
-use Rattle.std.proofs.Common.{false, sym}
+use Rattle.std.proofs.Common.{false}
 use Rattle.enc_model.specs.Indexes.{tables}
 use Rattle.enc_model.specs.Transcode.{added}
 use Rattle.upload_rules.proofs.Transcoders.{further, piece_fault, stays_unencodable, code_fault}
@@ -13,17 +13,14 @@ pub returns-in-Ok-clause-ok : goal.returns-in-Ok-clause-ok
 returns-in-Ok-clause-ok c = λ u bytes holds.
     let x = c.args.indexes.now in
     let held = rw c.in-Growing.is at holds in
-    let reading = rw (sym c.copy-next.ensures) at held.0 in
-    further x u bytes c.copy-next.result reading c.args.piece.now c.in-Growing.text.items c.feed.new.out.items
-    c.feed.new.self held.1
-    c.in-Ok.ensures.no_fault c.in-Ok.ensures.next c.in-Ok.ensures.added
+    further x u bytes c.in-Growing.transcoder held.0 c.args.piece.now c.in-Growing.text.items c.fed.new.out.items
+    c.in-Ok.next held.1 c.in-Ok.ensures.no_fault c.in-Ok.ensures.next c.in-Ok.ensures.added
 
 pub returns-in-Err-Unencodable-clause-ok : goal.returns-in-Err-Unencodable-clause-ok
 returns-in-Err-Unencodable-clause-ok c = λ u bytes holds.
     let x = c.args.indexes.now in
     let held = rw c.in-Growing.is at holds in
-    let reading = rw (sym c.copy-next.ensures) at held.0 in
-    piece_fault x u bytes c.copy-next.result reading c.args.piece.now c.in-Err-Unencodable.field-0-0
+    piece_fault x u bytes c.in-Growing.transcoder held.0 c.args.piece.now c.in-Err-Unencodable.field-0-0
     (code_fault c.in-Err-Unencodable.field-0 c.in-Err-Unencodable.field-0-0
-    (added (tables x) c.copy-next.result.transcoder c.args.piece.now) _ _ _ _ c.in-Err-Unencodable.field-0-is
+    (added (tables x) c.in-Growing.transcoder.transcoder c.args.piece.now) _ _ c.in-Err-Unencodable.field-0-is
     c.in-Err-Unencodable.ensures.refused)

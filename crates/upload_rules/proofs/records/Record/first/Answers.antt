@@ -4,7 +4,7 @@ use Rattle.enc_stream.specs.StateBytes.{IsValidState, state_bytes}
 use Rattle.upload_rules.specs.Lengths.{is_length}
 use Rattle.upload_rules.specs.Store.{New, new_upload, is_complete}
 use Rattle.upload_rules.specs.States.{transcoder_with, state_with}
-use Rattle.upload_rules.proofs.NewUploads.{new_text, new_encodable, new_open, new_complete}
+use Rattle.upload_rules.proofs.NewUploads.{new_text, new_encodable, new_open, new_open_phase, new_complete}
 use Rattle.upload_rules.proofs.records.Record.first.Goals as goal
 use Rattle.upload_rules.proofs.records.Record.first.Goals.{then-is_length, else-is_length}
 
@@ -41,5 +41,8 @@ returns-clause-valid c = λ x.
         metadata = ap (λ (n : New). n.metadata) is;
       };
       encodable = new_encodable x new (is_complete u);
-      valid = subst IsValidState transcoder_is c.pack.ensures.valid;
+      valid = record {
+        valid = subst IsValidState transcoder_is c.pack.ensures.valid;
+        takes_more = new_open_phase x new;
+      };
     }

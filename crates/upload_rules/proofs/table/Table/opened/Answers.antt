@@ -16,6 +16,6 @@ pub returns : goal.returns
 returns c = λ w represents.
     let room = c.in_ok-admits.ensures.room refl in
     opens c.args.self.now w represents c.args.number c.args.offset c.args.count c.args.declare
-    (upload_of w.store c.args.number) c.in-Some.slot.now c.in-Some-after.text refl (c.in-Some.ensures w represents)
+    (upload_of w.store c.args.number) c.in-Some.slot.now c.after.result refl (c.in-Some.ensures w represents)
     room.0
-    room.1 room.2 c.in_ok-admits.ensures.rules c.in-Some-after.ensures.holds
+    room.1 room.2 c.in_ok-admits.ensures.rules c.after.ensures.holds

@@ -1,16 +1,15 @@
-use Rattle.std.proofs.Common.{◌≡◌, ◌∷◌, [], append_assoc, append-nil, arith, codes}
+use Rattle.std.proofs.Common.{◌≡◌, ◌∷◌, [], append_assoc, append-nil}
 use Rattle.clap.specs.Words.{found_of, values_left}
 use Rattle.gateway_orders.proofs.Numbers.{none_written, numbers_found, one_written}
-use Rattle.gateway_orders.proofs.Rows.{by_rows}
-use Rattle.gateway_orders.proofs.orders.delete_order.Goals as goal
+use Rattle.gateway_orders.proofs.orders.numbers_of.Goals as goal
 
 pub loop-number-init : goal.loop-number-init
 loop-number-init c = λ rest written.
-    let read = c.in-Some-get_many.read in
+    let read = c.in-Some.read in
     let whole : c.into_iter-number-iterator.result ≡ read = c.into_iter-number-iterator.ensures.into_iter_gives in
     rw c.new-numbers.ensures.items
-    (numbers_found (found_of c.args.given.now) (codes "NUMBER") (values_left read) rest
-    c.in-Some-get_many.ensures (rw whole at written))
+    (numbers_found (found_of c.args.given.now) c.args.name.now (values_left read) rest
+    c.in-Some.ensures (rw whole at written))
 
 pub loop-number-preserved : goal.loop-number-preserved
 loop-number-preserved c = λ rest written.
@@ -19,6 +18,4 @@ loop-number-preserved c = λ rest written.
     (c.loop-number.invariant (c.in-Ok.number ∷ rest) (one_written _ _ c.in-Ok.number rest step written))
 
 pub returns : goal.returns
-returns c =
-    let numbers = rw append-nil at (c.loop-number.invariant [] (none_written _ _ c.in-None.ensures.steps)) in
-    grind (arith, by_rows)
+returns c = rw append-nil at (c.loop-number.invariant [] (none_written _ _ c.in-None.ensures.steps))
