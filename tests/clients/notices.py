@@ -73,6 +73,9 @@ WANTED = [
     ("lengths compared alone", "exports.py", "the status of"),
     ("a socket closed with bytes unread", "closes.py", "bytes behind a refusal"),
     ("any file overwritten", "operators.py", "the refusal of"),
+    ("other indexes taken as the standard's", "operators.py", "the status of other files"),
+    ("uploads deleted that were kept", "operators.py", "where all are kept"),
+    ("a spool's indexes not told", "operators.py", "what `list` says of it"),
 ]
 
 

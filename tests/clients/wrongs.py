@@ -219,6 +219,25 @@ def overwrites_files(program):
     program.go()
 
 
+def takes_other_indexes(program):
+    """Index files that aren't the standard's are taken, though they have to be."""
+    program.words = [word for word in program.words if word != "--standard-indexes"]
+    program.go()
+
+
+def deletes_what_is_kept(program):
+    """Uploads that were to be kept are deleted."""
+    if "--incomplete" in program.words:
+        program.words = [word for word in program.words if not (word.isdigit() or word.startswith("--but"))]
+    program.go()
+
+
+def tells_no_indexes(program):
+    """What a spool has of indexes isn't told."""
+    ran = program.ran()
+    end(ran.returncode, ran.stdout, b"".join(ran.stderr.splitlines(keepends=True)[:1]))
+
+
 def is_out_of_reach(program):
     """No library is loaded before the C library."""
     program.env.pop("LD_PRELOAD", None)
@@ -421,6 +440,9 @@ DEEDS = {
     "lines printed into the spool": (prints_into_the_spool, "list delete upgrade"),
     "lengths compared alone": (compares_lengths, "export"),
     "any file overwritten": (overwrites_files, "format"),
+    "other indexes taken as the standard's": (takes_other_indexes, "format"),
+    "uploads deleted that were kept": (deletes_what_is_kept, "delete"),
+    "a spool's indexes not told": (tells_no_indexes, "list"),
     "no library reaches it": (is_out_of_reach, "format serve script list upgrade"),
     "a server that ends by itself": (ends_by_itself, "serve"),
     "a PATCH dropped, its 409 healed": before_sockets(DropsPatches),
