@@ -1,16 +1,17 @@
-//! A gateway that logs what is left in its spool.
+//! A gateway whose calls are logged.
 ghost use Rattle.std.specs.Prelude.{◌≡◌};
 ghost use Rattle.gateway_engine.specs.Gateways.{GatewayRepresents, is_down, store_of};
 
 use gateway_engine::{Connections, Gateway};
 use gateway_files::used_of;
-use gateway_log::{Log, Progress, Stock};
+use gateway_log::{Call, Log, Progress, Stock};
 use std::io::Write;
 use std::time::Clock;
 use tus_session::{Answer, At, SessionError};
 use upload_rules::Uploads;
 
-/// A gateway whose calls are its own. After a call the spool is looked at, if the log wants that.
+/// A gateway whose calls are its own, and of which the log is told: what each took and gave, what its connection is at
+/// then, and, if the log wants that, what is left in the spool.
 pub(crate) struct Watched<'a, U: Uploads, T: Clock, W: Write + Drop> {
     gateway: Gateway<U>,
     /// How many text blocks the spool has.
@@ -42,15 +43,19 @@ impl<'a, U: Uploads, T: Clock, W: Write + Drop> Watched<'a, U, T, W> {
         gateway
     }
 
-    // Tells the log how far the upload is whose body was cut.
-    fn tell_cut(&self) {
-        if let Some(number) = self.log.cut_upload() {
-            let record = self.gateway.uploads().record(number);
-            self.log.tell_cut(record.map(|record| Progress {
-                accepted: record.accepted,
-                declared: record.declared,
-            }));
-        }
+    // Tells the log what a call took and gave.
+    fn tell(&self, conn: usize, taken: &[u8], given: &[u8]) {
+        let at = self.gateway.at(conn);
+        self.log.called(conn, Call { taken, given, at });
+    }
+
+    // How far an upload came.
+    fn progress(&self, number: u64) -> Option<Progress> {
+        let record = self.gateway.uploads().record(number)?;
+        Some(Progress {
+            accepted: record.accepted,
+            declared: record.declared,
+        })
     }
 
     // Looks at the spool, if the log wants that.
@@ -83,7 +88,11 @@ impl<U: Uploads, T: Clock, W: Write + Drop> Connections for Watched<'_, U, T, W>
     ghost up = { λ w sure st represents. represents.up };
 
     fn opened(&mut self, conn: usize) -> Result<(), SessionError> {
-        self.gateway.opened(conn)
+        let opened = self.gateway.opened(conn);
+        if opened.is_ok() {
+            self.log.opened(conn);
+        }
+        opened
     }
 
     fn at(&self, conn: usize) -> Option<At> {
@@ -96,18 +105,31 @@ impl<U: Uploads, T: Clock, W: Write + Drop> Connections for Watched<'_, U, T, W>
         bytes: &[u8],
         out: &mut Vec<u8>,
     ) -> Result<Answer, SessionError> {
+        let before = out.len();
         let answer = self.gateway.came(conn, bytes, out);
+        // A refusal closes the connection, whatever it took.
+        let taken = answer.map_or(bytes.len(), |answer| answer.taken);
+        self.tell(
+            conn,
+            bytes.get(..taken).unwrap_or(bytes),
+            out.get(before..).unwrap_or(&[]),
+        );
         self.look();
         answer
     }
 
     fn more(&mut self, conn: usize, out: &mut Vec<u8>) -> Result<Answer, SessionError> {
-        self.gateway.more(conn, out)
+        let before = out.len();
+        let answer = self.gateway.more(conn, out);
+        self.tell(conn, &[], out.get(before..).unwrap_or(&[]));
+        answer
     }
 
     fn ended(&mut self, conn: usize) -> Result<(), SessionError> {
+        let upload = self.log.upload_at(conn);
         let answer = self.gateway.ended(conn);
-        self.tell_cut();
+        let progress = upload.and_then(|number| self.progress(number));
+        self.log.ended(conn, progress);
         self.look();
         answer
     }

@@ -37,10 +37,14 @@ impl Counts {
         self.connections = self.connections.saturating_add(1);
     }
 
-    /// Counts received bytes, and the requests whose heads they complete.
-    pub(crate) fn add_in(&mut self, bytes: usize, requests: u64) {
+    /// Counts a request whose head came.
+    pub(crate) fn add_request(&mut self) {
+        self.requests = self.requests.saturating_add(1);
+    }
+
+    /// Counts received bytes.
+    pub(crate) fn add_in(&mut self, bytes: usize) {
         self.bytes_in = self.bytes_in.saturating_add(bytes as u64);
-        self.requests = self.requests.saturating_add(requests);
     }
 
     /// Counts sent bytes.

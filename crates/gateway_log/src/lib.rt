@@ -1,11 +1,9 @@
-//! A log of requests and replies: a listener whose streams watch the bytes that pass.
+//! A log of requests and replies: what a session's calls took and gave, and what was sent of it.
 #![tactic(auto)]
 
 mod counts;
 mod heads;
-mod lines;
 mod listeners;
-mod messages;
 mod refusals;
 mod shown;
 mod stock;
@@ -16,4 +14,5 @@ mod writing;
 pub use listeners::Logged;
 pub use stock::{Progress, Stock};
 pub use streams::LoggedStream;
+pub use talks::Call;
 pub use writing::Log;

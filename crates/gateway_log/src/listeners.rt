@@ -6,8 +6,8 @@ use std::io::{self, Write};
 use std::net::{OpenListener, SocketAddr};
 use std::time::Clock;
 
-/// A listener that accepts what the inner one does, and logs the bytes of each stream. The log is written when a stream
-/// is asked for, and once a second when one is read or written.
+/// A listener that accepts what the inner one does, and counts the bytes of each stream for the log. The log is written
+/// when a stream is asked for, and once a second when one is read or written.
 #[derive(Drop)]
 pub struct Logged<'a, L, T: Clock, W: Write + Drop> {
     listener: &'a L,

@@ -1,10 +1,10 @@
 //! The lines of the log.
 
 use crate::counts::Counts;
-use crate::heads::Head;
+use crate::heads::RequestHead;
 use crate::refusals::name_of;
-use crate::stock::{Stock, write_stock};
-use crate::talks::{Exchange, ReplySent, Spent};
+use crate::stock::{Progress, Stock, write_stock};
+use crate::talks::{Exchange, Spent};
 use jiff::Timestamp;
 use std::io::{self, Write};
 use std::net::SocketAddr;
@@ -36,22 +36,23 @@ pub(crate) fn write_exchange(
     client: Client,
     exchange: &Exchange,
     spent: Spent,
+    progress: Option<Progress>,
 ) -> io::Result<()> {
-    let Exchange { asked, reply } = exchange;
     write_time(out, time)?;
     write!(out, " {} {}", client.number, client.address)?;
-    write_request(out, &asked.head)?;
-    write_reply(out, reply)?;
-    let is_bad_label = reply.refusal == Some(BAD_LABEL);
+    write_request(out, &exchange.head)?;
+    write_reply(out, exchange)?;
+    let refusal = exchange.reply.and_then(|reply| reply.refusal);
+    let is_bad_label = refusal == Some(BAD_LABEL);
     if is_bad_label {
         write!(out, " metadata=")?;
-        write_shown(out, asked.head.metadata())?;
+        write_shown(out, exchange.head.metadata())?;
     }
-    write!(out, " in={} out={}", asked.bytes, reply.bytes)?;
+    write!(out, " in={} out={}", exchange.came, exchange.sent)?;
     write_spent(out, spent)?;
-    write_upload(out, reply)?;
+    write_upload(out, exchange, progress)?;
     if is_bad_label {
-        write_labels(out, &asked.head)?;
+        write_labels(out, &exchange.head)?;
     }
     writeln!(out)
 }
@@ -61,7 +62,7 @@ pub(crate) fn write_counts(
     out: &mut Vec<u8>,
     time: Duration,
     counts: &Counts,
-    bodies: u64,
+    bodies: usize,
     stock: Option<Stock>,
 ) -> io::Result<()> {
     write_time(out, time)?;
@@ -91,7 +92,7 @@ fn write_time(out: &mut Vec<u8>, time: Duration) -> io::Result<()> {
 
 // Writes the request: its method and its path, with the method of the first line behind them if another one counts, and
 // its numbers if it has them.
-fn write_request(out: &mut Vec<u8>, head: &Head) -> io::Result<()> {
+fn write_request(out: &mut Vec<u8>, head: &RequestHead) -> io::Result<()> {
     write_word(out, " ", head.method().or(head.word(0)))?;
     write_word(out, " ", head.word(1))?;
     if head.method().is_some() {
@@ -103,12 +104,12 @@ fn write_request(out: &mut Vec<u8>, head: &Head) -> io::Result<()> {
 }
 
 // Writes the reply.
-fn write_reply(out: &mut Vec<u8>, reply: &ReplySent) -> io::Result<()> {
-    match reply.status {
-        Some(status) => write!(out, " status={status}")?,
-        None => write!(out, " status=none")?,
-    }
-    if reply.status.is_some() && !reply.whole {
+fn write_reply(out: &mut Vec<u8>, exchange: &Exchange) -> io::Result<()> {
+    let Some(reply) = exchange.reply else {
+        return write!(out, " status=none");
+    };
+    write!(out, " status={}", reply.status)?;
+    if !exchange.is_whole {
         write!(out, " cut")?;
     }
     write_number(out, "refusal", reply.refusal)?;
@@ -128,18 +129,31 @@ fn write_spent(out: &mut Vec<u8>, spent: Spent) -> io::Result<()> {
     Ok(())
 }
 
-// Writes what the reply says of an upload: its number if it is new, and how many bytes it has now, of how many.
-fn write_upload(out: &mut Vec<u8>, reply: &ReplySent) -> io::Result<()> {
-    write_number(out, "number", reply.number)?;
-    write_number(out, "now", reply.offset)?;
-    match (reply.offset, reply.length) {
+// Writes what is known of an upload: its number if it is new, and how many bytes it has now, of how many: by the reply, or
+// where a body was cut without one, by how far it came.
+fn write_upload(
+    out: &mut Vec<u8>,
+    exchange: &Exchange,
+    progress: Option<Progress>,
+) -> io::Result<()> {
+    let (number, now, length) = match exchange.reply {
+        Some(reply) => (reply.number, reply.offset, reply.length),
+        None => (
+            None,
+            progress.map(|progress| progress.accepted),
+            progress.and_then(|progress| progress.declared),
+        ),
+    };
+    write_number(out, "number", number)?;
+    write_number(out, "now", now)?;
+    match (now, length) {
         (Some(_), Some(length)) => write!(out, "/{length}"),
         _ => Ok(()),
     }
 }
 
 // Writes the labels and the mode that the metadata has, decoded.
-fn write_labels(out: &mut Vec<u8>, head: &Head) -> io::Result<()> {
+fn write_labels(out: &mut Vec<u8>, head: &RequestHead) -> io::Result<()> {
     for key in ["from", "to", "mode"] {
         if let Some(label) = head.value_of(key) {
             write!(out, " {key}=")?;

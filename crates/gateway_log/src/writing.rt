@@ -3,10 +3,11 @@
 use crate::counts::Counts;
 use crate::shown::{Client, write_counts, write_exchange};
 use crate::stock::{Progress, Stock};
-use crate::talks::{Exchange, Spent};
+use crate::talks::{Call, Exchange, Talk};
 use std::alloc::Global;
 use std::cell::{Cell, RefCell};
 use std::io::Write;
+use std::mem;
 use std::net::SocketAddr;
 use std::time::{Clock, Duration};
 
@@ -23,34 +24,27 @@ const LOOK: u64 = 1;
 /// How many seconds pass between two lines of counts.
 const MINUTE: u64 = 60;
 
-/// An exchange whose body the end of its connection cut. Its line waits until the log is told what its upload has.
-#[derive(Drop)]
-struct Cut {
-    client: Client,
-    spent: Spent,
-    exchange: Exchange,
-}
-
-/// A log, which the connections of a server share. Its lines are gathered, and written when the server accepts, or a
-/// second later when it reads or writes. Out of memory a line is lost, and if the writer fails, so is what was
-/// gathered; neither is reported.
+/// A log, which the connections of a server share. It is told of each call of the session, so that what is a request
+/// and what a reply is the session's word, and of what was sent to each client. Its lines are gathered, and written
+/// when the server accepts, or a second later when it reads or writes. Out of memory a line is lost, and if the writer
+/// fails, so is what was gathered; neither is reported.
 #[derive(Drop)]
 pub struct Log<'a, T: Clock, W: Write + Drop> {
     alloc: Global,
     clock: &'a T,
     writer: RefCell<W>,
     lines: Cell<Vec<u8>>,
-    counts: Cell<Counts>,
+    counts: RefCell<Counts>,
+    /// The clients that are there, by the order of acceptance.
+    talks: RefCell<Vec<Talk>>,
     /// How many connections there were.
     accepted: Cell<u64>,
+    /// The clock's time when it was last asked.
+    now: Cell<Duration>,
     /// When the log last had a turn, in which it writes what was gathered.
     turned: Cell<Duration>,
     /// When counts were last gathered.
     counted: Cell<Duration>,
-    /// How many bodies are under way.
-    bodies: Cell<u64>,
-    /// The latest body that was cut.
-    cut: Cell<Option<Cut>>,
     /// What was left at the latest look at the spool, and when that was.
     stock: Cell<Option<Stock>>,
     looked: Cell<Duration>,
@@ -65,130 +59,136 @@ impl<'a, T: Clock, W: Write + Drop> Log<'a, T, W> {
             clock,
             writer: RefCell::new(writer),
             lines: Cell::new(Vec::new(alloc)),
-            counts: Cell::new(Counts::NONE),
+            counts: RefCell::new(Counts::NONE),
+            talks: RefCell::new(Vec::new(alloc)),
             accepted: Cell::new(0),
+            now: Cell::new(now),
             turned: Cell::new(now),
             counted: Cell::new(now),
-            bodies: Cell::new(0),
-            cut: Cell::new(None),
             stock: Cell::new(None),
             looked: Cell::new(now),
         }
     }
 
-    /// Writes what was gathered, and the counts since the last line of counts.
+    /// Writes the lines of the clients that are left, and the counts since the last line of counts.
     pub fn end(&self) {
-        self.tell_cut(None);
+        if let Ok(mut talks) = self.talks.try_borrow_mut() {
+            for talk in talks.iter_mut() {
+                self.leave(talk, None);
+            }
+            talks.clear();
+        }
         self.log_counts();
         self.write();
     }
 
     /// Whether another look at the spool is wanted: there was none yet, or the latest was a second ago.
     pub fn wants_stock(&self) -> bool {
-        let since = self.now().saturating_sub(self.looked.get());
+        let since = self.ask().saturating_sub(self.looked.get());
         self.stock.get().is_none() || since.as_secs() >= LOOK
     }
 
     /// Takes what is left in the spool.
     pub fn take_stock(&self, stock: Stock) {
         self.stock.set(Some(stock));
-        self.looked.set(self.now());
+        self.looked.set(self.now.get());
     }
 
-    /// The number of the upload whose body was cut last, if its line waits for what the upload has.
-    pub fn cut_upload(&self) -> Option<u64> {
-        let cut = self.cut.replace(None)?;
-        let upload = cut.exchange.upload();
-        self.cut.set(Some(cut));
-        upload
+    /// The session opened a connection with this number, for the client who waited for one.
+    pub fn opened(&self, conn: usize) {
+        let now = self.ask();
+        if let Ok(mut talks) = self.talks.try_borrow_mut()
+            && let Some(talk) = talks.iter_mut().find(|talk| !talk.is_placed())
+        {
+            talk.place(conn, now);
+        }
     }
 
-    /// Logs the body that was cut, if its line waits, with what its upload has, where that is known.
-    pub fn tell_cut(&self, progress: Option<Progress>) {
-        let Some(cut) = self.cut.replace(None) else {
-            return;
-        };
-        let Cut {
-            client,
-            spent,
-            mut exchange,
-        } = cut;
-        exchange.reply.offset = progress.map(|progress| progress.accepted);
-        exchange.reply.length = progress.and_then(|progress| progress.declared);
-        self.add_exchange(client, spent, &exchange);
+    /// A call of the session for the connection with this number came to this.
+    pub fn called(&self, conn: usize, call: Call) {
+        if let Ok(mut talks) = self.talks.try_borrow_mut()
+            && let Some(talk) = talks.iter_mut().find(|talk| talk.has(conn))
+        {
+            if talk.add(self.now.get(), call) {
+                self.count_request();
+            }
+            self.tell_sent(talk);
+        }
     }
 
-    /// Keeps an exchange whose body was cut, until the log is told what its upload has, or goes on.
-    pub(crate) fn keep_cut(&self, client: Client, spent: Spent, exchange: Exchange) {
-        self.tell_cut(None);
-        self.cut.set(Some(Cut {
-            client,
-            spent,
-            exchange,
-        }));
+    /// The number of the upload whose body is under way on the connection with this number, if one is.
+    pub fn upload_at(&self, conn: usize) -> Option<u64> {
+        let talks = self.talks.try_borrow().ok()?;
+        talks.iter().find(|talk| talk.has(conn))?.upload()
     }
 
-    /// The allocator.
-    pub(crate) fn alloc(&self) -> Global {
-        self.alloc
+    /// The session ended the connection with this number, whose client is gone. The upload whose body was cut came so
+    /// far, where that is known.
+    pub fn ended(&self, conn: usize, progress: Option<Progress>) {
+        if let Some(mut talk) = self.take(|talk| talk.has(conn)) {
+            self.leave(&mut talk, progress);
+        }
     }
 
-    /// The clock's time.
-    pub(crate) fn now(&self) -> Duration {
-        now_of(self.clock)
+    /// The stream of the client with this number is gone. Where the session has its connection still, its lines wait
+    /// until that is ended.
+    pub(crate) fn is_gone(&self, client: u64) {
+        let gone = self.take(|talk| talk.client().number == client && !talk.is_open());
+        if let Some(mut talk) = gone {
+            self.leave(&mut talk, None);
+        }
     }
 
-    /// Counts a connection, and returns its client.
-    pub(crate) fn accept(&self, address: SocketAddr) -> Client {
-        let mut counts = self.counts.get();
-        counts.add_connection();
-        self.counts.set(counts);
+    /// A client was accepted, with this number then.
+    pub(crate) fn accept(&self, address: SocketAddr) -> u64 {
         let number = self.accepted.get().saturating_add(1);
         self.accepted.set(number);
-        Client { number, address }
+        if let Ok(mut counts) = self.counts.try_borrow_mut() {
+            counts.add_connection();
+        }
+        let talk = Talk::new(self.alloc, Client { number, address }, self.ask());
+        if let Ok(mut talks) = self.talks.try_borrow_mut() {
+            // Out of memory its lines are lost.
+            drop(talks.push(talk));
+        }
+        number
     }
 
-    /// Counts received bytes, and the requests whose heads they complete.
-    pub(crate) fn count_in(&self, bytes: usize, requests: u64) {
-        let mut counts = self.counts.get();
-        counts.add_in(bytes, requests);
-        self.counts.set(counts);
+    /// Counts received bytes.
+    pub(crate) fn count_in(&self, bytes: usize) {
+        if let Ok(mut counts) = self.counts.try_borrow_mut() {
+            counts.add_in(bytes);
+        }
     }
 
-    /// Counts a body that began, if none was under way on its connection before.
-    pub(crate) fn body_begins(&self) {
-        self.bodies.set(self.bodies.get().saturating_add(1));
-    }
-
-    /// A body that was counted is over.
-    pub(crate) fn body_ends(&self) {
-        self.bodies.set(self.bodies.get().saturating_sub(1));
-    }
-
-    /// Counts sent bytes.
-    pub(crate) fn count_out(&self, bytes: usize) {
-        let mut counts = self.counts.get();
-        counts.add_out(bytes);
-        self.counts.set(counts);
+    /// So many bytes were sent to the client with this number.
+    pub(crate) fn sent(&self, client: u64, bytes: usize) {
+        if let Ok(mut counts) = self.counts.try_borrow_mut() {
+            counts.add_out(bytes);
+        }
+        if let Ok(mut talks) = self.talks.try_borrow_mut()
+            && let Some(talk) = talks.iter_mut().find(|talk| talk.client().number == client)
+        {
+            talk.send(bytes);
+            self.tell_sent(talk);
+        }
     }
 
     /// Writes what was gathered, and each minute the counts.
     pub(crate) fn turn(&self) {
-        self.turn_at(self.now());
+        self.turn_at(self.ask());
     }
 
-    /// Does the same if the last time was a second ago. Returns the clock's time.
-    pub(crate) fn turn_if_late(&self) -> Duration {
-        let now = self.now();
+    /// Does the same if the last time was a second ago.
+    pub(crate) fn turn_if_late(&self) {
+        let now = self.ask();
         if now.saturating_sub(self.turned.get()).as_secs() >= LATEST {
             self.turn_at(now);
         }
-        now
     }
 
     // Writes what was gathered, and each minute the counts, at this time.
     fn turn_at(&self, now: Duration) {
-        self.tell_cut(None);
         if now.saturating_sub(self.counted.get()).as_secs() >= MINUTE {
             self.counted.set(now);
             self.log_counts();
@@ -197,19 +197,44 @@ impl<'a, T: Clock, W: Write + Drop> Log<'a, T, W> {
         self.write();
     }
 
-    /// Logs an exchange that took so long.
-    pub(crate) fn log_exchange(&self, client: Client, spent: Spent, exchange: &Exchange) {
-        self.tell_cut(None);
-        self.count_reply(exchange);
-        self.add_exchange(client, spent, exchange);
+    // Takes out the client that is meant.
+    fn take<F: Fn(&Talk) -> bool>(&self, is_meant: F) -> Option<Talk>
+        requires { F.IsAlwaysCallable is_meant }
+    {
+        let mut talks = self.talks.try_borrow_mut().ok()?;
+        let place = talks.iter().position(is_meant)?;
+        Some(talks.remove(place))
     }
 
-    // Gathers the line of an exchange.
-    fn add_exchange(&self, client: Client, spent: Spent, exchange: &Exchange) {
+    // Logs the exchanges whose replies are sent.
+    fn tell_sent(&self, talk: &mut Talk) {
+        for _ in 0..talk.unsent() {
+            let Some(exchange) = talk.next_sent() else {
+                return;
+            };
+            self.count_reply(&exchange);
+            self.log_exchange(talk, &exchange, None);
+        }
+    }
+
+    // Logs the exchanges that a connection leaves, which is over.
+    fn leave(&self, talk: &mut Talk, progress: Option<Progress>) {
+        self.ask();
+        for _ in 0..=talk.unsent() {
+            let Some(exchange) = talk.next_left() else {
+                return;
+            };
+            self.log_exchange(talk, &exchange, progress);
+        }
+    }
+
+    // Gathers the line of an exchange that is over. A body that was cut has what its upload has.
+    fn log_exchange(&self, talk: &mut Talk, exchange: &Exchange, progress: Option<Progress>) {
+        let spent = talk.tell(exchange, self.now.get());
         let time = self.time();
         let mut lines = self.lines.replace(Vec::new(self.alloc));
         let length = lines.len();
-        if write_exchange(&mut lines, time, client, exchange, spent).is_err() {
+        if write_exchange(&mut lines, time, talk.client(), exchange, spent, progress).is_err() {
             lines.truncate(length);
         }
         let full = lines.len() >= FULL;
@@ -219,31 +244,46 @@ impl<'a, T: Clock, W: Write + Drop> Log<'a, T, W> {
         }
     }
 
+    // Counts a request whose head came.
+    fn count_request(&self) {
+        if let Ok(mut counts) = self.counts.try_borrow_mut() {
+            counts.add_request();
+        }
+    }
+
     // Counts a complete reply by its class.
     fn count_reply(&self, exchange: &Exchange) {
-        if let Some(status) = exchange.reply.status
-            && exchange.reply.whole
+        if let Ok(mut counts) = self.counts.try_borrow_mut()
+            && let Some(reply) = exchange.reply
         {
-            let mut counts = self.counts.get();
-            counts.add_reply(status);
-            self.counts.set(counts);
+            counts.add_reply(reply.status);
         }
     }
 
     // Gathers the counts, if there was traffic.
     fn log_counts(&self) {
-        let counts = self.counts.replace(Counts::NONE);
+        let Ok(mut gathered) = self.counts.try_borrow_mut() else {
+            return;
+        };
+        let counts = mem::replace(&mut *gathered, Counts::NONE);
         if counts.is_none() {
             return;
         }
         let time = self.time();
         let mut lines = self.lines.replace(Vec::new(self.alloc));
         let length = lines.len();
-        let (bodies, stock) = (self.bodies.get(), self.stock.get());
-        if write_counts(&mut lines, time, &counts, bodies, stock).is_err() {
+        if write_counts(&mut lines, time, &counts, self.bodies(), self.stock.get()).is_err() {
             lines.truncate(length);
         }
         self.lines.set(lines);
+    }
+
+    // How many bodies are under way.
+    fn bodies(&self) -> usize {
+        match self.talks.try_borrow() {
+            Ok(talks) => talks.iter().filter(|talk| talk.is_in_body()).count(),
+            Err(_) => 0,
+        }
     }
 
     // Writes what was gathered.
@@ -258,6 +298,13 @@ impl<'a, T: Clock, W: Write + Drop> Log<'a, T, W> {
             lines.clear();
         }
         self.lines.set(lines);
+    }
+
+    // Asks the clock for its time, which counts until it is asked again.
+    fn ask(&self) -> Duration {
+        let now = now_of(self.clock);
+        self.now.set(now);
+        now
     }
 
     // The time of day, since 1970.

@@ -1,17 +1,22 @@
-//! The lines that a log writes for given bytes in and out, over scripted streams.
+//! The lines that a log writes for what clients send to a gateway over uploads in memory.
 
-use gateway_log::{Log, Logged, Progress, Stock};
+use enc_index::IndexSet;
+use gateway_engine::Gateway;
+use gateway_log::{Call, Log, Logged, Progress, Stock};
 use std::alloc::Global;
 use std::cell::Cell;
 use std::io::{self, Read, Write};
 use std::net::{Ipv4Addr, OpenListener, OpenStream, Shutdown, SocketAddr};
 use std::process::Abort;
 use std::time::{Clock, Duration};
+use tus_session::Connections;
+use upload_rules::{Table, Uploads};
 
-/// A stream that gives the bytes in a cell, as a socket that doesn't block, and accepts everything.
+/// A stream that gives the bytes in a cell, as a socket that doesn't block, and takes so many.
 #[derive(Drop)]
 struct Wire<'a> {
     sends: &'a Cell<&'static [u8]>,
+    room: &'a Cell<usize>,
 }
 
 impl Read for Wire<'_> {
@@ -28,7 +33,9 @@ impl Read for Wire<'_> {
 
 impl Write for Wire<'_> {
     fn write(&mut self, buf: &[u8]) -> io::Result<usize> {
-        Ok(buf.len())
+        let count = buf.len().min(self.room.get());
+        self.room.set(self.room.get() - count);
+        Ok(count)
     }
 
     fn flush(&mut self) -> io::Result<()> {
@@ -46,13 +53,17 @@ impl OpenStream for Wire<'_> {
 #[derive(Drop)]
 struct Door<'a> {
     sends: &'a Cell<&'static [u8]>,
+    room: &'a Cell<usize>,
 }
 
 impl<'a> OpenListener for Door<'a> {
     type Stream = Wire<'a>;
 
     fn accept(&self) -> io::Result<(Wire<'a>, SocketAddr)> {
-        let wire = Wire { sends: self.sends };
+        let wire = Wire {
+            sends: self.sends,
+            room: self.room,
+        };
         Ok((wire, SocketAddr::from((Ipv4Addr::LOCALHOST, 7))))
     }
 }
@@ -100,256 +111,313 @@ impl Write for Paper<'_> {
     }
 }
 
-/// Bytes that pass over a connection, from the client or to it.
-#[derive(Clone, Copy, Drop)]
-enum Passes {
-    In(&'static [u8]),
-    Out(&'static [u8]),
-}
-
-/// More blanks than the log stores bytes of a line.
+/// More blanks than a line of the log has bytes.
 const BLANKS: [u8; 300] = [b' '; 300];
 
-/// Each row: the bytes until the connection ends, and the log's lines without the time at their start. A millisecond
-/// goes by before each `Passes` and before the end.
-const TALKS: [(&[Passes], &str); 16] = [
+/// As many bytes as a head has at most.
+const LONG: [u8; 8192] = [b'x'; 8192];
+
+/// What a client sends, one after the other, how many bytes of the replies its socket takes, and the lines of the log
+/// without the time at their start. A millisecond goes by before each is sent and before the connection ends. There is
+/// an upload with the number 1, which has 3 of 6 bytes.
+#[derive(Drop)]
+struct Row {
+    sends: &'static [&'static [u8]],
+    room: usize,
+    lines: &'static str,
+}
+
+const ROWS: [Row; 17] = [
     // no bytes
-    (
-        &[],
-        "1 127.0.0.1:7 - - status=none in=0 out=0 ms=1\n\
+    Row {
+        sends: &[],
+        room: 9999,
+        lines: "1 127.0.0.1:7 - - status=none in=0 out=0 ms=1\n\
         minute connections=1 requests=0 2xx=0 4xx=0 5xx=0 in=0 out=0 bodies=0\n",
-    ),
-    // a body, and field names in any case
-    (
-        &[
-            Passes::In(
-                b"\r\nPATCH /files/1 HTTP/1.1\r\nupload-offset: 5\r\nContent-Length: 3\r\n\r\nabc",
-            ),
-            Passes::Out(b"HTTP/1.1 204 No Content\r\nUpload-Offset: 8\r\n\r\n"),
+    },
+    // a body, an empty line before the head, and field names in any case
+    Row {
+        sends: &[
+            b"\r\nPATCH /files/1 HTTP/1.1\r\ntus-resumable: 1.0.0\r\ncontent-type: application/offset+octet-stream\r\nupload-offset: 3\r\nContent-Length: 3\r\n\r\nabc",
         ],
-        "1 127.0.0.1:7 PATCH /files/1 offset=5 body=3 status=204 in=69 out=45 ms=1 now=8\n\
-        minute connections=1 requests=1 2xx=1 4xx=0 5xx=0 in=69 out=45 bodies=0\n",
-    ),
-    // a reply before the request's body, which isn't part of the next request; lines that end in LF alone
-    (
-        &[
-            Passes::In(b"PATCH /files/9 HTTP/1.1\r\nUpload-Offset: 0\r\nContent-Length: 3\r\n\r\n"),
-            Passes::Out(b"HTTP/1.1 404 Not Found\r\nX-Refusal: 8\r\nContent-Length: 0\r\n\r\n"),
-            Passes::In(b"G\n\nGET /files/1 HTTP/1.1\n\n"),
-            Passes::Out(b"HTTP/1.1 200 OK\r\nContent-Length: 5\r\n\r\n\r\n\r\nX"),
+        room: 9999,
+        lines: "1 127.0.0.1:7 PATCH /files/1 offset=3 body=3 status=204 in=138 out=92 ms=0 now=6\n\
+        minute connections=1 requests=1 2xx=1 4xx=0 5xx=0 in=138 out=92 bodies=0\n",
+    },
+    // the body of a refused request isn't the next one
+    Row {
+        sends: &[
+            b"PATCH /files/9 HTTP/1.1\r\nTus-Resumable: 1.0.0\r\nContent-Type: application/offset+octet-stream\r\nUpload-Offset: 0\r\nContent-Length: 28\r\n\r\n",
+            b"DELETE /files/1 HTTP/1.1\r\n\r\n",
+            b"HEAD /files/1 HTTP/1.1\r\nTus-Resumable: 1.0.0\r\n\r\n",
         ],
-        "1 127.0.0.1:7 PATCH /files/9 offset=0 body=3 status=404 refusal=8:NoSuch in=64 out=59 ms=1\n\
-        1 127.0.0.1:7 GET /files/1 status=200 in=23 out=43 ms=1\n\
-        minute connections=1 requests=2 2xx=1 4xx=1 5xx=0 in=90 out=102 bodies=0\n",
-    ),
-    // two requests at once; an interim reply doesn't count as a reply
-    (
-        &[
-            Passes::In(
-                b"POST /files HTTP/1.1\r\nUpload-Length: 10\r\n\r\n\
-            PATCH /files/1 HTTP/1.1\r\nUpload-Offset: 0\r\nContent-Length: 3\r\n\r\n",
-            ),
-            Passes::Out(
-                b"HTTP/1.1 201 Created\r\nContent-Length: 0\r\n\r\nHTTP/1.1 100 Continue\r\n\r\n",
-            ),
+        room: 9999,
+        lines: "1 127.0.0.1:7 PATCH /files/9 offset=0 body=28 status=404 refusal=8:NoSuch in=134 out=106 ms=0\n\
+        1 127.0.0.1:7 HEAD /files/1 status=200 in=48 out=102 ms=0 now=3/6\n\
+        minute connections=1 requests=2 2xx=1 4xx=1 5xx=0 in=210 out=208 bodies=0\n",
+    },
+    // three at once: an interim reply is no reply
+    Row {
+        sends: &[
+            b"POST /files HTTP/1.1\r\nTus-Resumable: 1.0.0\r\nUpload-Length: 10\r\n\r\nPATCH /files/2 HTTP/1.1\r\nTus-Resumable: 1.0.0\r\nContent-Type: application/offset+octet-stream\r\nUpload-Offset: 0\r\nContent-Length: 3\r\nExpect: 100-continue\r\n\r\n",
         ],
-        "1 127.0.0.1:7 POST /files length=10 status=201 in=43 out=43 ms=1\n\
-        1 127.0.0.1:7 PATCH /files/1 offset=0 body=3 status=none in=64 out=25 ms=2\n\
-        minute connections=1 requests=2 2xx=1 4xx=0 5xx=0 in=107 out=68 bodies=0\n",
-    ),
+        room: 9999,
+        lines: "1 127.0.0.1:7 POST /files length=10 status=201 in=65 out=110 ms=0 number=2\n\
+        1 127.0.0.1:7 PATCH /files/2 offset=0 body=3 status=none in=155 out=25 ms=1 now=0/10\n\
+        minute connections=1 requests=2 2xx=1 4xx=0 5xx=0 in=220 out=135 bodies=0\n",
+    },
     // bytes that a terminal would interpret
-    (
-        &[
-            Passes::In(b"G\x1bT /a\\b\x07\xff HTTP/1.1\r\n\r\n"),
-            Passes::Out(b"HTTP/1.1 400 Bad Request\r\nX-Refusal: 18\r\nContent-Length: 0\r\n\r\n"),
-        ],
-        "1 127.0.0.1:7 G\\x1bT /a\\x5cb\\x07\\xff status=400 refusal=18:Malformed in=23 out=62 ms=1\n\
-        minute connections=1 requests=1 2xx=0 4xx=1 5xx=0 in=23 out=62 bodies=0\n",
-    ),
+    Row {
+        sends: &[b"G\x1bT /a\\b\x07\xff HTTP/1.1\r\n\r\n"],
+        room: 9999,
+        lines: "1 127.0.0.1:7 G\\x1bT /a\\x5cb\\x07\\xff status=400 refusal=18:Malformed in=23 out=128 ms=0\n\
+        minute connections=1 requests=1 2xx=0 4xx=1 5xx=0 in=23 out=128 bodies=0\n",
+    },
     // a label that isn't known
-    (
-        &[
-            Passes::In(
-                b"POST /files HTTP/1.1\r\nUpload-Length: 5\r\nUpload-Metadata: from a2xpbmdvbg==\r\n\r\n",
-            ),
-            Passes::Out(b"HTTP/1.1 400 Bad Request\r\nX-Refusal: 28\r\nContent-Length: 0\r\n\r\n"),
+    Row {
+        sends: &[
+            b"POST /files HTTP/1.1\r\nTus-Resumable: 1.0.0\r\nUpload-Length: 5\r\nUpload-Metadata: from a2xpbmdvbg==\r\n\r\n",
         ],
-        "1 127.0.0.1:7 POST /files length=5 status=400 refusal=28:BadLabel metadata=from\\x20a2xpbmdvbg== \
-        in=78 out=62 ms=1 from=klingon\n\
-        minute connections=1 requests=1 2xx=0 4xx=1 5xx=0 in=78 out=62 bodies=0\n",
-    ),
+        room: 9999,
+        lines: "1 127.0.0.1:7 POST /files length=5 status=400 refusal=28:BadLabel \
+        metadata=from\\x20a2xpbmdvbg== in=100 out=109 ms=0 from=klingon\n\
+        minute connections=1 requests=1 2xx=0 4xx=1 5xx=0 in=100 out=109 bodies=0\n",
+    },
     // labels and a mode in any order
-    (
-        &[
-            Passes::In(
-                b"POST /files HTTP/1.1\r\nUpload-Length: 5\r\n\
-            Upload-Metadata: to dXRm, from dXRmLTg=, mode aGFyZCB0aW1lcw==\r\n\r\n",
-            ),
-            Passes::Out(b"HTTP/1.1 400 Bad Request\r\nX-Refusal: 28\r\nContent-Length: 0\r\n\r\n"),
+    Row {
+        sends: &[
+            b"POST /files HTTP/1.1\r\nTus-Resumable: 1.0.0\r\nUpload-Length: 5\r\nUpload-Metadata: to dXRm, from dXRmLTg=, mode aGFyZCB0aW1lcw==\r\n\r\n",
         ],
-        "1 127.0.0.1:7 POST /files length=5 status=400 refusal=28:BadLabel \
-        metadata=to\\x20dXRm,\\x20from\\x20dXRmLTg=,\\x20mode\\x20aGFyZCB0aW1lcw== \
-        in=106 out=62 ms=1 from=utf-8 to=utf mode=hard\\x20times\n\
-        minute connections=1 requests=1 2xx=0 4xx=1 5xx=0 in=106 out=62 bodies=0\n",
-    ),
+        room: 9999,
+        lines: "1 127.0.0.1:7 POST /files length=5 status=400 refusal=28:BadLabel \
+        metadata=to\\x20dXRm,\\x20from\\x20dXRmLTg=,\\x20mode\\x20aGFyZCB0aW1lcw== in=128 out=109 ms=0 \
+        from=utf-8 to=utf mode=hard\\x20times\n\
+        minute connections=1 requests=1 2xx=0 4xx=1 5xx=0 in=128 out=109 bodies=0\n",
+    },
     // a text that is cut, and a head that is cut
-    (
-        &[
-            Passes::In(b"GET /files/1 HTTP/1.1\r\n\r\nHEAD "),
-            Passes::Out(b"HTTP/1.1 200 OK\r\nContent-Length: 5\r\n\r\nhe"),
-        ],
-        "1 127.0.0.1:7 GET /files/1 status=200 cut in=25 out=40 ms=2\n\
-        minute connections=1 requests=1 2xx=0 4xx=0 5xx=0 in=30 out=40 bodies=0\n",
-    ),
+    Row {
+        sends: &[b"GET /files/1 HTTP/1.1\r\n\r\n", b"HEAD "],
+        room: 100,
+        lines: "1 127.0.0.1:7 GET /files/1 status=200 cut in=25 out=100 ms=2\n\
+        1 127.0.0.1:7 HEAD - status=none in=5 out=0 ms=1\n\
+        minute connections=1 requests=1 2xx=0 4xx=0 5xx=0 in=30 out=100 bodies=0\n",
+    },
     // a head without an end
-    (
-        &[
-            Passes::In(b"GET /files/1 HTTP/1.1\r\nX: "),
-            Passes::Out(
-                b"HTTP/1.1 431 Request Header Fields Too Large\r\nX-Refusal: 19\r\nContent-Length: 0\r\n\r\n",
-            ),
-        ],
-        "1 127.0.0.1:7 GET /files/1 status=431 refusal=19:HeadTooLong in=26 out=82 ms=1\n\
-        minute connections=1 requests=0 2xx=0 4xx=1 5xx=0 in=26 out=82 bodies=0\n",
-    ),
+    Row {
+        sends: &[b"GET /files/1 HTTP/1.1\r\nX: ", &LONG],
+        room: 9999,
+        lines: "1 127.0.0.1:7 GET /files/1 status=431 refusal=19:HeadTooLong in=8192 out=148 ms=1\n\
+        minute connections=1 requests=1 2xx=0 4xx=1 5xx=0 in=8218 out=148 bodies=0\n",
+    },
     // blanks before the length of a body whose bytes look like a request, and blanks after it
-    (
-        &[
-            Passes::In(b"PATCH /files/1 HTTP/1.1\r\nUpload-Offset:\t0 \r\nContent-Length:"),
-            Passes::In(&BLANKS),
-            Passes::In(b"30"),
-            Passes::In(&BLANKS),
-            Passes::In(b"\r\n\r\nDELETE /files/77 HTTP/1.1\r\n\r\nX"),
-            Passes::Out(b"HTTP/1.1 204 No Content\r\nUpload-Offset: 30\r\n\r\n"),
-            Passes::In(b"GET /files/1 HTTP/1.1\r\n\r\n"),
-            Passes::Out(b"HTTP/1.1 200 OK\r\nContent-Length: 0\r\n\r\n"),
+    Row {
+        sends: &[
+            b"PATCH /files/1 HTTP/1.1\r\nTus-Resumable: 1.0.0\r\nContent-Type: application/offset+octet-stream\r\nUpload-Offset:\t3 \r\nContent-Length:",
+            &BLANKS,
+            b"3",
+            &BLANKS,
+            b"\r\n\r\nG\n\n",
+            b"HEAD /files/1 HTTP/1.1\r\nTus-Resumable: 1.0.0\r\n\r\n",
         ],
-        "1 127.0.0.1:7 PATCH /files/1 offset=0 body=30 status=204 in=695 out=46 ms=5 now=30\n\
-        1 127.0.0.1:7 GET /files/1 status=200 in=25 out=38 ms=1\n\
-        minute connections=1 requests=2 2xx=2 4xx=0 5xx=0 in=720 out=84 bodies=0\n",
-    ),
-    // blanks in a first line are part of it, and so is a colon
-    (
-        &[
-            Passes::In(b"GET /a: b HTTP/1.1\r\n\r\n"),
-            Passes::Out(b"HTTP/1.1 400 Bad Request\r\nX-Refusal: 18\r\nContent-Length: 0\r\n\r\n"),
+        room: 9999,
+        lines: "1 127.0.0.1:7 PATCH /files/1 offset=3 body=3 status=204 in=736 out=92 ms=4 now=6\n\
+        1 127.0.0.1:7 HEAD /files/1 status=200 in=48 out=102 ms=0 now=6/6\n\
+        minute connections=1 requests=2 2xx=2 4xx=0 5xx=0 in=784 out=194 bodies=0\n",
+    },
+    // a path that is none
+    Row {
+        sends: &[b"GET /a: b HTTP/1.1\r\n\r\n"],
+        room: 9999,
+        lines: "1 127.0.0.1:7 GET /a: status=400 refusal=18:Malformed in=22 out=128 ms=0\n\
+        minute connections=1 requests=1 2xx=0 4xx=1 5xx=0 in=22 out=128 bodies=0\n",
+    },
+    // lengths that the gateway refuses: a sign, and 19 digits
+    Row {
+        sends: &[
+            b"POST /files HTTP/1.1\r\nTus-Resumable: 1.0.0\r\nUpload-Length: +5\r\nContent-Length: +3\r\n\r\n",
         ],
-        "1 127.0.0.1:7 GET /a: status=400 refusal=18:Malformed in=22 out=62 ms=1\n\
-        minute connections=1 requests=1 2xx=0 4xx=1 5xx=0 in=22 out=62 bodies=0\n",
-    ),
-    // lengths that the gateway refuses, with a close: a sign, and 19 digits
-    (
-        &[
-            Passes::In(b"POST /files HTTP/1.1\r\nUpload-Length: +5\r\nContent-Length: +3\r\n\r\n"),
-            Passes::Out(b"HTTP/1.1 400 Bad Request\r\nX-Refusal: 21\r\nContent-Length: 0\r\n\r\n"),
+        room: 9999,
+        lines: "1 127.0.0.1:7 POST /files status=400 refusal=21:BadLength in=85 out=128 ms=0\n\
+        minute connections=1 requests=1 2xx=0 4xx=1 5xx=0 in=85 out=128 bodies=0\n",
+    },
+    Row {
+        sends: &[
+            b"POST /files HTTP/1.1\r\nTus-Resumable: 1.0.0\r\nContent-Length: 0000000000000000003\r\n\r\n",
         ],
-        "1 127.0.0.1:7 POST /files status=400 refusal=21:BadLength in=63 out=62 ms=1\n\
-        minute connections=1 requests=1 2xx=0 4xx=1 5xx=0 in=63 out=62 bodies=0\n",
-    ),
-    (
-        &[
-            Passes::In(b"POST /files HTTP/1.1\r\nContent-Length: 0000000000000000003\r\n\r\n"),
-            Passes::Out(b"HTTP/1.1 400 Bad Request\r\nX-Refusal: 21\r\nContent-Length: 0\r\n\r\n"),
+        room: 9999,
+        lines: "1 127.0.0.1:7 POST /files status=400 refusal=21:BadLength in=83 out=128 ms=0\n\
+        minute connections=1 requests=1 2xx=0 4xx=1 5xx=0 in=83 out=128 bodies=0\n",
+    },
+    // new uploads
+    Row {
+        sends: &[
+            b"POST /files HTTP/1.1\r\nTus-Resumable: 1.0.0\r\nUpload-Length: 10\r\n\r\n",
+            b"POST /files HTTP/1.1\r\nTus-Resumable: 1.0.0\r\nUpload-Defer-Length: 1\r\n\r\n",
+            b"HEAD /files/3 HTTP/1.1\r\nTus-Resumable: 1.0.0\r\n\r\n",
         ],
-        "1 127.0.0.1:7 POST /files status=400 refusal=21:BadLength in=61 out=62 ms=1\n\
-        minute connections=1 requests=1 2xx=0 4xx=1 5xx=0 in=61 out=62 bodies=0\n",
-    ),
-    // a new upload's number, by a path of any form
-    (
-        &[
-            Passes::In(b"POST /files HTTP/1.1\r\nUpload-Length: 10\r\n\r\n"),
-            Passes::Out(
-                b"HTTP/1.1 201 Created\r\nLocation: ../files/12\r\nContent-Length: 0\r\n\r\n",
-            ),
-            Passes::In(b"POST /files HTTP/1.1\r\nUpload-Defer-Length: 1\r\n\r\n"),
-            Passes::Out(
-                b"HTTP/1.1 201 Created\r\nLocation: /files/13\r\nContent-Length: 0\r\n\r\n",
-            ),
-        ],
-        "1 127.0.0.1:7 POST /files length=10 status=201 in=43 out=66 ms=1 number=12\n\
-        1 127.0.0.1:7 POST /files status=201 in=48 out=64 ms=1 number=13\n\
-        minute connections=1 requests=2 2xx=2 4xx=0 5xx=0 in=91 out=130 bodies=0\n",
-    ),
-    // what an upload has, with its length and without one
-    (
-        &[
-            Passes::In(b"HEAD /files/1 HTTP/1.1\r\n\r\n"),
-            Passes::Out(b"HTTP/1.1 200 OK\r\nUpload-Offset: 5\r\nUpload-Length: 10\r\n\r\n"),
-            Passes::In(b"HEAD /files/2 HTTP/1.1\r\n\r\n"),
-            Passes::Out(b"HTTP/1.1 200 OK\r\nUpload-Offset: 0\r\nUpload-Defer-Length: 1\r\n\r\n"),
-        ],
-        "1 127.0.0.1:7 HEAD /files/1 status=200 in=26 out=56 ms=1 now=5/10\n\
-        1 127.0.0.1:7 HEAD /files/2 status=200 in=26 out=61 ms=1 now=0\n\
-        minute connections=1 requests=2 2xx=2 4xx=0 5xx=0 in=52 out=117 bodies=0\n",
-    ),
+        room: 9999,
+        lines: "1 127.0.0.1:7 POST /files length=10 status=201 in=65 out=110 ms=0 number=2\n\
+        1 127.0.0.1:7 POST /files status=201 in=70 out=110 ms=0 number=3\n\
+        1 127.0.0.1:7 HEAD /files/3 status=200 in=48 out=108 ms=0 now=0\n\
+        minute connections=1 requests=3 2xx=3 4xx=0 5xx=0 in=183 out=328 bodies=0\n",
+    },
     // another method counts than that of the first line: the first one that a field gives
-    (
-        &[
-            Passes::In(
-                b"POST /files/1 HTTP/1.1\r\nX-HTTP-Method-Override: DELETE\r\n\
-            x-http-method-override: HEAD\r\n\r\n",
-            ),
-            Passes::Out(b"HTTP/1.1 204 No Content\r\n\r\n"),
-            Passes::In(b"GET /files/2 HTTP/1.1\r\nX-HTTP-Method-Override:  \r\n\r\n"),
-            Passes::Out(
-                b"HTTP/1.1 405 Method Not Allowed\r\nX-Refusal: 24\r\nContent-Length: 0\r\n\r\n",
-            ),
+    Row {
+        sends: &[
+            b"POST /files/1 HTTP/1.1\r\nTus-Resumable: 1.0.0\r\nX-HTTP-Method-Override: DELETE\r\nx-http-method-override: HEAD\r\n\r\n",
+            b"GET /files/2 HTTP/1.1\r\nX-HTTP-Method-Override:  \r\n\r\n",
         ],
-        "1 127.0.0.1:7 DELETE /files/1 by=POST status=204 in=88 out=27 ms=1\n\
-        1 127.0.0.1:7 - /files/2 by=GET status=405 refusal=24:BadMethod in=52 out=69 ms=1\n\
-        minute connections=1 requests=2 2xx=1 4xx=1 5xx=0 in=140 out=96 bodies=0\n",
-    ),
+        room: 9999,
+        lines: "1 127.0.0.1:7 DELETE /files/1 by=POST status=204 in=110 out=74 ms=0\n\
+        1 127.0.0.1:7 - /files/2 by=GET status=412 refusal=22:TusVersion in=52 out=137 ms=0\n\
+        minute connections=1 requests=2 2xx=1 4xx=1 5xx=0 in=162 out=211 bodies=0\n",
+    },
+    // a body that is cut, whose upload has what came; and a reply of which nothing could be sent
+    Row {
+        sends: &[
+            b"PATCH /files/1 HTTP/1.1\r\nTus-Resumable: 1.0.0\r\nContent-Type: application/offset+octet-stream\r\nUpload-Offset: 3\r\nContent-Length: 3\r\n\r\nab",
+        ],
+        room: 9999,
+        lines: "1 127.0.0.1:7 PATCH /files/1 offset=3 body=3 status=none in=135 out=0 ms=1 now=5/6\n\
+        minute connections=1 requests=1 2xx=0 4xx=0 5xx=0 in=135 out=0 bodies=0\n",
+    },
+    Row {
+        sends: &[b"DELETE /files/1 HTTP/1.1\r\nTus-Resumable: 1.0.0\r\n\r\n"],
+        room: 0,
+        lines: "1 127.0.0.1:7 DELETE /files/1 status=204 cut in=50 out=0 ms=1\n\
+        minute connections=1 requests=1 2xx=0 4xx=0 5xx=0 in=50 out=0 bodies=0\n",
+    },
 ];
 
-/// Reads what a client sends, in pieces of `size` bytes.
-fn reads<'s, R: Read>(
-    rt: &impl Abort,
-    sends: &Cell<&'s [u8]>,
-    stream: &mut R,
-    bytes: &'s [u8],
-    size: usize,
-) {
-    for piece in bytes.chunks(size.max(1)) {
-        sends.set(piece);
-        let mut buf = [0; 512];
-        let count = stream.read(&mut buf).expect(rt, "bytes");
-        assert_eq!(rt; buf.get(..count), Some(piece));
+const POST: &[u8] = b"POST /files HTTP/1.1\r\nTus-Resumable: 1.0.0\r\nUpload-Length: 6\r\n\r\n";
+
+const PATCH: &[u8] =
+    b"PATCH /files/1 HTTP/1.1\r\nTus-Resumable: 1.0.0\r\nUpload-Offset: 0\r\nContent-Length: 3\r\n\
+    Content-Type: application/offset+octet-stream\r\n\r\nabc";
+
+const HEAD: &[u8] = b"HEAD /files/1 HTTP/1.1\r\nTus-Resumable: 1.0.0\r\n\r\n";
+/// A body that is cut.
+const CUT: &[u8] =
+    b"PATCH /files/1 HTTP/1.1\r\nTus-Resumable: 1.0.0\r\nUpload-Offset: 3\r\nContent-Length: 3\r\n\
+    Content-Type: application/offset+octet-stream\r\n\r\nde";
+
+/// A gateway over uploads in memory, whose calls are logged as those of a served one.
+struct Served<'v, 'a> {
+    gateway: Gateway<Table>,
+    log: &'v Log<'a, Millis, Paper<'a>>,
+    out: Vec<u8>,
+}
+
+impl<'v, 'a> Served<'v, 'a> {
+    /// With one upload, of 6 bytes, of which 3 came.
+    fn new(rt: &impl Abort, alloc: Global, log: &'v Log<'a, Millis, Paper<'a>>) -> Self {
+        let store = Table::new(alloc, IndexSet::new(alloc).expect(rt, "memory for a set"));
+        let opened = Gateway::new(alloc, store);
+        let mut gateway = opened.ok().expect(rt, "memory");
+        gateway.opened(0).expect(rt, "a place");
+        let mut out = Vec::new(alloc);
+        for request in [POST, PATCH] {
+            let answer = gateway.came(0, request, &mut out).expect(rt, "memory");
+            assert_eq!(rt; answer.taken, request.len());
+        }
+        gateway.ended(0).expect(rt, "memory");
+        out.clear();
+        gateway.opened(0).expect(rt, "a place");
+        log.opened(0);
+        Served { gateway, log, out }
+    }
+
+    /// Takes bytes of the client, and writes the replies as far as its socket takes them.
+    fn take<W: Write>(&mut self, rt: &impl Abort, bytes: &[u8], stream: &mut W) {
+        let mut rest = bytes;
+        for _ in 0..bytes.len() {
+            let begun = self.out.len();
+            let came = self.gateway.came(0, rest, &mut self.out);
+            let Ok(answer) = came else {
+                return;
+            };
+            self.tell(&rest[..answer.taken], begun);
+            rest = &rest[answer.taken..];
+            self.give(stream, answer.more);
+            if rest.is_empty() {
+                return;
+            }
+        }
+        assert!(rt; false, "each call takes a byte");
+    }
+
+    // Writes what was given, and asks for the rest of a text.
+    fn give<W: Write>(&mut self, stream: &mut W, more: bool) {
+        let mut more = more;
+        for _ in 0..3 {
+            if let Ok(count) = stream.write(&self.out) {
+                self.out.drain(..count);
+            }
+            if !more || !self.out.is_empty() {
+                return;
+            }
+            if let Ok(answer) = self.gateway.more(0, &mut self.out) {
+                more = answer.more;
+                self.tell(&[], 0);
+            }
+        }
+    }
+
+    // Tells the log of a call that took these bytes, and gave those of the output from a place on.
+    fn tell(&self, taken: &[u8], begun: usize) {
+        let at = self.gateway.at(0);
+        let given = &self.out[begun..];
+        self.log.called(0, Call { taken, given, at });
+    }
+
+    /// The client is gone.
+    fn end(self) {
+        let Served {
+            mut gateway,
+            log,
+            out: _,
+        } = self;
+        let upload = log.upload_at(0);
+        let ended = gateway.ended(0);
+        let record = upload.and_then(|number| gateway.uploads().record(number));
+        let progress = record.map(|record| Progress {
+            accepted: record.accepted,
+            declared: record.declared,
+        });
+        if ended.is_ok() {
+            log.ended(0, progress);
+        }
+        drop(gateway.close());
     }
 }
 
-/// Writes bytes to a client in pieces of `size` bytes.
-fn writes<W: Write>(rt: &impl Abort, stream: &mut W, bytes: &[u8], size: usize) {
-    for piece in bytes.chunks(size.max(1)) {
-        let count = stream.write(piece).expect(rt, "a stream that takes bytes");
-        assert_eq!(rt; count, piece.len());
-    }
-}
-
-/// The log of one connection over which `talk` passes in pieces of `size` bytes.
-fn logged(rt: &impl Abort, alloc: Global, talk: &[Passes], size: usize) -> Vec<u8> {
+/// A client that sends `sends` in pieces of `size` bytes, whose socket takes so many bytes: its log.
+fn logged(rt: &impl Abort, alloc: Global, row: &Row, size: usize) -> Vec<u8> {
     let written = Cell::new(Vec::new(alloc));
-    let sends: Cell<&'static [u8]> = Cell::new(b"");
+    let (sends, room) = (Cell::new(b"".as_slice()), Cell::new(row.room));
     let clock = Millis { now: Cell::new(0) };
-    let log = Log::new(
-        &clock,
+    let paper = Paper {
         alloc,
-        Paper {
-            alloc,
-            written: &written,
-        },
-    );
-    let door = Door { sends: &sends };
+        written: &written,
+    };
+    let log = Log::new(&clock, alloc, paper);
+    let door = Door {
+        sends: &sends,
+        room: &room,
+    };
     let listener = Logged::new(&door, &log);
     let (mut stream, _) = listener.accept().expect(rt, "a stream");
-    for passes in talk {
+    let mut served = Served::new(rt, alloc, &log);
+    for bytes in row.sends.iter() {
         clock.advance(1);
-        match *passes {
-            Passes::In(bytes) => reads(rt, &sends, &mut stream, bytes, size),
-            Passes::Out(bytes) => writes(rt, &mut stream, bytes, size),
+        for piece in bytes.chunks(size.max(1)) {
+            reads(rt, &sends, &mut stream, piece);
+            served.take(rt, piece, &mut stream);
         }
     }
     clock.advance(1);
     drop(stream);
+    served.end();
     log.end();
     written.replace(Vec::new(alloc))
 }
@@ -363,35 +431,66 @@ fn timed(rt: &impl Abort, alloc: Global, lines: &str) -> Vec<u8> {
     bytes
 }
 
+/// Reads a piece of what a client sends.
+fn reads<R: Read>(
+    rt: &impl Abort,
+    sends: &Cell<&'static [u8]>,
+    stream: &mut R,
+    piece: &'static [u8],
+) {
+    sends.set(piece);
+    let mut buf = [0; 512];
+    let count = stream.read(&mut buf).expect(rt, "bytes");
+    assert_eq!(rt; buf.get(..count), Some(piece));
+}
+
 #[test]
 fn lines_of_a_log(rt: HostRuntime) {
     let alloc = rt.alloc();
-    for (talk, lines) in TALKS.iter() {
-        let wanted = timed(&rt, alloc, lines);
+    for row in ROWS.iter() {
+        let wanted = timed(&rt, alloc, row.lines);
         for size in [1, 512] {
-            let written = logged(&rt, alloc, talk, size);
-            assert_eq!(rt; written, wanted, "{lines} in pieces of {size}");
+            let written = logged(&rt, alloc, row, size);
+            assert_eq!(rt; written, wanted, "{} in pieces of {size}", row.lines);
         }
     }
 }
 
+/// Each row: the time, and the lines that are written then by a read that finds nothing. The client waited for its place
+/// until 5,000.
+const LATER: [(u64, &str); 4] = [
+    (5999, ""),
+    (
+        6000,
+        "1 127.0.0.1:7 HEAD /files/1 status=200 in=48 out=102 ms=0 wait=5000 now=3/6\n",
+    ),
+    (59_999, ""),
+    (
+        60_999,
+        "minute connections=1 requests=2 2xx=1 4xx=0 5xx=0 in=0 out=102 bodies=1 free_blocks=7 free_slots=511 \
+        incomplete=1\n",
+    ),
+];
+
 #[test]
-fn stock_and_progress_are_shown(rt: HostRuntime) {
+fn lines_wait_a_second_and_counts_a_minute(rt: HostRuntime) {
     let alloc = rt.alloc();
     let written = Cell::new(Vec::new(alloc));
-    let sends: Cell<&'static [u8]> = Cell::new(b"");
+    let (sends, room) = (Cell::new(b"".as_slice()), Cell::new(9999));
     let clock = Millis { now: Cell::new(0) };
-    let log = Log::new(
-        &clock,
+    let paper = Paper {
         alloc,
-        Paper {
-            alloc,
-            written: &written,
-        },
-    );
-    let door = Door { sends: &sends };
+        written: &written,
+    };
+    let log = Log::new(&clock, alloc, paper);
+    let door = Door {
+        sends: &sends,
+        room: &room,
+    };
     let listener = Logged::new(&door, &log);
     let (mut stream, _) = listener.accept().expect(&rt, "a stream");
+    clock.now.set(5000);
+    let mut served = Served::new(&rt, alloc, &log);
     assert!(rt; log.wants_stock());
     log.take_stock(Stock {
         free_blocks: 7,
@@ -399,92 +498,24 @@ fn stock_and_progress_are_shown(rt: HostRuntime) {
         incomplete: 1,
     });
     assert!(rt; !log.wants_stock());
-    clock.now.set(5000);
-    assert!(rt; log.wants_stock());
-    let head = b"PATCH /files/1 HTTP/1.1\r\nUpload-Offset: 0\r\nContent-Length: 3\r\n\r\n";
-    reads(&rt, &sends, &mut stream, head, 512);
-    log.end();
-    let wanted =
-        "minute connections=1 requests=1 2xx=0 4xx=0 5xx=0 in=64 out=0 bodies=1 free_blocks=7 \
-        free_slots=511 incomplete=1\n";
-    assert_eq!(rt; taken(alloc, &written), timed(&rt, alloc, wanted));
-    // The line of a body that is cut waits until the log is told how far its upload is. The client had waited, too.
-    drop(stream);
-    assert_eq!(rt; log.cut_upload(), Some(1));
-    log.tell_cut(Some(Progress {
-        accepted: 2,
-        declared: Some(3),
-    }));
-    assert_eq!(rt; log.cut_upload(), None);
-    log.end();
-    let wanted =
-        "1 127.0.0.1:7 PATCH /files/1 offset=0 body=3 status=none in=64 out=0 ms=0 wait=5000 now=2/3\n";
-    assert_eq!(rt; taken(alloc, &written), timed(&rt, alloc, wanted));
-}
-
-/// What was written since the last call.
-fn taken(alloc: Global, written: &Cell<Vec<u8>>) -> Vec<u8> {
-    written.replace(Vec::new(alloc))
-}
-
-#[test]
-fn lines_are_written_a_second_late_while_nothing_is_accepted(rt: HostRuntime) {
-    let alloc = rt.alloc();
-    let written = Cell::new(Vec::new(alloc));
-    let sends: Cell<&'static [u8]> = Cell::new(b"");
-    let clock = Millis { now: Cell::new(0) };
-    let paper = Paper {
-        alloc,
-        written: &written,
-    };
-    let log = Log::new(&clock, alloc, paper);
-    let door = Door { sends: &sends };
-    let listener = Logged::new(&door, &log);
-    let (mut stream, _) = listener.accept().expect(&rt, "a stream");
-    reads(
-        &rt,
-        &sends,
-        &mut stream,
-        b"GET /files/1 HTTP/1.1\r\n\r\n",
-        512,
-    );
-    let reply = b"HTTP/1.1 200 OK\r\nContent-Length: 0\r\n\r\n";
-    writes(&rt, &mut stream, reply, 512);
-    sends.set(b"");
-    // each row: the time, and the lines that are written then by a read that finds nothing
-    let rows: [(u64, &str); 4] = [
-        (999, ""),
-        (
-            1000,
-            "1 127.0.0.1:7 GET /files/1 status=200 in=25 out=38 ms=0\n",
-        ),
-        (59_999, ""),
-        (
-            60_999,
-            "minute connections=1 requests=1 2xx=1 4xx=0 5xx=0 in=25 out=38 bodies=0\n",
-        ),
-    ];
-    for (now, lines) in rows.iter() {
+    served.take(&rt, HEAD, &mut stream);
+    served.take(&rt, CUT, &mut stream);
+    for (now, lines) in LATER.iter() {
         clock.now.set(*now);
         let mut buf = [0; 8];
         assert!(rt; stream.read(&mut buf).is_err());
         assert_eq!(rt;
-            taken(alloc, &written),
+            written.replace(Vec::new(alloc)),
             timed(&rt, alloc, lines),
             "at {now}"
         );
     }
-    writes(&rt, &mut stream, reply, 512);
-    assert!(rt; taken(alloc, &written).is_empty());
-    clock.advance(1000);
-    writes(&rt, &mut stream, b"H", 512);
-    assert_eq!(rt;
-        taken(alloc, &written),
-        timed(
-            &rt,
-            alloc,
-            "1 127.0.0.1:7 - - status=200 in=0 out=38 ms=60999\n"
-        )
-    );
+    assert!(rt; log.wants_stock());
     assert!(rt; stream.shutdown(Shutdown::Write).is_ok());
+    drop(stream);
+    served.end();
+    log.end();
+    let line =
+        "1 127.0.0.1:7 PATCH /files/1 offset=3 body=3 status=none in=135 out=0 ms=55999 now=5/6\n";
+    assert_eq!(rt; written.replace(Vec::new(alloc)), timed(&rt, alloc, line));
 }
