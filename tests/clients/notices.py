@@ -29,11 +29,12 @@ COUNTS = {
     "streams.py": [],
     "closes.py": ["--trials", "10", "--short"],
     "exports.py": [],
+    "logs.py": ["--short"],
     "operators.py": ["--indexes", str(HERE.parent.parent / "indexes")],
 }
 
 # What stands for the right program and does nothing wrong.
-RIGHT = {script: "nothing" if script in ("clients.py", "kills.py") else "each sync" for script in COUNTS}
+RIGHT = {script: "nothing" if script in ("clients.py", "kills.py", "logs.py") else "each sync" for script in COUNTS}
 
 # Each deed, the script that has to notice it, and the words of the assertion by which it does.
 WANTED = [
@@ -72,6 +73,8 @@ WANTED = [
     ("lines printed into the spool", "streams.py", "the spool of list SPOOL >&-"),
     ("lengths compared alone", "exports.py", "the status of"),
     ("a socket closed with bytes unread", "closes.py", "bytes behind a refusal"),
+    ("a request logged that never was", "logs.py", "the lines of these"),
+    ("a cut body logged without its upload", "logs.py", "the end of the line of a cut body"),
     ("any file overwritten", "operators.py", "the refusal of"),
     ("other indexes taken as the standard's", "operators.py", "the status of other files"),
     ("uploads deleted that were kept", "operators.py", "where all are kept"),

@@ -250,6 +250,26 @@ def ends_by_itself(program):
     program.go()
 
 
+def logged_as(program, change):
+    """Serves as the right program, and changes each line of its log."""
+    words = [program.real, *program.words]
+    server = subprocess.Popen(words, stderr=subprocess.PIPE, env=program.env, preexec_fn=dies_with_its_parent)
+    for line in server.stderr:
+        os.write(2, change(line))
+    sys.exit(server.wait())
+
+
+def logs_what_never_was(program):
+    """For each PATCH the log tells of a request as it stands in the body."""
+    forged = b"DELETE /files/77 status=200 in=51 out=74 ms=0\n"
+    logged_as(program, lambda line: line + re.sub(rb"PATCH .*\n", forged, line) if b" PATCH " in line else line)
+
+
+def logs_no_progress(program):
+    """The line of a cut body doesn't tell how far its upload is."""
+    logged_as(program, lambda line: re.sub(rb" now=\S+", b"", line) if b" status=none " in line else line)
+
+
 # DEEDS BEFORE THE SOCKETS
 
 
@@ -445,6 +465,8 @@ DEEDS = {
     "a spool's indexes not told": (tells_no_indexes, "list"),
     "no library reaches it": (is_out_of_reach, "format serve script list upgrade"),
     "a server that ends by itself": (ends_by_itself, "serve"),
+    "a request logged that never was": (logs_what_never_was, "up"),
+    "a cut body logged without its upload": (logs_no_progress, "up"),
     "a PATCH dropped, its 409 healed": before_sockets(DropsPatches),
     "a cut body dropped": before_sockets(DropsCutBodies),
     "a commit told as refused": before_sockets(TellsCommitsAsRefused),
