@@ -4,4 +4,6 @@
 
 mod laws;
 
-pub use laws::{any_cut, moments_of_streams, new_numbers, one_commit, one_winner, same_offset};
+pub use laws::{
+    all_bytes, any_cut, moments_of_streams, new_numbers, one_commit, one_winner, same_offset,
+};
