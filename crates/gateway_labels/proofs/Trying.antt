@@ -1,5 +1,9 @@
 -- What is known of a text, one piece on and at its end.
 use Rattle.std.proofs.Common.{◌≡◌, ◌∙◌, ◌++◌, ℕ, Bool, true, false, List, [], None, ap, refl, subst, sym}
+use Rattle.enc_model.specs.declared.Encoding.{Encoding}
+use Rattle.enc_model.specs.declared.Encoding.TheVariants.{Utf8}
+use Rattle.enc_model.specs.declared.Mode.{Mode}
+use Rattle.enc_model.specs.declared.Mode.TheVariants.{Html}
 use Rattle.enc_model.specs.Decode.{decode, text}
 use Rattle.enc_model.specs.Encode.{Coded, InAscii, Tables, encode, encoder}
 use Rattle.enc_model.specs.Transcode.{IsStateAt, Transcoder, added, added_end, so_far}
@@ -36,21 +40,22 @@ text_open : (t : Tables) (s : Transcoder) (input : List ℕ)
 unfolding text decode encode
 text_open t s input = refl
 
-known_as : (t : Tables) (trial : Trial) (input : List ℕ) (measure : Measure) (is_whole : Bool)
-    → IsTrialOf t trial input
-    → IsMeasured measure (text t trial.transcoder.transcoder.from trial.transcoder.transcoder.to
-    trial.transcoder.transcoder.mode input is_whole).bytes
-    → IsMeasured measure (text_as t trial.transcoder.transcoder.from input is_whole)
-known_as t trial input measure is_whole is known = rw (← is.to, ← is.mode) known
+known_as : (t : Tables) (from to : Encoding) (mode : Mode) (input : List ℕ) (measure : Measure) (is_whole : Bool)
+    → to ≡ Utf8 → mode ≡ Html → IsMeasured measure (text t from to mode input is_whole).bytes
+    → IsMeasured measure (text_as t from input is_whole)
+known_as t from to mode input measure is_whole is_utf8 is_html known =
+    subst (λ (m : Mode). IsMeasured measure (text t from Utf8 m input is_whole).bytes) is_html
+    (subst (λ (e : Encoding). IsMeasured measure (text t from e mode input is_whole).bytes) is_utf8 known)
 
 pub measured_open : (t : Tables) (trial : Trial) (input : List ℕ) (is_whole : Bool) → is_whole ≡ false
     → IsTrialOf t trial input
     → IsMeasured trial.measure (text_as t trial.transcoder.transcoder.from input is_whole)
 measured_open t trial input is_whole not_whole is =
+    let s = trial.transcoder.transcoder in
     rw not_whole
-        (known_as t trial input trial.measure false is
-        (subst (λ (x : List ℕ). IsMeasured trial.measure x) (text_open t trial.transcoder.transcoder input)
-        is.measured))
+    (known_as t s.from s.to s.mode input trial.measure false is.to is.mode
+    (subst (λ (x : List ℕ). IsMeasured trial.measure x) (text_open t s input)
+    is.measured))
 
 pub measured_whole : (t : Tables) (trial : Trial) (input code : List ℕ) (measure : Measure) (is_whole : Bool)
     → is_whole ≡ true → IsTrialOf t trial input → (added_end t trial.transcoder.transcoder).fault ≡ None
@@ -62,6 +67,6 @@ measured_whole t trial input code measure is_whole whole is fault coded measured
     let old = (so_far t s input).bytes in
     let done = grows_end t s old (old ++ (added_end t s).bytes) fault refl input is.at in
     rw whole
-        (known_as t trial input measure true is
-        (subst (λ (x : List ℕ). IsMeasured measure x) (ap (λ (x : List ℕ). old ++ x) coded ∙ done.1 [] refl)
-        measured))
+    (known_as t s.from s.to s.mode input measure true is.to is.mode
+    (subst (λ (x : List ℕ). IsMeasured measure x) (ap (λ (x : List ℕ). old ++ x) coded ∙ done.1 [] refl)
+    measured))

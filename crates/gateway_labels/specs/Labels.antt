@@ -11,7 +11,7 @@ pub record HaveRead (t : Tables) (trials : List Trial) (left left' : Option (Lis
   pub input : List ℕ
   pub read : Consumes left left' input
   pub many : bytes ≡ length input
-  pub trials : All (λ trial. IsTrialOf t trial input) trials
+  pub have : All (λ trial. IsTrialOf t trial input) trials
 
 -- SO MANY BYTES WERE READ from what was left, all of it if they are whole, and each choice is what the rule says of the
 -- text that its encoding makes of them

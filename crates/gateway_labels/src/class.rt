@@ -48,7 +48,8 @@ impl Class {
             (Class::Letter(case, script), Class::Letter(next_case, next_script)) => {
                 is_capital_behind_small(case, next_case) || mixes(script, next_script)
             }
-            (Class::Letter(..), Class::Number | Class::Symbol) | (Class::Symbol, Class::Letter(..)) => true,
+            (Class::Letter(..), Class::Number | Class::Symbol)
+            | (Class::Symbol, Class::Letter(..)) => true,
             _ => false,
         }
     }

@@ -66,7 +66,11 @@ impl Counts {
 fn losses_in(c: char) -> u64
     ensures { result ≡ (if c == 0xFFFD then 1 else 0) }
 {
-    if c == char::REPLACEMENT_CHARACTER { 1 } else { 0 }
+    if c == char::REPLACEMENT_CHARACTER {
+        1
+    } else {
+        0
+    }
 }
 
 // What a character adds to a text's strangeness, behind this last one.

@@ -84,7 +84,10 @@ pub fn write_notes<W: Write>(
     if lacking.is_empty() {
         return Ok(());
     }
-    write!(writer, "not tried, since {folder} lacks their index files: ")?;
+    write!(
+        writer,
+        "not tried, since {folder} lacks their index files: "
+    )?;
     write_names(writer, &lacking)?;
     writeln!(writer)
 }

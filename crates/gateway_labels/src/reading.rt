@@ -124,7 +124,7 @@ fn read_all<R: Read>(
         if count == 0 {
             return Ok((bytes, true));
         }
-        feed_all(set, desk, trials, &part[..count])?;
+        feed_all(set, desk, trials, front(part, count))?;
         bytes += count as u64;
     }
     Ok((bytes, false))
@@ -137,7 +137,19 @@ fn room_for(most: u64) -> usize
     ensures few { result ≤ 4096 }
     ensures within { result ≤ most }
 {
-    if most < PIECE as u64 { most as usize } else { PIECE }
+    if most < PIECE as u64 {
+        most as usize
+    } else {
+        PIECE
+    }
+}
+
+// So many bytes at the front.
+fn front(part: &[u8], count: usize) -> &[u8]
+    requires { count ≤ length part.now }
+    ensures { result.now ≡ take count part.now }
+{
+    &part[..count]
 }
 
 // Each reads a piece.

@@ -48,7 +48,11 @@ impl Sample {
 
     /// The line, if there is one. Controls are in it as `\xNN`.
     pub fn into_line(self) -> Option<String> {
-        if self.is_telling { Some(self.line) } else { None }
+        if self.is_telling {
+            Some(self.line)
+        } else {
+            None
+        }
     }
 
     fn put(&mut self, c: char) -> Result<(), AllocError> {

@@ -38,12 +38,7 @@ impl Trial {
     }
 
     /// Reads a piece.
-    pub fn feed(
-        &mut self,
-        set: &IndexSet,
-        desk: &mut Desk,
-        piece: &[u8],
-    ) -> Result<(), Unread>
+    pub fn feed(&mut self, set: &IndexSet, desk: &mut Desk, piece: &[u8]) -> Result<(), Unread>
         ensures read { (input : List ℕ) → IsTrialOf (tables set.now) self.old input
             → OnOk result (IsTrialOf (tables set.now) self.new (input ++ piece.now)) }
         ensures encoding { OnOk result (tried self.new ≡ tried self.old) }
@@ -55,12 +50,7 @@ impl Trial {
     }
 
     /// What it made of the bytes, which end here if they are whole.
-    pub fn end(
-        self,
-        set: &IndexSet,
-        desk: &mut Desk,
-        is_whole: bool,
-    ) -> Result<Choice, Unread>
+    pub fn end(self, set: &IndexSet, desk: &mut Desk, is_whole: bool) -> Result<Choice, Unread>
         ensures text { (input : List ℕ) → IsTrialOf (tables set.now) self input
             → IfOk result (λ choice. IsChoiceOf (tables set.now) choice input is_whole) }
         ensures encoding { IfOk result (λ choice. choice.encoding ≡ tried self) }

@@ -41,7 +41,6 @@ impl From<io::Error> for Unread {
 
 impl From<TranscodeError> for Unread {
     ghost use Rattle.gateway_labels.specs.Reasons.{transcode_reason};
-
     ghost use Rattle.std.specs.Prelude.{◌≡◌};
 
     ghost from_gives = { λ error unread. unread ≡ transcode_reason error };
