@@ -1,2 +1,3 @@
 pub mod Addresses
+pub mod Labelling
 pub mod Scripts

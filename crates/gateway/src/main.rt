@@ -1,6 +1,7 @@
 //! The program: a gateway for resumable uploads of text in old and new encodings.
 #![tactic(auto)]
 
+mod labelling;
 mod scripting;
 mod serving;
 mod standard;
@@ -15,6 +16,7 @@ use gateway_files::{
     upgrade_file,
 };
 use gateway_orders::{Order, USAGE, read_order, report_usage};
+use labelling::labels_file;
 use scripting::run_script;
 use serving::{Reporting, serve_file, serve_up};
 use standard::Closed;
@@ -76,6 +78,7 @@ fn obey<'a>(rt: &'a HostRuntime, order: Order<'a>) -> Result<u8, Failure<'a>> {
             delete_incomplete_file(rt, alloc, spool, &but, yes)?
         }
         Order::Export { spool, folder, all } => export_file(rt, alloc, spool, folder, all)?,
+        Order::Labels { indexes, all, json } => labels_file(rt, alloc, indexes, all, json)?,
         Order::Text {
             from,
             to,

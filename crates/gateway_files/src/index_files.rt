@@ -184,7 +184,7 @@ impl Readable for IndexFolder<'_> {
 }
 
 /// Reads the index files that are in a folder, which has to be there. A file that isn't there isn't set.
-pub(crate) fn read_indexes<'a>(
+pub fn read_indexes<'a>(
     rt: &HostRuntime,
     alloc: Global,
     folder: &'a str,

@@ -44,7 +44,9 @@ pub use folders::{FileFolder, Folder};
 pub use formatting::{Formatted, Made, format_file, format_in, format_on};
 pub use found::Found;
 pub use incomplete::{delete_incomplete_file, incomplete_numbers, incomplete_on};
-pub use index_files::{IndexFile, IndexFiles, Readable, read_indexes_from, standard_entries};
+pub use index_files::{
+    IndexFile, IndexFiles, Readable, read_indexes, read_indexes_from, standard_entries,
+};
 pub use json_lines::json_file;
 pub use laws::shown_in_order;
 pub use listing::{list_file, list_in, list_on, write_uploads};

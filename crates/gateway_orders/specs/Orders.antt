@@ -7,7 +7,7 @@ use Rattle.gateway_orders.specs.Given.{HasArgument, HasFlag, HasNumber, HasNumbe
 use Rattle.gateway_orders.specs.Program.{program}
 use Rattle.gateway_orders.specs.declared.orders.Order.{Order}
 use Rattle.gateway_orders.specs.declared.orders.Order.TheVariants.{Format, Script, Serve, Up, Json}
-use Rattle.gateway_orders.specs.declared.orders.Order.TheVariants.{Delete, DeleteIncomplete, Export, Upgrade}
+use Rattle.gateway_orders.specs.declared.orders.Order.TheVariants.{Delete, DeleteIncomplete, Export, Labels, Upgrade}
 use Rattle.gateway_orders.specs.declared.orders.Order.TheVariants as orders
 
 -- the order is the one that belongs to the command of this name with these arguments
@@ -36,6 +36,9 @@ IsOrder name given (DeleteIncomplete spool but sure) = (name ≡ codes "delete")
     × HasFlag given (codes "yes") sure
 IsOrder name given (Export spool folder all) = (name ≡ codes "export") × HasArgument given (codes "SPOOL") spool.now
     × HasArgument given (codes "DIR") folder.now × HasFlag given (codes "all") all
+IsOrder name given (Labels indexes all json) = (name ≡ codes "labels")
+    × HasArgument given (codes "indexes") indexes.now × HasFlag given (codes "all") all
+    × HasFlag given (codes "json") json
 IsOrder name given (orders.Text from to mode indexes) = (name ≡ codes "text")
     × HasArgument given (codes "from") from.now × HasArgument given (codes "to") to.now
     × HasArgument given (codes "mode") mode.now × HasArgument given (codes "indexes") indexes.now

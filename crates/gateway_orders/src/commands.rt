@@ -102,7 +102,7 @@ const UP: Described = Described {
 };
 
 /// All commands, in the order of the help.
-static COMMANDS: [Described; 9] = [
+static COMMANDS: [Described; 10] = [
     Described {
         name: "format",
         about: "Makes a spool without uploads",
@@ -197,6 +197,24 @@ static COMMANDS: [Described; 9] = [
                 name: "all",
                 with: With::Nothing,
                 help: "Also incomplete uploads: their text so far",
+            },
+        ],
+    },
+    Described {
+        name: "labels",
+        about: "Prints which labels standard input may have, the likeliest first",
+        example: "What each encoding makes of a letter:\n\n  gateway labels --indexes idx < letter",
+        takes: &[
+            INDEXES,
+            Given {
+                name: "all",
+                with: With::Nothing,
+                help: "Reads all, and not only the first MiB",
+            },
+            Given {
+                name: "json",
+                with: With::Nothing,
+                help: "Prints them by lines of JSON",
             },
         ],
     },

@@ -65,6 +65,13 @@ pub enum Order<'a> {
         folder: &'a str,
         all: bool,
     },
+    /// Prints which labels standard input may have, by the index files of this folder: of its first MiB or of all, as
+    /// lines for a reader or of JSON.
+    Labels {
+        indexes: &'a str,
+        all: bool,
+        json: bool,
+    },
     /// Writes standard input as an upload with these labels and this mode would be stored, with the index files of this
     /// folder.
     Text {
@@ -123,6 +130,7 @@ fn order_of<'a>(
         "list" => Ok(list_order(given)),
         "delete" => Ok(delete_order(alloc, given)?),
         "export" => Ok(export_order(given)),
+        "labels" => Ok(labels_order(given)),
         "text" => Ok(text_order(given)),
         "upgrade" => Ok(upgrade_order(given)),
         _ => Ok(None),
@@ -265,6 +273,16 @@ fn export_order<'a>(given: &ArgMatches<'a>) -> Option<Order<'a>>
         spool: given.get_str("SPOOL")?,
         folder: given.get_str("DIR")?,
         all: given.get_flag("all"),
+    })
+}
+
+fn labels_order<'a>(given: &ArgMatches<'a>) -> Option<Order<'a>>
+    ensures { IfSome result (IsOrder (codes "labels") (rows_of (found_of given.now))) }
+{
+    Some(Order::Labels {
+        indexes: given.get_str("indexes")?,
+        all: given.get_flag("all"),
+        json: given.get_flag("json"),
     })
 }
 

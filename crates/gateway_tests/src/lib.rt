@@ -14,6 +14,8 @@ mod faults;
 #[cfg(test)]
 mod files;
 #[cfg(test)]
+mod labels;
+#[cfg(test)]
 mod log;
 #[cfg(test)]
 mod operators;

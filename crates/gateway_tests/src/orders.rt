@@ -6,7 +6,7 @@ use std::process::Abort;
 
 /// Command lines, and what each one parses to: an order, a call for help, or a usage error. The errors have a word too
 /// few, a word too many, or one that isn't valid.
-static LINES: [(&str, &str); 61] = [
+static LINES: [(&str, &str); 65] = [
     (
         "gateway format new --blocks 16 --indexes idx",
         r#"Format { spool: "new", blocks: 16, indexes: "idx", overwrite: false, standard: false }"#,
@@ -43,6 +43,14 @@ static LINES: [(&str, &str); 61] = [
     (
         "gateway text --indexes idx --mode fatal --to=latin1 --from utf-8",
         r#"Text { from: "utf-8", to: "latin1", mode: "fatal", indexes: "idx" }"#,
+    ),
+    (
+        "gateway labels --indexes idx",
+        r#"Labels { indexes: "idx", all: false, json: false }"#,
+    ),
+    (
+        "gateway labels --all --json --indexes idx",
+        r#"Labels { indexes: "idx", all: true, json: true }"#,
     ),
     (
         "gateway export old texts",
@@ -102,6 +110,8 @@ static LINES: [(&str, &str); 61] = [
     ("gateway up", "usage"),
     ("gateway export old", "usage"),
     ("gateway text --from koi8-r", "usage"),
+    ("gateway labels --all", "usage"),
+    ("gateway labels old --indexes idx", "usage"),
     ("gateway format new --blocks 16", "usage"),
     ("gateway list old older", "usage"),
     ("gateway list --json", "usage"),
@@ -137,7 +147,8 @@ static LINES: [(&str, &str); 61] = [
 ];
 
 /// The line that names all commands.
-const COMMANDS: &str = "Commands: format, up, list, delete, export, text, upgrade, serve, script";
+const COMMANDS: &str =
+    "Commands: format, up, list, delete, export, labels, text, upgrade, serve, script";
 
 /// Wrong command lines, and a line of each one's message: the usage of the command that was given, the names of all
 /// commands where none was, or what is wrong.

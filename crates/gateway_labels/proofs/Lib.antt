@@ -1,0 +1,4 @@
+pub mod Counting
+pub mod Fed
+pub mod Scripts
+pub mod Trying
