@@ -9,6 +9,6 @@ abbrev pub invariant-loop-trial : goal.invariant-loop-trial
 invariant-loop-trial l = record {
   same : map tried l.trial-items ≡ map tried l.fn.trials.items;
   fed : (input : List ℕ) → All (λ trial. IsTrialOf (tables l.set) trial input) l.fn.trials.items
-      → AreFed (λ trial. IsTrialOf (tables l.set) trial (input ++ l.piece)) (λ trial. IsTrialOf (tables l.set) trial input)
-      l.trial-items l.trial-index;
+      → AreFed (λ trial. IsTrialOf (tables l.set) trial (input ++ l.piece))
+      (λ trial. IsTrialOf (tables l.set) trial input) l.trial-items l.trial-index;
 }
