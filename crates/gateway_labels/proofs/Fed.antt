@@ -1,11 +1,13 @@
 -- Lists of trials, one trial on; and what they have read, one piece on.
 use Rattle.std.proofs.Common.{◌≡◌, ◌∙◌, ◌≢◌, ◌++◌, ℕ, ◌+◌, ◌<◌, ◌≤◌, List, Option, length, take, get_or, ap, arith}
-use Rattle.std.proofs.Common.{below_more, length-append, subst, sym}
+use Rattle.std.proofs.Common.{[], ◌∷◌, Bool, below_more, cond, false, length-append, map, subst, sym, true}
 use Rattle.std.proofs.Math.ListN.{set, length-set}
 use Rattle.std.proofs.KnownBytes.{Consumes-trans}
-use Rattle.std.proofs.lemmas.List.{get_or-set_other, get_or-set_same, length-take-le}
+use Rattle.std.proofs.lemmas.List.Elements.{filter_more}
+use Rattle.std.proofs.lemmas.List.{append-nil, get_or-set_other, get_or-set_same, length-take-le, map-set, map_push}
+use Rattle.std.proofs.lemmas.List.{set-get_or}
 use Rattle.std.specs.Io.KnownBytes.{Consumes}
-use Rattle.std.specs.List.{All, AllWithin}
+use Rattle.std.specs.List.{All, AllWithin, filter}
 use Rattle.enc_model.specs.Encode.{Tables}
 use Rattle.gateway_labels.specs.Labels.{HaveRead}
 use Rattle.gateway_labels.specs.Trials.{IsTrialOf}
@@ -60,3 +62,27 @@ read_more t trials next left mid left' bytes count part piece have read is withi
       ∙ sym (length-append have.input piece);
   have = feed have.input have.have;
 }
+
+-- one that passes is added, or one that doesn't is passed over
+pub kept_more : {X Y : Type 0} (f : X → Y) (p : Y → Bool) (xs : List X) (ys : List Y) (x : X) (i : ℕ) (d : Y)
+    → map f xs ≡ filter p (take i ys) → i < length ys → f x ≡ get_or ys i d → p (get_or ys i d) ≡ true
+    → map f (xs ++ x ∷ []) ≡ filter p (take (i + 1) ys)
+kept_more {X} {Y} f p xs ys x i d have in_ys is passes =
+    map_push f xs x ∙ ap (λ (zs : List Y). zs ++ f x ∷ []) have
+    ∙ ap (λ (y : Y). filter p (take i ys) ++ y ∷ []) is
+    ∙ ap (λ (b : Bool). filter p (take i ys) ++ cond b (get_or ys i d ∷ []) []) (sym passes)
+    ∙ sym (filter_more p ys i d in_ys)
+
+pub passed_more : {Y : Type 0} (p : Y → Bool) (zs ys : List Y) (i : ℕ) (d : Y) → zs ≡ filter p (take i ys)
+    → i < length ys → p (get_or ys i d) ≡ false → zs ≡ filter p (take (i + 1) ys)
+passed_more p zs ys i d have in_ys fails =
+    have ∙ sym (append-nil (filter p (take i ys)))
+    ∙ ap (λ (b : Bool). filter p (take i ys) ++ cond b (get_or ys i d ∷ []) []) (sym fails)
+    ∙ sym (filter_more p ys i d in_ys)
+
+-- an element that changes, and not by f
+pub same_mapped : {X Y : Type 0} (f : X → Y) (xs : List X) (i : ℕ) (y d : X) → f y ≡ f (get_or xs i d)
+    → map f (set xs i y) ≡ map f xs
+same_mapped {X} {Y} f xs i y d same =
+    map-set f xs i y ∙ ap (λ (z : Y). set (map f xs) i z) same ∙ sym (map-set f xs i (get_or xs i d))
+    ∙ ap (map f) (set-get_or xs i d)

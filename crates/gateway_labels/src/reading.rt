@@ -1,11 +1,14 @@
 //! The choices for the bytes of a reader.
-ghost use Rattle.std.specs.Prelude.{◌≡◌, ◌≤◌, ◌<◌, ◌++◌, ◌∷◌, ℕ, List, All, IfOk, OnOk, length, take, [], true, false};
+ghost use Rattle.std.specs.Prelude.{◌≡◌, ◌≤◌, ◌<◌, ◌++◌, ◌∷◌, ℕ, List, All, IfOk, OnOk, length, map, take, []};
+ghost use Rattle.std.specs.Prelude.{true, false};
+ghost use Rattle.std.specs.List.{filter};
+ghost use Rattle.std.specs.List.Sorted.{IsPermutation};
 ghost use Rattle.std.specs.Io.KnownBytes.{Consumes, IsAtEnd};
 ghost use Rattle.enc_model.specs.Encode.{Tables};
-ghost use Rattle.enc_model.specs.Indexes.{tables};
-ghost use Rattle.gateway_labels.specs.Labels.{AreLabels, HaveRead};
+ghost use Rattle.enc_model.specs.Indexes.{offers, tables};
+ghost use Rattle.gateway_labels.specs.Labels.{AreLabels, HaveRead, all_encodings};
 ghost use Rattle.gateway_labels.specs.Ordered.{IsInOrder};
-ghost use Rattle.gateway_labels.specs.Trials.{IsChoiceOf, IsTrialOf};
+ghost use Rattle.gateway_labels.specs.Trials.{IsChoiceOf, IsTrialOf, tried};
 
 use crate::choice::{Choice, put_in_order};
 use crate::desk::Desk;
@@ -59,7 +62,9 @@ pub struct Labels {
 }
 
 /// All encodings, by their numbers.
-pub(crate) fn encodings() -> &'static [Encoding] {
+pub(crate) fn encodings() -> &'static [Encoding]
+    ensures { result.now ≡ all_encodings }
+{
     ENCODINGS.as_slice()
 }
 
@@ -73,11 +78,13 @@ pub fn labels_on<R: Read>(
     most: u64,
 ) -> Result<Labels, Unread>
     ensures labels { IfOk result (AreLabels (tables set.now) (R.remaining reader.old) (R.remaining reader.new)) }
+    ensures offered { IfOk result (λ labels. IsPermutation (filter (offers set.now) all_encodings)
+        (map (λ choice. choice.encoding) labels.choices.items)) }
     ensures order { IfOk result (λ labels. IsInOrder labels.choices.items) }
     ensures most { IfOk result (λ labels. labels.bytes ≤ most) }
     ensures part { IfOk result (λ labels. labels.is_whole ≡ false → labels.bytes ≡ most) }
 {
-    let mut trials = trials_of(alloc, set)?;
+    let mut trials = trials_of(alloc, set, encodings())?;
     let mut desk = Desk::new(alloc)?;
     let (bytes, is_whole) = read_all(set, &mut desk, &mut trials, reader, most)?;
     let mut choices = end_all(alloc, set, &mut desk, trials, is_whole)?;
@@ -89,12 +96,17 @@ pub fn labels_on<R: Read>(
     })
 }
 
-// A trial of each encoding that a set offers.
-fn trials_of(alloc: Global, set: &IndexSet) -> Result<Vec<Trial>, AllocError>
-    ensures { (t : Tables) → IfOk result (λ trials. All (λ trial. IsTrialOf t trial []) trials.items) }
+// A trial of each of these encodings that a set offers.
+fn trials_of(
+    alloc: Global,
+    set: &IndexSet,
+    encodings: &[Encoding],
+) -> Result<Vec<Trial>, AllocError>
+    ensures trials { (t : Tables) → IfOk result (λ trials. All (λ trial. IsTrialOf t trial []) trials.items) }
+    ensures offered { IfOk result (λ trials. map tried trials.items ≡ filter (offers set.now) encodings.now) }
 {
     let mut trials = Vec::new(alloc);
-    for encoding in ENCODINGS.iter() {
+    for encoding in encodings {
         if set.offers(*encoding) {
             trials.push(Trial::new(alloc, *encoding))?;
         }
@@ -113,6 +125,7 @@ fn read_all<R: Read>(
     ensures read { All (λ trial. IsTrialOf (tables set.now) trial []) trials.old.items → IfOk result
         (λ read. HaveRead (tables set.now) trials.new.items (R.remaining reader.old) (R.remaining reader.new) read.0) }
     ensures end { IfOk result (λ read. read.1 ≡ true → IsAtEnd (R.remaining reader.new)) }
+    ensures same { OnOk result (map tried trials.new.items ≡ map tried trials.old.items) }
     ensures most { IfOk result (λ read. read.0 ≤ most) }
     ensures part { IfOk result (λ read. read.1 ≡ false → read.0 ≡ most) }
 {
@@ -159,7 +172,8 @@ fn feed_all(
     trials: &mut Vec<Trial>,
     piece: &[u8],
 ) -> Result<(), Unread>
-    ensures { (input : List ℕ) → All (λ trial. IsTrialOf (tables set.now) trial input) trials.old.items
+    ensures same { OnOk result (map tried trials.new.items ≡ map tried trials.old.items) }
+    ensures fed { (input : List ℕ) → All (λ trial. IsTrialOf (tables set.now) trial input) trials.old.items
         → OnOk result (All (λ trial. IsTrialOf (tables set.now) trial (input ++ piece.now)) trials.new.items) }
 {
     for trial in trials.iter_mut() {
@@ -176,7 +190,9 @@ fn end_all(
     trials: Vec<Trial>,
     is_whole: bool,
 ) -> Result<Vec<Choice>, Unread>
-    ensures { (input : List ℕ) → All (λ trial. IsTrialOf (tables set.now) trial input) trials.items
+    ensures same { IfOk result
+        (λ choices. map (λ choice. choice.encoding) choices.items ≡ map tried trials.items) }
+    ensures choices { (input : List ℕ) → All (λ trial. IsTrialOf (tables set.now) trial input) trials.items
         → IfOk result (λ choices. All (λ choice. IsChoiceOf (tables set.now) choice input is_whole) choices.items) }
 {
     let mut choices = Vec::new(alloc);

@@ -4,8 +4,8 @@ use enc_index::IndexSet;
 use gateway_labels::{FIRST, labels_on, write_json, write_lines};
 use std::process::Abort;
 
-/// Each row: some bytes, how many of them are read at most, and the lines that are printed. A text of no bytes; one with
-/// a byte order mark; a cut character, which isn't lost where the text goes on, and is at its end; and a control.
+/// Each row: some bytes, how many of them are read at most, and the lines that are printed. A text of no bytes; one
+/// with a byte order mark; a cut character, which isn't lost where the text goes on, and is at its end; and a control.
 static TEXTS: [(&[u8], u64, &str); 5] = [
     (
         b"",

@@ -1,4 +1,4 @@
-use Rattle.std.proofs.Common.{◌∙◌, ◌++◌, List, ℕ, ap, rules}
+use Rattle.std.proofs.Common.{◌∙◌, ◌++◌, List, ℕ, ap}
 use Rattle.enc_model.specs.Indexes.{tables}
 use Rattle.enc_model.specs.Transcode.{added_end, so_far}
 use Rattle.gateway_labels.proofs.Trying.{measured_open, measured_whole}
