@@ -15,7 +15,7 @@ struct Watch<'a, T: Clock, W: Write + Drop> {
 impl<T: Clock, W: Write + Drop> Drop for Watch<'_, T, W> {
     fn drop(self) {
         let Watch { log, client } = self;
-        log.is_gone(client);
+        log.hung_up(client);
     }
 }
 

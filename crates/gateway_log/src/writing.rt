@@ -132,7 +132,7 @@ impl<'a, T: Clock, W: Write + Drop> Log<'a, T, W> {
 
     /// The stream of the client with this number is gone. Where the session has its connection still, its lines wait
     /// until that is ended.
-    pub(crate) fn is_gone(&self, client: u64) {
+    pub(crate) fn hung_up(&self, client: u64) {
         let gone = self.take(|talk| talk.client().number == client && !talk.is_open());
         if let Some(mut talk) = gone {
             self.leave(&mut talk, None);
