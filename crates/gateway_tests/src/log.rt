@@ -33,8 +33,9 @@ impl Read for Wire<'_> {
 
 impl Write for Wire<'_> {
     fn write(&mut self, buf: &[u8]) -> io::Result<usize> {
-        let count = buf.len().min(self.room.get());
-        self.room.set(self.room.get() - count);
+        let room = self.room.get();
+        let count = buf.len().min(room);
+        self.room.set(room.saturating_sub(count));
         Ok(count)
     }
 
@@ -301,16 +302,16 @@ const CUT: &[u8] =
     b"PATCH /files/1 HTTP/1.1\r\nTus-Resumable: 1.0.0\r\nUpload-Offset: 3\r\nContent-Length: 3\r\n\
     Content-Type: application/offset+octet-stream\r\n\r\nde";
 
-/// A gateway over uploads in memory, whose calls are logged as those of a served one.
-struct Served<'v, 'a> {
+/// A gateway over uploads in memory, and what it gave that isn't written yet. Its calls are logged as those of a served
+/// one.
+struct Served {
     gateway: Gateway<Table>,
-    log: &'v Log<'a, Millis, Paper<'a>>,
     out: Vec<u8>,
 }
 
-impl<'v, 'a> Served<'v, 'a> {
-    /// With one upload, of 6 bytes, of which 3 came.
-    fn new(rt: &impl Abort, alloc: Global, log: &'v Log<'a, Millis, Paper<'a>>) -> Self {
+impl Served {
+    /// With one upload, of 6 bytes, of which 3 came, and a connection.
+    fn new(rt: &impl Abort, alloc: Global) -> Self {
         let store = Table::new(alloc, IndexSet::new(alloc).expect(rt, "memory for a set"));
         let opened = Gateway::new(alloc, store);
         let mut gateway = opened.ok().expect(rt, "memory");
@@ -323,58 +324,69 @@ impl<'v, 'a> Served<'v, 'a> {
         gateway.ended(0).expect(rt, "memory");
         out.clear();
         gateway.opened(0).expect(rt, "a place");
-        log.opened(0);
-        Served { gateway, log, out }
+        Served { gateway, out }
     }
 
     /// Takes bytes of the client, and writes the replies as far as its socket takes them.
-    fn take<W: Write>(&mut self, rt: &impl Abort, bytes: &[u8], stream: &mut W) {
+    fn take<T: Clock, L: Write + Drop, W: Write>(
+        &mut self,
+        rt: &impl Abort,
+        log: &Log<T, L>,
+        bytes: &[u8],
+        stream: &mut W,
+    ) {
         let mut rest = bytes;
         for _ in 0..bytes.len() {
             let begun = self.out.len();
-            let came = self.gateway.came(0, rest, &mut self.out);
-            let Ok(answer) = came else {
+            let Ok(answer) = self.gateway.came(0, rest, &mut self.out) else {
                 return;
             };
-            self.tell(&rest[..answer.taken], begun);
-            rest = &rest[answer.taken..];
-            self.give(stream, answer.more);
+            self.tell(log, rest.get(..answer.taken).unwrap_or(rest), begun);
+            rest = rest.get(answer.taken..).unwrap_or(&[]);
+            self.give(log, stream, answer.more);
             if rest.is_empty() {
                 return;
             }
         }
-        assert!(rt; false, "each call takes a byte");
+        assert!(rt; bytes.is_empty(), "each call takes a byte");
     }
 
     // Writes what was given, and asks for the rest of a text.
-    fn give<W: Write>(&mut self, stream: &mut W, more: bool) {
-        let mut more = more;
-        for _ in 0..3 {
-            if let Ok(count) = stream.write(&self.out) {
-                self.out.drain(..count);
-            }
-            if !more || !self.out.is_empty() {
-                return;
-            }
-            if let Ok(answer) = self.gateway.more(0, &mut self.out) {
-                more = answer.more;
-                self.tell(&[], 0);
-            }
+    fn give<T: Clock, L: Write + Drop, W: Write>(
+        &mut self,
+        log: &Log<T, L>,
+        stream: &mut W,
+        more: bool,
+    ) {
+        self.write(stream);
+        if !more || !self.out.is_empty() {
+            return;
+        }
+        if self.gateway.more(0, &mut self.out).is_ok() {
+            self.tell(log, &[], 0);
+            self.write(stream);
+        }
+    }
+
+    // Writes as much as the socket takes.
+    fn write<W: Write>(&mut self, stream: &mut W) {
+        if let Ok(count) = stream.write(&self.out) {
+            let sent = count.min(self.out.len());
+            drop(self.out.drain(..sent));
         }
     }
 
     // Tells the log of a call that took these bytes, and gave those of the output from a place on.
-    fn tell(&self, taken: &[u8], begun: usize) {
+    fn tell<T: Clock, L: Write + Drop>(&self, log: &Log<T, L>, taken: &[u8], begun: usize) {
         let at = self.gateway.at(0);
-        let given = &self.out[begun..];
-        self.log.called(0, Call { taken, given, at });
+        let given = self.out.get(begun..).unwrap_or(&[]);
+        log.called(0, Call { taken, given, at });
     }
 
     /// The client is gone.
-    fn end(self) {
+    fn end<T: Clock, L: Write + Drop>(self, log: &Log<T, L>) {
         let Served {
             mut gateway,
-            log,
             out: _,
         } = self;
         let upload = log.upload_at(0);
@@ -391,33 +403,55 @@ impl<'v, 'a> Served<'v, 'a> {
     }
 }
 
-/// A client that sends `sends` in pieces of `size` bytes, whose socket takes so many bytes: its log.
+/// A client that sends bytes in pieces of `size`.
+fn sends_all<'s, T: Clock, L: Write + Drop, S: Read + Write>(
+    rt: &impl Abort,
+    log: &Log<T, L>,
+    served: &mut Served,
+    sends: &Cell<&'s [u8]>,
+    stream: &mut S,
+    bytes: &'s [u8],
+    size: usize,
+) {
+    for piece in bytes.chunks(size.max(1)) {
+        sends.set(piece);
+        let mut buf = [0; 512];
+        let count = stream.read(&mut buf).expect(rt, "bytes");
+        let read = buf.get(..count).unwrap_or(&[]);
+        assert_eq!(rt; read, piece);
+        served.take(rt, log, read, stream);
+    }
+}
+
+/// The log of a client that sends what a row has, in pieces of `size` bytes.
 fn logged(rt: &impl Abort, alloc: Global, row: &Row, size: usize) -> Vec<u8> {
     let written = Cell::new(Vec::new(alloc));
-    let (sends, room) = (Cell::new(b"".as_slice()), Cell::new(row.room));
+    let sends: Cell<&'static [u8]> = Cell::new(b"");
+    let room = Cell::new(row.room);
     let clock = Millis { now: Cell::new(0) };
-    let paper = Paper {
+    let log = Log::new(
+        &clock,
         alloc,
-        written: &written,
-    };
-    let log = Log::new(&clock, alloc, paper);
+        Paper {
+            alloc,
+            written: &written,
+        },
+    );
     let door = Door {
         sends: &sends,
         room: &room,
     };
     let listener = Logged::new(&door, &log);
     let (mut stream, _) = listener.accept().expect(rt, "a stream");
-    let mut served = Served::new(rt, alloc, &log);
+    let mut served = Served::new(rt, alloc);
+    log.opened(0);
     for bytes in row.sends.iter() {
         clock.advance(1);
-        for piece in bytes.chunks(size.max(1)) {
-            reads(rt, &sends, &mut stream, piece);
-            served.take(rt, piece, &mut stream);
-        }
+        sends_all(rt, &log, &mut served, &sends, &mut stream, *bytes, size);
     }
     clock.advance(1);
     drop(stream);
-    served.end();
+    served.end(&log);
     log.end();
     written.replace(Vec::new(alloc))
 }
@@ -429,19 +463,6 @@ fn timed(rt: &impl Abort, alloc: Global, lines: &str) -> Vec<u8> {
         writeln!(&mut bytes, "2023-11-14T22:13:20.123Z {line}").expect(rt, "memory for a line");
     }
     bytes
-}
-
-/// Reads a piece of what a client sends.
-fn reads<R: Read>(
-    rt: &impl Abort,
-    sends: &Cell<&'static [u8]>,
-    stream: &mut R,
-    piece: &'static [u8],
-) {
-    sends.set(piece);
-    let mut buf = [0; 512];
-    let count = stream.read(&mut buf).expect(rt, "bytes");
-    assert_eq!(rt; buf.get(..count), Some(piece));
 }
 
 #[test]
@@ -476,13 +497,17 @@ const LATER: [(u64, &str); 4] = [
 fn lines_wait_a_second_and_counts_a_minute(rt: HostRuntime) {
     let alloc = rt.alloc();
     let written = Cell::new(Vec::new(alloc));
-    let (sends, room) = (Cell::new(b"".as_slice()), Cell::new(9999));
+    let sends: Cell<&'static [u8]> = Cell::new(b"");
+    let room = Cell::new(9999);
     let clock = Millis { now: Cell::new(0) };
-    let paper = Paper {
+    let log = Log::new(
+        &clock,
         alloc,
-        written: &written,
-    };
-    let log = Log::new(&clock, alloc, paper);
+        Paper {
+            alloc,
+            written: &written,
+        },
+    );
     let door = Door {
         sends: &sends,
         room: &room,
@@ -490,7 +515,8 @@ fn lines_wait_a_second_and_counts_a_minute(rt: HostRuntime) {
     let listener = Logged::new(&door, &log);
     let (mut stream, _) = listener.accept().expect(&rt, "a stream");
     clock.now.set(5000);
-    let mut served = Served::new(&rt, alloc, &log);
+    let mut served = Served::new(&rt, alloc);
+    log.opened(0);
     assert!(rt; log.wants_stock());
     log.take_stock(Stock {
         free_blocks: 7,
@@ -498,14 +524,14 @@ fn lines_wait_a_second_and_counts_a_minute(rt: HostRuntime) {
         incomplete: 1,
     });
     assert!(rt; !log.wants_stock());
-    served.take(&rt, HEAD, &mut stream);
-    served.take(&rt, CUT, &mut stream);
+    served.take(&rt, &log, HEAD, &mut stream);
+    served.take(&rt, &log, CUT, &mut stream);
     for (now, lines) in LATER.iter() {
         clock.now.set(*now);
         let mut buf = [0; 8];
         assert!(rt; stream.read(&mut buf).is_err());
         assert_eq!(rt;
-            written.replace(Vec::new(alloc)),
+            taken(alloc, &written),
             timed(&rt, alloc, lines),
             "at {now}"
         );
@@ -513,9 +539,14 @@ fn lines_wait_a_second_and_counts_a_minute(rt: HostRuntime) {
     assert!(rt; log.wants_stock());
     assert!(rt; stream.shutdown(Shutdown::Write).is_ok());
     drop(stream);
-    served.end();
+    served.end(&log);
     log.end();
     let line =
         "1 127.0.0.1:7 PATCH /files/1 offset=3 body=3 status=none in=135 out=0 ms=55999 now=5/6\n";
-    assert_eq!(rt; written.replace(Vec::new(alloc)), timed(&rt, alloc, line));
+    assert_eq!(rt; taken(alloc, &written), timed(&rt, alloc, line));
+}
+
+/// What was written since the last call.
+fn taken(alloc: Global, written: &Cell<Vec<u8>>) -> Vec<u8> {
+    written.replace(Vec::new(alloc))
 }
