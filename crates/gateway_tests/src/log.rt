@@ -12,30 +12,38 @@ use std::time::{Clock, Duration};
 use tus_session::Connections;
 use upload_rules::{Table, Uploads};
 
-/// A stream that gives the bytes in a cell, as a socket that doesn't block, and takes so many.
+/// A client: what it is still to send, in pieces of so many bytes, and how many bytes its socket takes.
+#[derive(Drop)]
+struct Peer {
+    sends: Cell<&'static [u8]>,
+    size: usize,
+    room: Cell<usize>,
+}
+
+/// The stream of a client, a socket that doesn't block.
 #[derive(Drop)]
 struct Wire<'a> {
-    sends: &'a Cell<&'static [u8]>,
-    room: &'a Cell<usize>,
+    peer: &'a Peer,
 }
 
 impl Read for Wire<'_> {
     fn read(&mut self, buf: &mut [u8]) -> io::Result<usize> {
-        let sends = self.sends.get();
+        let sends = self.peer.sends.get();
         if sends.is_empty() {
             return Err(io::Error::from(io::ErrorKind::WouldBlock));
         }
-        let count = sends.len().min(buf.len());
+        let count = sends.len().min(buf.len()).min(self.peer.size);
         buf[..count].copy_from_slice(&sends[..count]);
+        self.peer.sends.set(&sends[count..]);
         Ok(count)
     }
 }
 
 impl Write for Wire<'_> {
     fn write(&mut self, buf: &[u8]) -> io::Result<usize> {
-        let room = self.room.get();
+        let room = self.peer.room.get();
         let count = buf.len().min(room);
-        self.room.set(room.saturating_sub(count));
+        self.peer.room.set(room.saturating_sub(count));
         Ok(count)
     }
 
@@ -53,18 +61,14 @@ impl OpenStream for Wire<'_> {
 /// A listener whose connections all come from port 7.
 #[derive(Drop)]
 struct Door<'a> {
-    sends: &'a Cell<&'static [u8]>,
-    room: &'a Cell<usize>,
+    peer: &'a Peer,
 }
 
 impl<'a> OpenListener for Door<'a> {
     type Stream = Wire<'a>;
 
     fn accept(&self) -> io::Result<(Wire<'a>, SocketAddr)> {
-        let wire = Wire {
-            sends: self.sends,
-            room: self.room,
-        };
+        let wire = Wire { peer: self.peer };
         Ok((wire, SocketAddr::from((Ipv4Addr::LOCALHOST, 7))))
     }
 }
@@ -403,31 +407,30 @@ impl Served {
     }
 }
 
-/// A client that sends bytes in pieces of `size`.
-fn sends_all<'s, T: Clock, L: Write + Drop, S: Read + Write>(
+/// Takes all that a client sends.
+fn takes_all<T: Clock, L: Write + Drop, S: Read + Write>(
     rt: &impl Abort,
     log: &Log<T, L>,
     served: &mut Served,
-    sends: &Cell<&'s [u8]>,
     stream: &mut S,
-    bytes: &'s [u8],
-    size: usize,
 ) {
-    for piece in bytes.chunks(size.max(1)) {
-        sends.set(piece);
+    for _ in 0..=LONG.len() {
         let mut buf = [0; 512];
-        let count = stream.read(&mut buf).expect(rt, "bytes");
-        let read = buf.get(..count).unwrap_or(&[]);
-        assert_eq!(rt; read, piece);
-        served.take(rt, log, read, stream);
+        let Ok(count) = stream.read(&mut buf) else {
+            return;
+        };
+        served.take(rt, log, buf.get(..count).unwrap_or(&[]), stream);
     }
 }
 
 /// The log of a client that sends what a row has, in pieces of `size` bytes.
 fn logged(rt: &impl Abort, alloc: Global, row: &Row, size: usize) -> Vec<u8> {
     let written = Cell::new(Vec::new(alloc));
-    let sends: Cell<&'static [u8]> = Cell::new(b"");
-    let room = Cell::new(row.room);
+    let peer = Peer {
+        sends: Cell::new(b""),
+        size,
+        room: Cell::new(row.room),
+    };
     let clock = Millis { now: Cell::new(0) };
     let log = Log::new(
         &clock,
@@ -437,17 +440,15 @@ fn logged(rt: &impl Abort, alloc: Global, row: &Row, size: usize) -> Vec<u8> {
             written: &written,
         },
     );
-    let door = Door {
-        sends: &sends,
-        room: &room,
-    };
+    let door = Door { peer: &peer };
     let listener = Logged::new(&door, &log);
     let (mut stream, _) = listener.accept().expect(rt, "a stream");
     let mut served = Served::new(rt, alloc);
     log.opened(0);
     for bytes in row.sends.iter() {
         clock.advance(1);
-        sends_all(rt, &log, &mut served, &sends, &mut stream, *bytes, size);
+        peer.sends.set(*bytes);
+        takes_all(rt, &log, &mut served, &mut stream);
     }
     clock.advance(1);
     drop(stream);
@@ -497,8 +498,11 @@ const LATER: [(u64, &str); 4] = [
 fn lines_wait_a_second_and_counts_a_minute(rt: HostRuntime) {
     let alloc = rt.alloc();
     let written = Cell::new(Vec::new(alloc));
-    let sends: Cell<&'static [u8]> = Cell::new(b"");
-    let room = Cell::new(9999);
+    let peer = Peer {
+        sends: Cell::new(b""),
+        size: 512,
+        room: Cell::new(9999),
+    };
     let clock = Millis { now: Cell::new(0) };
     let log = Log::new(
         &clock,
@@ -508,10 +512,7 @@ fn lines_wait_a_second_and_counts_a_minute(rt: HostRuntime) {
             written: &written,
         },
     );
-    let door = Door {
-        sends: &sends,
-        room: &room,
-    };
+    let door = Door { peer: &peer };
     let listener = Logged::new(&door, &log);
     let (mut stream, _) = listener.accept().expect(&rt, "a stream");
     clock.now.set(5000);
