@@ -7,3 +7,4 @@ pub mod Kinds
 pub mod Scalars
 pub mod Sets
 pub mod Usable
+pub mod Numbers

@@ -3,3 +3,4 @@ pub mod View
 pub mod Fits
 pub mod Changes
 pub mod Rests
+pub mod Numbers

@@ -5,6 +5,7 @@ mod changes;
 mod changing;
 mod damaged;
 mod fields;
+mod laws;
 mod pages;
 mod places;
 mod records;
@@ -17,6 +18,7 @@ mod version;
 pub use changes::{fill_rows, pages_of_change, pages_of_new};
 pub use changing::change;
 pub use damaged::Damaged;
+pub use laws::page_numbers;
 pub use pages::{
     MAGIC, blank_page, blocks_encoded, first_page, is_blank, is_blank_after_fields, state_page,
     version_and_next,
