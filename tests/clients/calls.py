@@ -50,12 +50,12 @@ static void tell(char kind, long long at, const void *data, size_t size) {
 
 static int opened(const char *path, int fd) {
     char above[PATH_MAX];
-    const char *wanted = getenv("SPOOL");
+    const char *wanted = getenv("SPOOL"), *link = getenv("LINK");
     if (fd < 0 || !wanted) return fd;
     snprintf(above, sizeof above, "%s", wanted);
     char *slash = strrchr(above, '/');
     if (slash) *slash = 0;
-    if (!strcmp(path, wanted)) spool = fd;
+    if (!strcmp(path, wanted) || (link && !strcmp(path, link))) spool = fd;
     if (!strcmp(path, above)) folder = fd;
     return fd;
 }
@@ -167,8 +167,8 @@ int ftruncate(int fd, off_t size) {
 int ftruncate64(int fd, off64_t size) { return ftruncate(fd, size); }
 """
 
-# A call: w, bytes written to the spool at a place; g, bytes that a read gave at a place; s, the spool synced (d, its data alone); f, its folder synced; l,
-# its length set to `at`; r, bytes given to a client or to standard output.
+# A call: w, bytes written to the spool at a place; g, bytes that a read gave at a place; s, the spool synced (d, its
+# data alone); f, its folder synced; l, its length set to `at`; r, bytes given to a client or to standard output.
 Call = namedtuple("Call", "kind at data")
 ACKNOWLEDGED = re.compile(rb"HTTP/1\.1 20[14] ")
 

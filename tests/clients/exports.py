@@ -8,16 +8,20 @@ small C library, made in a temporary folder and loaded before the C library, cou
 remove files. At each of them in turn the export is killed (before the call, in the midst of a write, or after the
 call), or the call fails as on a full disk. Afterwards each file of an upload's name is absent, or whole, or as it was
 before; what was told as exported is there, and what was told as failed isn't; where the call failed nothing else is
-left; and the next run, without the library, writes what isn't there yet, leaves nothing of the ended one, names the
-file that has a part alone, and ends with status 4. In a run that isn't ended each file is written, synced, linked and
-its first name removed, and then the folder is synced, as it is once before; one that is there is synced, and so is the
-folder. Where the folder can't be locked, a file that is being written stays, and the export is refused.
+left, and the last line tells of it, but where a file that was there couldn't be synced: that one is told as unread, and
+all others are written; and the next run, without the library, writes what isn't there yet, leaves nothing of the ended
+one, names the file that has a part alone, and ends with status 4. In a run that isn't ended each file is written,
+synced, linked and its first name removed, and then the folder is synced, as it is once before; one that is there is
+synced, and so is the folder. Where the folder can't be locked, a file that is being written stays, and the export is
+refused.
 
 Then folders that were used before: after a deletion a text of the same name and length goes into a file of its own, so
 do those of two spools unless their files have the same number, and then the other one's is named; two uploads of one
 name keep their files' names from run to run, complete or not; a second run over all has status 0; a name that the
 folder's path leaves no room for is given up for the number alone, and a name with a hyphen first or one that turns text
-round never is a file's.
+round never is a file's. A file that can't be opened, or synced, is told as unread, and named with the system's reason
+at the end; the others are written, and only they are deleted by OPERATING's line. A name that the file system refuses
+when a file gets it gives way to the number alone, then and in the next run; no hard links end the run.
 The status is 0 where all was so, and there were a hundred ends.
 """
 
@@ -33,11 +37,17 @@ from harness import Wrong, build_library, format_spool, holds, indexes_in, parse
 
 LEAST = 100
 PART = ".gateway-export"
+# what OPERATING has between `export` and `delete`
+DELETED = ["sed", "-n", r"s/^\(exported\|there\) \([0-9]*\) \2[-.].*/\2/p"]
+NOWHERE = "No such file or directory (os error 2). The texts are written into a folder that is there: make it first"
 LIBRARY = r"""
 #define _GNU_SOURCE
 #include <dlfcn.h>
 #include <errno.h>
+#include <fcntl.h>
 #include <signal.h>
+#include <stdarg.h>
+#include <stdio.h>
 #include <stdlib.h>
 #include <string.h>
 #include <sys/stat.h>
@@ -77,6 +87,28 @@ static int fails(void) {
     return -1;
 }
 
+/* Whether this call of the file at this path always fails: HINDERED has the call, the error and the path's end. */
+static int hindered(const char *call, const char *path) {
+    const char *given = getenv("HINDERED");
+    char name[16], tail[256];
+    int error;
+    if (!given || sscanf(given, "%15s %d %255[^\n]", name, &error, tail) != 3 || strcmp(name, call)) return 0;
+    size_t size = strlen(path), least = strlen(tail);
+    if (size < least || strcmp(path + size - least, tail)) return 0;
+    errno = error;
+    return 1;
+}
+
+/* The same of an open file. */
+static int hindered_at(const char *call, int fd) {
+    char link[32], path[4096];
+    snprintf(link, sizeof link, "/proc/self/fd/%d", fd);
+    ssize_t size = readlink(link, path, sizeof path - 1);
+    if (size < 0) return 0;
+    path[size] = 0;
+    return hindered(call, path);
+}
+
 #define REAL(name, result, ...) \
     static result (*real)(__VA_ARGS__); \
     if (!real) real = (result (*)(__VA_ARGS__)) dlsym(RTLD_NEXT, name)
@@ -103,21 +135,50 @@ ssize_t write(int fd, const void *bytes, size_t size) {
     } \
     return call
 
+#define OPENS(name) \
+    int name(const char *path, int flags, ...) { \
+        REAL(#name, int, const char *, int, ...); \
+        va_list more; \
+        va_start(more, flags); \
+        int mode = va_arg(more, int); \
+        va_end(more); \
+        return hindered("open", path) ? -1 : real(path, flags, mode); \
+    }
+
+OPENS(open)
+OPENS(open64)
+
+#define OPENS_IN(name) \
+    int name(int in, const char *path, int flags, ...) { \
+        REAL(#name, int, int, const char *, int, ...); \
+        va_list more; \
+        va_start(more, flags); \
+        int mode = va_arg(more, int); \
+        va_end(more); \
+        return hindered("open", path) ? -1 : real(in, path, flags, mode); \
+    }
+
+OPENS_IN(openat)
+OPENS_IN(openat64)
+
 int fsync(int fd) {
     REAL("fsync", int, int);
     struct stat found;
+    if (hindered_at("fsync", fd)) return -1;
     note(fstat(fd, &found) == 0 && S_ISDIR(found.st_mode) ? "f" : "s");
     CALL(real(fd));
 }
 
 int link(const char *from, const char *to) {
     REAL("link", int, const char *, const char *);
+    if (hindered("link", to)) return -1;
     note("l");
     CALL(real(from, to));
 }
 
 int linkat(int in, const char *from, int out, const char *to, int flags) {
     REAL("linkat", int, int, const char *, int, const char *, int);
+    if (hindered("link", to)) return -1;
     note("l");
     CALL(real(in, from, out, to, flags));
 }
@@ -191,6 +252,17 @@ class Case:
             if line.startswith("failed "):
                 holds(f"{line}, and it is there", line.split(" ", 2)[2] not in files)
 
+    def check_failed(self, lines, said):
+        """The call that failed ended the run, and the last line tells of it, or it was of a file that was there."""
+        unread = [line.split(" ", 2)[2] for line in lines if line.startswith("unread ")]
+        if unread:
+            same("the files beside an unread one", self.files(), {**self.texts, **self.before})
+            told = f"refused: 33 Io\ncannot read or sync a file in {self.into}: "
+            holds(f"what it says: {said}", said.startswith(told))
+        else:
+            holds(f"its lines: {lines}", not lines or lines[-1].startswith("failed "))
+            holds(f"what it says: {said}", said.startswith("refused: 33 Io\ncannot write into the folder "))
+
     def check_all(self):
         """The next run does the rest, and says which file isn't whole."""
         status, lines, said, _ = self.export()
@@ -213,8 +285,8 @@ def try_all(case, library, how):
         try:
             if how == "full":
                 same("the status", status, 2)
-                holds(f"what it says: {said}", said.startswith("refused: 33 Io\ncannot write into the folder "))
                 holds("a part is left", PART not in case.files())
+                case.check_failed(lines, said)
             case.check(lines)
             case.check_all()
         except Wrong as error:
@@ -262,9 +334,13 @@ class Folder:
             lines += [*post(1, length, "utf-8", file), *patch(1, number, 0, text)]
         self.does("script", name, given="\n".join(lines) + "\n")
 
-    def does(self, *words, given="", status=0):
-        ran = subprocess.run([self.program, *words], input=given, capture_output=True, text=True, cwd=self.folder)
+    def does(self, *words, given="", status=0, says=None, **more):
+        """A command that ends with this status and, where that is asked, says this: its lines."""
+        how = {"capture_output": True, "text": True, "cwd": self.folder, "env": {**os.environ, **more}}
+        ran = subprocess.run([self.program, *words], input=given, **how)
         same(f"the status of {words}, {ran.stderr!r}", ran.returncode, status)
+        if says is not None:
+            same(f"what {words} says", ran.stderr, says)
         return ran.stdout.splitlines()
 
     def files(self, into):
@@ -288,7 +364,8 @@ def try_used(program, folder):
     same("another spool's lines", lines[:2], ["differs 1 1-letter.txt", "exported 2 2.txt"])
     same("the file that was there", it.files("out")["1-letter.txt"], b"letter one, A")
     (folder / "two").mkdir()
-    it.spool("twice", (b"half", "a.txt", 9), (b"whole", "a.txt", 5), (b"-", "-rf", 1), (b"*", "*", 1), (b".", "x\u202ey", 1))
+    odd = (b"-", "-rf", 1), (b"*", "*", 1), (b".", "x\u202ey", 1)
+    it.spool("twice", (b"half", "a.txt", 9), (b"whole", "a.txt", 5), *odd)
     it.does("export", "twice", "two")
     it.does("export", "twice", "two", "--all")
     wanted = {"1-a.txt": b"half", "2-a.txt": b"whole", "3.txt": b"-", "4.txt": b"*", "5.txt": b"."}
@@ -314,6 +391,55 @@ def try_long(program, folder):
     return 1
 
 
+def try_unread(program, folder, library):
+    """Files that are there and can't be opened, or synced."""
+    it = Folder(program, folder)
+    it.spool("kept", (b"one", "a.txt", 3), (b"two", "b.txt", 3))
+    denied, faulty = "Permission denied (os error 13)", "Input/output error (os error 5)"
+    for hindered, reason in ("open 13 /1-a.txt", denied), ("fsync 5 /1-a.txt", faulty):
+        (folder / "out").mkdir()
+        (folder / "out" / "1-a.txt").write_bytes(b"one")
+        advice = "Make what is `unread` readable, or move it away, and export again: the others are written"
+        says = f"refused: 33 Io\ncannot read or sync a file in out: {reason}. {advice}\n"
+        preloaded = {"LD_PRELOAD": str(library), "HINDERED": hindered}
+        lines = it.does("export", "kept", "out", status=2, says=says, **preloaded)
+        wanted = ["unread 1 1-a.txt", "exported 2 2-b.txt", "exported 1 of 2 uploads, 0 there"]
+        same(f"the lines where {hindered} fails", lines, wanted)
+        deleted = subprocess.run(DELETED, input="\n".join(lines) + "\n", capture_output=True, text=True)
+        same("what is deleted", deleted.stdout, "2\n")
+        same("the files", it.files("out"), {"1-a.txt": b"one", "2-b.txt": b"two"})
+        lines = it.does("export", "kept", "out")
+        same("the run after", lines, ["there 1 1-a.txt", "there 2 2-b.txt", "exported 0 of 2 uploads, 2 there"])
+        shutil.rmtree(folder / "out")
+    it.does("export", "kept", "out", status=2, says=f"refused: 33 Io\ncannot look into the folder out: {NOWHERE}\n")
+    return 5
+
+
+def try_refused(program, folder, library):
+    """A name that is refused when a file gets it, and a file system without hard links."""
+    it = Folder(program, folder)
+    it.spool("odd", (b"one", "why?.txt", 3), (b"two", "b.txt", 3))
+    (folder / "out").mkdir()
+    refusing = {"LD_PRELOAD": str(library), "HINDERED": "link 22 /1-why?.txt"}
+    lines = it.does("export", "odd", "out", says="", **refusing)
+    same("a refused name", lines, ["exported 1 1.txt", "exported 2 2-b.txt", "exported 2 of 2 uploads, 0 there"])
+    lines = it.does("export", "odd", "out", says="", **refusing)
+    same("the run after", lines, ["there 1 1.txt", "there 2 2-b.txt", "exported 0 of 2 uploads, 2 there"])
+    same("the files", it.files("out"), {"1.txt": b"one", "2-b.txt": b"two"})
+    (folder / "none").mkdir()
+    linkless = {"LD_PRELOAD": str(library), "HINDERED": "link 1 /1-why?.txt"}
+    says = "refused: 33 Io\ncannot write into the folder none: Operation not permitted (os error 1)\n"
+    lines = it.does("export", "odd", "none", status=2, says=says, **linkless)
+    same("the lines without links", lines, ["failed 1 1-why?.txt"])
+    same("the files without links", it.files("none"), {})
+    every = {"LD_PRELOAD": str(library), "HINDERED": "link 22 .txt"}
+    says = "refused: 33 Io\ncannot write into the folder none: Invalid argument (os error 22)\n"
+    lines = it.does("export", "odd", "none", status=2, says=says, **every)
+    same("the lines where no name is taken", lines, ["failed 1 1-why?.txt"])
+    same("the files where no name is taken", it.files("none"), {})
+    return 4
+
+
 def main():
     given = parser_of(__doc__).parse_args()
     with tempfile.TemporaryDirectory() as folder:
@@ -321,8 +447,11 @@ def main():
         indexes = indexes_in(folder, given.indexes)
         library = build_library(folder, "ends", LIBRARY)
         case = Case(given.program, folder, indexes, rng_of(given.seed, "exports"))
-        (folder / "used").mkdir(), (folder / "long").mkdir()
+        for name in ("used", "long", "unread", "refused"):
+            (folder / name).mkdir()
         used = try_used(given.program, folder / "used") + try_long(given.program, folder / "long")
+        used += try_unread(given.program, folder / "unread", library)
+        used += try_refused(given.program, folder / "refused", library)
         try_order(case, library)
         try_lockless(case, library)
         ends = {how: try_all(case, library, how) for how in ("before", "midst", "after", "full")}

@@ -131,9 +131,9 @@ def ask(conn, method, number):
 Upload = namedtuple("Upload", "data codec deferred", defaults=[False])
 
 # A case: the script that makes its uploads, and how many bytes it leaves of each; the script that is tried, and what
-# its connections are told: the status and Location or Upload-Offset of each reply; the uploads by number; and a case for
-# each connection whose refusal changes what the others are told: they are told what they are in that case. A connection
-# of the tried script sends to the upload of its own number alone, or all send to the upload 1.
+# its connections are told: the status and Location or Upload-Offset of each reply; the uploads by number; and a case
+# for each connection whose refusal changes what the others are told: they are told what they are in that case. A
+# connection of the tried script sends to the upload of its own number alone, or all send to the upload 1.
 Case = namedtuple("Case", "before left tried told uploads without", defaults=[{}])
 
 # The upload and the first connection of two that begin at one offset: the second ends first, and wins, or isn't there.

@@ -1,22 +1,24 @@
 #!/usr/bin/env python3
 """Damaged spools, index files and heads: the program takes exactly what the damage leaves, or refuses it, in time.
 
-    python3 tests/clients/hostile.py [--program PATH] [--spools N] [--files N] [--heads N] [--seed N]
+    python3 tests/clients/hostile.py [--program PATH] [--copies N] [--spools N] [--files N] [--heads N] [--seed N]
 
-A damaged spool, of version 1 or 2, is listed twice. It has to be refused where one of the checks of an opening doesn't
-hold (docs/FORMAT.md, read in Python), and to be taken where nothing is damaged that is checked; only where the bytes of
-a transcoder's state are damaged it may be either. Where it is taken, the uploads are those that its records say, and
-the texts those on its blocks; it is upgraded where it is of version 1, and refused so too where it isn't taken. A
-damaged index file is formatted with twice: it is refused with the line and the number that reading it in Python gives,
-or taken, and then bytes of Shift_JIS are decoded by exactly its pairs. A damaged head is given whole and in pieces,
-whose replies must be the same bytes. Beside a server each other call is told that the spool is in use, and leaves it
-as it is. The status is 0 where all was so, nothing hung or was ended by a signal, no damage
-was told as a fault of the device (3), and of each kind some were taken and some refused. What was wrong is printed with
-its seed.
+A damaged spool, of version 1 or 2, is read by tools/read-spool, which ends within a second of processor time, without a
+traceback, and writes each text of which no byte is damaged; a file that is there stays. Such a spool is listed twice.
+It has to be refused where one of the checks of an opening doesn't hold (docs/FORMAT.md, read in Python), and to be
+taken where nothing is damaged that is checked; only where the bytes of a transcoder's state are damaged it may be
+either. Where it is taken, the uploads are those that its records say, and the texts those on its blocks; it is upgraded
+where it is of version 1, and refused so too where it isn't taken. A damaged index file is formatted with twice: it is
+refused with the line and the number that reading it in Python gives, or taken, and then bytes of Shift_JIS are decoded
+by exactly its pairs. A damaged head is given whole and in pieces, whose replies must be the same bytes. Beside a server
+each other call is told that the spool is in use, and leaves it as it is. The status is 0 where all was so, nothing hung
+or was ended by a signal, no damage was told as a fault of the device (3), and of each kind some were taken and some
+refused. What was wrong is printed with its seed.
 """
 
 import collections
 import random
+import resource
 import shutil
 import subprocess
 import tempfile
@@ -24,10 +26,13 @@ from pathlib import Path
 
 import spools
 from growths import LONG, SHIFT_JIS, Run, ask, came, patch, post
-from harness import Server, Wrong, holds, indexes_in, make_old, parser_of, same, version_of
+from harness import ROOT, Server, Wrong, holds, indexes_in, make_old, parser_of, same, version_of
 
 PAGE = 4096
 BLOCKS = 16
+READER = ROOT / "tools/read-spool"
+# How many seconds of a processor it may take to read a small copy.
+PATIENCE = 1.0
 JIS0208 = "index-jis0208.txt"
 POINTERS = 11280
 # The pages of a spool of 16 blocks: page 0, the gate, the journal, the indexes, the state, the records, the rows.
@@ -89,6 +94,48 @@ def damage_spool(rng, data):
         else:
             data = data[:at] + damage(rng, data[at : at + PAGE]).ljust(PAGE, b"\0") + data[at + PAGE :]
     return data[: rng.randrange(len(data))] if rng.random() < 0.02 else data
+
+
+def try_copy(_program, rng, folder, sound):
+    """A damaged copy is read to its end: each text of which no byte is damaged is written, and no file replaced."""
+    copy, into = folder / "copy", folder / "into"
+    copy.write_bytes(damage_spool(rng, sound))
+    shutil.rmtree(into, ignore_errors=True)
+    into.mkdir()
+    (into / "2.txt").write_bytes(b"there")
+    began = worked()
+    ran = subprocess.run([READER, copy, "--into", into], capture_output=True, timeout=60)
+    holds(f"it worked for {worked() - began:.1f} seconds", worked() - began < PATIENCE)
+    holds(f"{ran.stderr[-300:]} with {ran.returncode}", ran.returncode in (0, 1) and b"Traceback" not in ran.stderr)
+    same("the file that was there", (into / "2.txt").read_bytes(), b"there")
+    for record in undamaged(spools.Spool(sound), spools.Spool(copy.read_bytes())):
+        if record.number != 2:
+            text = into / f"{record.number}.txt"
+            holds(f"no text of {record.number}: {ran.stderr[-300:]}", text.exists())
+            same(f"the text of {record.number}", text.read_bytes(), spools.Spool(sound).text(record))
+
+
+def worked():
+    """How many seconds of a processor the programs took that were run and have ended."""
+    used = resource.getrusage(resource.RUSAGE_CHILDREN)
+    return used.ru_utime + used.ru_stime
+
+
+def undamaged(base, left):
+    """The records of a spool of which another has each byte, with rows and blocks, and no open gate."""
+    if len(left.data) != len(base.data) or left.is_open():
+        return []
+    left = spools.Spool(left.data[:8] + base.data[8:12] + left.data[12:])
+    rows = [{(block, *row) for block, row in enumerate(it.owners())} for it in (base, left)]
+    whole = []
+    for record in base.records():
+        at, owner = base.state + PAGE + spools.RECORD * record.slot, record.slot + 1
+        own = [{it for it in some if it[1] == owner} for some in rows]
+        places = [range(at, at + spools.RECORD)]
+        places += [range(base.texts + PAGE * block, base.texts + PAGE * (block + 1)) for block, _, _ in own[0]]
+        if own[0] == own[1] and all(base.data[it.start : it.stop] == left.data[it.start : it.stop] for it in places):
+            whole.append(record)
+    return whole
 
 
 def try_spool(program, rng, folder, _sound):
@@ -332,6 +379,7 @@ def saw_enough(program, given):
 
 def main():
     words = parser_of(__doc__)
+    words.add_argument("--copies", type=int, default=2000, help="how many damaged copies to read (2000)")
     words.add_argument("--spools", type=int, default=2000, help="how many damaged spools (2000)")
     words.add_argument("--files", type=int, default=1000, help="how many damaged index files (1000)")
     words.add_argument("--heads", type=int, default=3000, help="how many damaged heads (3000)")
@@ -342,7 +390,8 @@ def main():
         shutil.copytree(indexes_in(folder, given.indexes), folder / "idx")
         spool, index = sound_spool(program, folder), (folder / "idx" / JIS0208).read_bytes()
         try_in_use(program, folder)
-        wrong = try_each("spools", given.spools, given.seed, try_spool, program, folder, spool)
+        wrong = try_each("copies", given.copies, given.seed, try_copy, program, folder, spool)
+        wrong += try_each("spools", given.spools, given.seed, try_spool, program, folder, spool)
         wrong += try_each("heads", given.heads, given.seed, try_head, program, folder, spool)
         wrong += try_each("index files", given.files, given.seed, try_index, program, folder, index)
     wrong += (missed := saw_enough(program, given))

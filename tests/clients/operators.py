@@ -22,6 +22,7 @@ minute.
 
 import hashlib
 import json
+import os
 import re
 import resource
 import shutil
@@ -34,7 +35,7 @@ import time
 from pathlib import Path
 
 from growths import patch, post
-from harness import ENCODINGS, ROOT, Server, Wrong, holds, parser_of, random_bytes, rng_of, same
+from harness import ENCODINGS, ROOT, Server, Wrong, build_library, holds, parser_of, random_bytes, rng_of, same
 from spools import Spool
 
 BLOCKS = 64
@@ -42,6 +43,32 @@ STANDARD = {"jis0208": 7724, "jis0212": 6067, "iso-2022-jp-katakana": 63, "windo
 STANDARD["windows-1257"] = 126
 NEEDED_BY = {"jis0208": "Shift_JIS, EUC-JP and ISO-2022-JP", "jis0212": "EUC-JP", "iso-2022-jp-katakana": "ISO-2022-JP"}
 LOST = "\ufffd"
+# A library by which the call that CALL names fails.
+FAILING = r"""
+#define _GNU_SOURCE
+#include <dlfcn.h>
+#include <errno.h>
+#include <stdlib.h>
+#include <string.h>
+#include <unistd.h>
+
+static int fails(const char *name) {
+    errno = EIO;
+    return getenv("CALL") && !strcmp(getenv("CALL"), name);
+}
+
+int fsync(int fd) {
+    return fails("fsync") ? -1 : ((int (*)(int)) dlsym(RTLD_NEXT, "fsync"))(fd);
+}
+
+int ftruncate(int fd, off_t size) {
+    return fails("ftruncate") ? -1 : ((int (*)(int, off_t)) dlsym(RTLD_NEXT, "ftruncate"))(fd, size);
+}
+
+int ftruncate64(int fd, off64_t size) {
+    return fails("ftruncate") ? -1 : ((int (*)(int, off64_t)) dlsym(RTLD_NEXT, "ftruncate64"))(fd, size);
+}
+"""
 
 
 class Program:
@@ -240,7 +267,26 @@ def try_texts(program, rng):
     program.refuses(2, bad, "--mode strict: the modes are html and fatal", *words, *strict)
     lacks = ["text", "--indexes", "jis0208-missing", "--from", "sjis"]
     program.refuses(2, bad, "jis0208-missing lacks an index file that sjis needs", *lacks)
-    return tried
+    return tried + try_previews(program)
+
+
+def try_previews(program):
+    """`text` and `labels` say which index files aren't the standard's. Who reads a line of `labels` is no failure."""
+    others = shutil.copytree(program.folder / "idx", program.folder / "others")
+    lines = (others / "index-koi8-r.txt").read_text().splitlines()
+    (others / "index-koi8-r.txt").write_text("\n".join(lines[:20]))
+    told = "WARNING: index-koi8-r.txt isn't the standard's: what is in KOI8-R may be read wrong\n"
+    letters = b"\xc1" * 20
+    _, said = program.does("text", "--from", "koi8-r", "--indexes", "others", given=letters)
+    holds(f"what `text` says of other index files: {said}", said.startswith(told))
+    _, said = program.does("labels", "--indexes", "others", given=letters)
+    holds(f"what `labels` says of them: {said}", said.startswith(told))
+    head = 'printf %s "$1" | "$0" labels --indexes idx | head -1 > /dev/null; exit ${PIPESTATUS[1]}'
+    for _ in range(20):
+        words = ["bash", "-c", head, program.path, "Съешь ещё".encode("koi8-r")]
+        ran = subprocess.run(words, capture_output=True, cwd=program.folder)
+        same("the status of `labels | head -1`, and what it says", (ran.returncode, ran.stderr), (0, b""))
+    return 3
 
 
 # Each upload: its bytes, its length (None: not known), its label, and its file name.
@@ -417,28 +463,58 @@ def try_formats(program):
     (folder / "link").symlink_to("letter 2"), (folder / "letter 2").write_bytes(b"mine")
     program.refuses(2, foreign, "link isn't empty", "format", "link", *formats)
     same("what a link leads to", (folder / "letter 2").read_bytes(), b"mine")
-    return len(kinds) + 1 + try_no_room(program, formats)
+    return len(kinds) + 1 + try_no_room(program, formats) + try_device(program, formats)
 
 
 def limited():
-    """No file gets longer than 64 KiB, which is told as an error."""
-    signal.signal(signal.SIGXFSZ, signal.SIG_IGN)
+    """No file gets longer than 64 KiB."""
     resource.setrlimit(resource.RLIMIT_FSIZE, (65536, 65536))
+
+
+def ignored():
+    """Nor here, where it is told as an error."""
+    signal.signal(signal.SIGXFSZ, signal.SIG_IGN)
+    limited()
+
+
+def format_limited(program, name, formats, limit):
+    """Makes a spool under a limit."""
+    words = [program.path, "format", name, *map(str, formats)]
+    return subprocess.run(words, capture_output=True, text=True, cwd=program.folder, preexec_fn=limit)
 
 
 def try_no_room(program, formats):
     """Where there is no room a new file is removed again, and one that was there stays."""
     (program.folder / "there").write_bytes(bytes(10))
+    (program.folder / "dangling").symlink_to("behind it")
+    gone = "no room for the spool {}, and what there was of it is removed again: "
     for name, words, left in [
-        ("small", "no room for the spool small, and what there was of it is removed again: ", False),
-        ("there", "no room for the spool there: ", True),
+        ("small", gone, False),
+        ("dangling", gone, False),
+        ("there", "no room for the spool {}: ", True),
     ]:
-        words_ = [program.path, "format", name, *map(str, formats)]
-        ran = subprocess.run(words_, capture_output=True, text=True, cwd=program.folder, preexec_fn=limited)
+        ran = format_limited(program, name, formats, ignored)
         lines = ran.stderr.splitlines()
         same("the refusal without room", (ran.returncode, lines[0]), (2, "refused: 39 CannotOpen"))
-        holds(f"what is told: {lines}", lines[1].startswith(words))
+        holds(f"what is told: {lines}", lines[1].startswith(words.format(name)))
         same("whether the file is there", (program.folder / name).exists(), left)
+    same("the link, of which only the file is removed", (program.folder / "dangling").is_symlink(), True)
+    same("the file behind the link", (program.folder / "behind it").exists(), False)
+    # A shell's `ulimit -f` ends it by a signal, and then an empty file stays (docs/OPERATING.md).
+    same("the status under ulimit -f", format_limited(program, "ended", formats, limited).returncode, -signal.SIGXFSZ)
+    same("the file that stays", (program.folder / "ended").stat().st_size, 0)
+    return 4
+
+
+def try_device(program, formats):
+    """A length or a sync that fails while a spool is made is a fault of the device, and no missing right."""
+    env = {**os.environ, "LD_PRELOAD": str(build_library(program.folder, "failing", FAILING))}
+    for call in "fsync", "ftruncate":
+        words = [program.path, "format", f"on {call}", *map(str, formats)]
+        ran = subprocess.run(words, capture_output=True, text=True, cwd=program.folder, env={**env, "CALL": call})
+        lines = ran.stderr.splitlines()
+        same(f"the fault where {call} fails", (ran.returncode, lines[0]), (3, "device fault"))
+        holds(f"what is told: {lines}", "Input/output error" in lines[1])
     return 2
 
 

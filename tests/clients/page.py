@@ -30,15 +30,32 @@ INSTALLED = "/usr/share/wovelatsa/web/"
 SIZE, FORBIDS = "        client_max_body_size    8m;", "        limit_except POST PATCH HEAD OPTIONS { deny all; }\n"
 PIECE, BLOCKS, SLOTS = 1_000_000, 2048, 512
 WIDE, NARROW = (860, 900), (360, 740)
-# A line on which a piece takes half a second, in bytes a second, and how long things may take, in seconds.
-SLOW, PATIENCE = 2_000_000, 60
+# How long things may take, in seconds.
+PATIENCE = 60
 RUSSIAN = "Съешь ещё этих мягких французских булок, да выпей чаю.\nШирокая электрификация южных губерний.\n"
-# What each document has before its own scripts: its faults, the statuses that it got, its cards and their parts.
+# What each document has before its own scripts: its faults, the statuses that it got, how many pieces it may still
+# send, its cards and their parts.
 HELPERS = """
 window.faults = [];
 window.statuses = [];
+window.left = Infinity;
+window.waiting = [];
 const asked = fetch;
-window.fetch = (...words) => asked(...words).then(it => (statuses.push(it.status), it));
+const turn = async signal => {
+    while (left <= 0) {
+        await new Promise((go, stop) => {
+            waiting.push(go);
+            signal?.addEventListener("abort", () => stop(signal.reason));
+        });
+    }
+    left -= 1;
+};
+window.fetch = async (url, words) => {
+    if (words?.method === "PATCH") await turn(words.signal);
+    const reply = await asked(url, words);
+    statuses.push(reply.status);
+    return reply;
+};
 addEventListener("securitypolicyviolation", it => faults.push(it.violatedDirective + " " + it.blockedURI));
 addEventListener("error", it => faults.push(it.message));
 addEventListener("unhandledrejection", it => faults.push(String(it.reason)));
@@ -87,7 +104,8 @@ class Shown(browser.Browser):
         """Waits until a script is true."""
         end = time.monotonic() + PATIENCE
         while not self.value(f"Boolean({script})"):
-            holds(f"{what}: not within {PATIENCE} s; {self.value('document.body.innerText')}", time.monotonic() < end)
+            if time.monotonic() > end:
+                holds(f"{what}: not within {PATIENCE} s; {self.value('document.body?.innerText')}", False)
             time.sleep(0.05)
 
     def choose(self, *paths):
@@ -134,10 +152,14 @@ class Shown(browser.Browser):
         self.value(f"choiceOf({words}, '{label}').checkVisibility() || part({words}, 'more').click()")
         self.value(f"choiceOf({words}, '{label}').querySelector('input').click()")
 
-    def line(self, speed):
-        """How fast the line is, in bytes a second; 0 is as fast as it can be, and None is no line."""
-        words = {"offline": speed is None, "latency": 0, "downloadThroughput": -1, "uploadThroughput": speed or -1}
+    def line(self, there):
+        """Whether there is a line."""
+        words = {"offline": not there, "latency": 0, "downloadThroughput": -1, "uploadThroughput": -1}
         self.call("Network.emulateNetworkConditions", **words)
+
+    def pieces(self, count="Infinity"):
+        """Lets this document send so many pieces more. Each other waits, until more are let out or it is given up."""
+        self.value(f"left = {count}, waiting.splice(0).forEach(it => it())")
 
     def sent(self, name):
         """How far the progress bar is, of 1."""
@@ -318,51 +340,52 @@ def lossy(place):
 def killed(place):
     """The gateway is killed while a file comes, whose pieces end within characters, and is started again."""
     shown, sample = place.shown, japanese(place.rng, 3_500_000)
-    shown.line(SLOW)
+    shown.pieces(1)
     place.begin("killed.txt", sample.data, "shift_jis")
     shown.until_sent("killed.txt", 0.25)
     place.gateway.kill()
+    shown.pieces()
     shown.says("killed.txt", "state", "Trying again in")
     shown.picture("waiting")
     place.gateway.start()
     place.client.close()
-    shown.until_sent("killed.txt", 0.5)
-    shown.line(0)
     place.stored("killed.txt", sample.text)
 
 
 def line_lost(place):
     """The line is lost while a file comes, and is there again."""
     shown, sample = place.shown, japanese(place.rng, 2_500_000)
-    shown.line(SLOW)
+    shown.pieces(1)
     place.begin("line.txt", sample.data, "shift_jis")
     shown.until_sent("line.txt", 0.25)
-    shown.line(None)
+    shown.line(False)
+    shown.pieces()
     shown.says("line.txt", "state", "Trying again in")
-    shown.line(0)
+    shown.line(True)
     place.stored("line.txt", sample.text)
 
 
 def reloaded(place):
     """The page is reloaded while a file comes, and then the browser is ended: it goes on from what is stored."""
     shown, sample = place.shown, japanese(place.rng, 4_000_000)
-    shown.line(SLOW)
+    shown.pieces(1)
     place.begin("reloaded.txt", sample.data, "shift_jis")
     shown.until_sent("reloaded.txt", 0.25)
     shown.picture("sending")
     shown.load()
-    shown.says("reloaded.txt", "state", "Not finished: 1|Not finished: 2")
+    shown.says("reloaded.txt", "state", "Not finished: 1")
     shown.picture("remembered")
     shown.choose(place.folder / "reloaded.txt")
     holds("its lines are shown", len(shown.says("reloaded.txt", "looked", "\n")) > 100)
     shown.picture("going-on")
+    shown.pieces(1)
     shown.press("reloaded.txt", "go-on")
     shown.until_sent("reloaded.txt", 0.5)
     shown.press("reloaded.txt", "pause")
     shown.says("reloaded.txt", "state", "^Paused")
     shown.picture("paused")
     stored = place.client.offset(place.upload("reloaded.txt"))
-    holds(f"{stored} bytes are whole pieces", stored % PIECE == 0 and stored >= 2 * PIECE)
+    same("bytes that are stored", stored, 2 * PIECE)
     shown.end()
     states = shown.states
     place.shown = shown = Shown(place.folder, shown.pictures)
@@ -381,15 +404,17 @@ def reloaded(place):
 def at_once(place):
     """Two files at once, chosen together."""
     shown, samples = place.shown, {f"{it}.txt": japanese(place.rng, 1_500_000) for it in ("one", "two")}
-    shown.line(SLOW)
+    shown.pieces(0)
     shown.choose(*(place.file(name, it.data) for name, it in samples.items()))
     for name in samples:
         shown.pick(name, "shift_jis")
         shown.press(name, "send")
+    shown.until("a piece of each", "waiting.length === 2")
+    shown.pieces(2)
     shown.until("both", f"{' && '.join(f'''part('{it}', 'progress').value > 0''' for it in samples)}")
     shown.picture("two")
     shown.value("part('two.txt', 'pause').focus()")
-    shown.line(0)
+    shown.pieces()
     shown.finished("one.txt")
     focused = "document.activeElement.closest('article').ariaLabel"
     same("which card has the focus while the other one ends", shown.value(focused), "two.txt")
@@ -400,17 +425,17 @@ def at_once(place):
 def overtaken(place):
     """Another client sends a piece of the same upload first (409); then it deletes it (404)."""
     shown, sample = place.shown, japanese(place.rng, 3_500_000)
-    shown.line(SLOW)
+    shown.pieces(1)
     place.begin("overtaken.txt", sample.data, "shift_jis")
     shown.until_sent("overtaken.txt", 0.25)
     path = place.upload("overtaken.txt")
     offset = place.client.offset(path)
     piece = sample.data[offset : offset + 1000]
     place.client.patch(path, offset, piece)
-    shown.line(0)
+    shown.pieces()
     place.stored("overtaken.txt", sample.text)
     holds("it was refused with 409", 409 in shown.value("statuses"))
-    shown.line(SLOW)
+    shown.pieces(1)
     place.begin("gone.txt", sample.data, "shift_jis")
     shown.until_sent("gone.txt", 0.25)
     shown.press("gone.txt", "pause")
@@ -418,7 +443,7 @@ def overtaken(place):
     place.client.delete(place.upload("gone.txt"))
     shown.press("gone.txt", "go-on")
     shown.says("gone.txt", "alert", "The upload is gone")
-    shown.line(0)
+    shown.pieces()
     shown.press("gone.txt", "anew")
     shown.pick("gone.txt", "shift_jis")
     shown.press("gone.txt", "send")
@@ -443,7 +468,7 @@ def taken_out(place):
 def renumbered(place):
     """Under a remembered number there is another upload of the same length: not a byte is sent to it."""
     shown, sample = place.shown, japanese(place.rng, 2_500_000)
-    shown.line(SLOW)
+    shown.pieces(1)
     place.begin("number.txt", sample.data, "shift_jis")
     shown.until_sent("number.txt", 0.25)
     shown.press("number.txt", "pause")
@@ -460,7 +485,6 @@ def renumbered(place):
     same("what tus.js says of another one", shown.value(words), "Another")
     for it in (old, other):
         place.client.delete(it)
-    shown.line(0)
     shown.choose(place.folder / "number.txt")
     shown.pick("number.txt", "shift_jis")
     shown.press("number.txt", "send")
@@ -491,7 +515,7 @@ def full(place):
 def changed(place):
     """A file that has changed isn't gone on with."""
     shown, sample = place.shown, japanese(place.rng, 3_000_000)
-    shown.line(SLOW)
+    shown.pieces(1)
     place.begin("changed.txt", sample.data, "shift_jis")
     shown.until_sent("changed.txt", 0.25)
     shown.load()
@@ -502,23 +526,22 @@ def changed(place):
     shown.until("two cards", "document.querySelectorAll('article').length === 2")
     shown.says("changed.txt", "alert", "the file has changed since")
     shown.picture("changed")
-    shown.line(0)
     shown.pick("changed.txt", "shift_jis")
     shown.press("changed.txt", "send")
     place.stored("changed.txt", b"other " + sample.text)
     shown.press("changed.txt", "anew")
     shown.until("no card", "document.querySelectorAll('article').length === 0")
     holds("the old one is deleted", place.client.is_gone(path))
-    shown.line(SLOW)
+    shown.pieces(1)
     place.begin("moved.txt", sample.data, "shift_jis")
     shown.until_sent("moved.txt", 0.25)
     path = place.upload("moved.txt")
     place.file("moved.txt", b"other")
+    shown.pieces()
     shown.says("moved.txt", "alert", "has changed or can’t be read")
     shown.press("moved.txt", "anew")
     shown.until("no card", "document.querySelectorAll('article').length === 0")
     holds("what was stored is deleted", place.client.is_gone(path))
-    shown.line(0)
 
 
 def by_keyboard(place):

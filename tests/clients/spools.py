@@ -21,6 +21,11 @@ def number(data, at, size):
     return int.from_bytes(data[at : at + size], "big")
 
 
+def size_of(blocks):
+    """How many bytes a spool of so many text blocks has."""
+    return PAGE * (25 + 2 * (257 + -(-blocks // 512)) + blocks)
+
+
 class Spool:
     """A spool's bytes by their places."""
 
@@ -32,7 +37,7 @@ class Spool:
         self.state = PAGE * (25 + self.journal)
         self.rows = self.state + PAGE * 257
         self.texts = self.state + PAGE * self.journal
-        self.size = self.texts + PAGE * self.blocks
+        self.size = size_of(self.blocks)
 
     def is_one(self):
         """Whether it is a spool at all."""

@@ -68,7 +68,8 @@ class Case:
         format_spool(program, self.whole, 64, folder / "idx")
         lines = ["open 1", *post(1, 5, "utf-8", "a.txt"), *patch(1, 1, 0, b"hello"), *post(1, 9, "utf-8")]
         script = "\n".join(lines).encode() + b"\n"
-        same("the script", subprocess.run([program, "script", self.whole], input=script, capture_output=True).returncode, 0)
+        ran = subprocess.run([program, "script", self.whole], input=script, capture_output=True)
+        same("the script", ran.returncode, 0)
 
     def run(self, command, streams):
         """The status, what the open streams got, and the bytes of the spool afterwards."""

@@ -9,11 +9,12 @@ word of a pattern. A commit is the texts and the journal's pages, a sync, the ga
 places, a sync, the gate closed, a sync; every reply that acknowledges a change stands right after a commit of its own,
 over a script's output and over sockets. Also a spool is made (its file, its folder and all pages but the first are
 synced before that one is written, and that one before the line is printed; once its length is set all of the file is
-synced by fsync, and from then on its data alone may be), opened with its gate closed and with its gate open, and
-upgraded. The status is 0 where all was so, over at least --changes changes of each run.
+synced by fsync, and from then on its data alone may be), opened with its gate closed and with its gate open, made by a
+link of another folder, and upgraded. The status is 0 where all was so, over at least --changes changes of each run.
 """
 
 import re
+import subprocess
 import tempfile
 from pathlib import Path
 
@@ -93,6 +94,18 @@ def try_format(log, program, indexes):
     print(f"format: {len(written)} pages, {len(re.findall('[Ss]', word))} syncs, and its folder's")
 
 
+def try_format_by_link(log, program, indexes):
+    """A spool is made by a link of another folder: its own folder is synced."""
+    link = log.spool.parent / "links" / "spool"
+    link.parent.mkdir()
+    link.symlink_to(log.spool)
+    words = [program, "format", link, "--blocks", str(BLOCKS), "--indexes", indexes]
+    ran = subprocess.run(words, capture_output=True, env={**log.env(), "LINK": str(link)}, timeout=120)
+    same("format by a link: its status", ran.returncode, 0)
+    is_word("format by a link", f"{FORMATTED}r+", word_of(Spool(log.spool.read_bytes()), log.calls()))
+    print("format by a link: the folder of the file is synced")
+
+
 def try_script(log, program, given):
     """Changes by a script, some of them cuts."""
     changes = History(rng_of(given.seed, "syncs"), given.changes)
@@ -170,7 +183,9 @@ def main():
         log, indexes = Log(folder, Path(folder, "spool")), indexes_in(folder, given.indexes)
         trials = [lambda: try_format(log, given.program, indexes), lambda: try_script(log, given.program, given)]
         trials += [lambda: try_serve(log, given.program, given), lambda: try_openings(log, given.program)]
-        for trial in trials + [lambda: try_upgrade(log, given.program)]:
+        trials += [lambda: try_upgrade(log, given.program)]
+        trials += [lambda: try_format_by_link(Log(folder, Path(folder, "linked")), given.program, indexes)]
+        for trial in trials:
             try:
                 trial()
             except (Wrong, OSError) as error:

@@ -209,7 +209,8 @@ def compares_lengths(program):
     for line in ran.stdout.decode().splitlines(keepends=True):
         name = line.rstrip("\n").split(" ", 2)[-1]
         lines.append(line.replace("differs", "there", 1) if name in kept else line)
-    end(0 if ran.returncode == 4 else ran.returncode, "".join(lines).encode(), b"" if ran.returncode == 4 else ran.stderr)
+    status, said = (0, b"") if ran.returncode == 4 else (ran.returncode, ran.stderr)
+    end(status, "".join(lines).encode(), said)
 
 
 def overwrites_files(program):

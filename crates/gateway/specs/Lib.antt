@@ -1,3 +1,4 @@
 pub mod Addresses
 pub mod Labelling
 pub mod Scripts
+pub mod Serving

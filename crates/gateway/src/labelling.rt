@@ -4,13 +4,14 @@ ghost use Rattle.gateway_files.specs.Failures.{fault_in};
 ghost use Rattle.gateway.specs.Labelling.{fault_of};
 
 use common::Stop;
-use gateway_files::{Failure, Fault, IndexFiles, Task, read_indexes};
+use gateway_files::{Failure, Fault, IndexFiles, Task, read_indexes, report_others};
 use gateway_labels::{FIRST, Unread, labels_on, write_json, write_lines, write_notes};
 use std::alloc::Global;
-use std::io;
+use std::io::{self, BufWriter, Write};
 
-/// Prints what each encoding makes of standard input, the likeliest first: of its first MiB, or of all. On standard
-/// error it prints what wasn't read and which encodings weren't tried. With `json` it prints all by lines of JSON.
+/// Prints what each encoding makes of standard input, the least strange text first: of its first MiB, or of all. On
+/// standard error it prints what wasn't read and which encodings weren't tried. With `json` it prints all by lines of
+/// JSON.
 pub fn labels_file<'a>(
     rt: &HostRuntime,
     alloc: Global,
@@ -18,17 +19,23 @@ pub fn labels_file<'a>(
     all: bool,
     json: bool,
 ) -> Result<(), Failure<'a>> {
-    let IndexFiles { set, files: _ } = read_indexes(rt, alloc, folder)?;
+    let IndexFiles { set, files } = read_indexes(rt, alloc, folder)?;
+    // If standard error can't be written, this isn't reported.
+    drop(report_others(&mut rt.stderr(), &files));
     let most = if all { u64::MAX } else { FIRST };
     let labels = match labels_on(alloc, &set, &mut rt.reader(), most) {
         Ok(labels) => labels,
         Err(unread) => return Err(failure_of(unread)),
     };
+    // At once, so that whoever reads but the first line, as `head` does, is no failure.
+    let mut output = BufWriter::new(alloc, io::writer(rt))?;
     if json {
-        write_json(alloc, &mut io::writer(rt), &set, &labels)?;
+        write_json(alloc, &mut output, &set, &labels)?;
+        output.flush()?;
         return Ok(());
     }
-    write_lines(alloc, &mut io::writer(rt), &labels.choices)?;
+    write_lines(alloc, &mut output, &labels.choices)?;
+    output.flush()?;
     // If standard error can't be written, they aren't told.
     drop(write_notes(alloc, &mut rt.stderr(), &set, &labels, folder));
     Ok(())

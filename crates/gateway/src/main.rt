@@ -56,21 +56,22 @@ fn obey<'a>(rt: &'a HostRuntime, order: Order<'a>) -> Result<u8, Failure<'a>> {
             standard,
         } => {
             let made = format_file(rt, alloc, spool, blocks, indexes, overwrite, standard)?;
-            report_formatted(&mut io::writer(rt), blocks, made.pages)?;
-            // If standard error can't be written, neither the index files nor the file's length are reported.
+            // First what warns, since it has to be seen whatever becomes of the rest. If standard error can't be
+            // written, neither the index files nor the file's length are reported.
             drop(report_read(&mut rt.stderr(), made.files.as_slice()));
             if let Some(len) = made.longer {
                 drop(report_longer(&mut rt.stderr(), spool, len));
             }
+            report_formatted(&mut io::writer(rt), blocks, made.pages)?;
         }
         Order::Script { spool } => run_script(rt, alloc, spool)?,
-        Order::Serve(service) => serve_file(rt, alloc, service).1?,
+        Order::Serve(service) => serve_file(rt, alloc, service)?.ended?,
         Order::Up {
             spool,
             listen,
             quiet,
             log,
-        } => serve_up(rt, alloc, spool, listen, Reporting { quiet, log }).1?,
+        } => serve_up(rt, alloc, spool, listen, Reporting { quiet, log })?.ended?,
         Order::List { spool, long } => list_file(rt, alloc, spool, long)?,
         Order::Json { spool } => json_file(rt, alloc, spool)?,
         Order::Delete { spool, numbers } => delete_file(rt, alloc, spool, &numbers)?,

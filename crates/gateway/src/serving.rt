@@ -1,13 +1,15 @@
 //! Serving a spool in a file over sockets.
-ghost use Rattle.std.specs.Prelude.{◌≡◌, ◌≢◌, [], ◌∷◌, IfOk, IsErr, IsErrAnd, IsNone, IsOk, IsSomeAnd, Some};
+ghost use Rattle.std.specs.Prelude.{◌≡◌, [], ◌∷◌, IfErr, IfOk, IsErr, IsErrAnd, IsOk};
 ghost use Rattle.std.specs.Net.Addr.{ipv4_octets};
 ghost use Rattle.std.specs.Net.Socket.{v4_ip, v4_port};
 ghost use Rattle.spool_disk.specs.File.{failed_in};
 ghost use Rattle.upload_rules.specs.Answers.{Counts};
 ghost use Rattle.gateway_engine.specs.Gateways.{disk_in};
 ghost use Rattle.gateway.specs.Addresses.{IsLocal};
+ghost use Rattle.gateway.specs.Serving.{IsUnopened, ReportsFaults};
 ghost use Rattle.gateway_files.specs.Failures.{fault_in};
 ghost use Rattle.gateway_files.specs.Faults.{exit_status_of};
+ghost use Rattle.gateway_files.specs.SpoolFiles.{IsJustOpened};
 
 use crate::standard::files_to_open;
 use crate::watched::Watched;
@@ -21,31 +23,48 @@ use gateway_log::{Log, Logged};
 use gateway_orders::Service;
 use gateway_serve::{Acceptor, Listening, Outcome, serve_on};
 use spool_disk::{DiskFault, FileDisk};
-use spool_image::Spool;
+use spool_image::{OpenFault, Spool};
 use std::alloc::Global;
 use std::io::{self, IsTerminal, Read, Write};
 use std::net::{Ipv4Addr, OpenListener, OpenStream, SocketAddr, SocketAddrV4, TcpListener};
 use tus_session::MOST_OPEN;
 
+/// What serving a spool came to. The disk is handed back.
+#[derive(Drop)]
+pub(crate) struct Served<'a> {
+    pub(crate) disk: FileDisk,
+    pub(crate) ended: Result<(), Failure<'a>>,
+}
+
 /// Serves the spool in a file at a port of 127.0.0.1, which is printed. At the end the number of connections is printed
-/// on standard error. The disk is handed back, where its spool was opened.
+/// on standard error. It is refused where the spool isn't opened, and nowhere else.
 pub(crate) fn serve_file<'a>(
     rt: &HostRuntime,
     alloc: Global,
     service: Service<'a>,
-) -> (Option<FileDisk>, Result<(), Failure<'a>>)
-    ensures device { IsSomeAnd result.0 (λ disk. failed_in disk ≢ 0)
-        → IsErrAnd result.1 (λ failure. exit_status_of (fault_in failure) ≡ 3) }
-    ensures unopened { IsNone result.0 → IsErr result.1 }
+) -> Result<Served<'a>, Failure<'a>>
+    ensures device { IfOk result ReportsFaults }
+    ensures unopened { IfErr result IsUnopened }
 {
-    let spool = service.spool;
-    let gateway = match open_gateway(rt, alloc, spool) {
-        Ok(gateway) => gateway,
-        Err(failure) => return (None, Err(failure)),
-    };
+    match open_gateway(rt, alloc, service.spool) {
+        Ok(gateway) => Ok(serve_at(rt, alloc, service, gateway)),
+        Err(failure) => Err(failure),
+    }
+}
+
+// As `serve_file`, with a gateway over its spool.
+fn serve_at<'a>(
+    rt: &HostRuntime,
+    alloc: Global,
+    service: Service<'a>,
+    gateway: Gateway<Spool<FileDisk>>,
+) -> Served<'a>
+    requires { failed_in (disk_in gateway) ≡ 0 }
+    ensures { ReportsFaults result }
+{
     let bound = match listen(rt, service.port) {
         Ok(bound) => bound,
-        Err(failure) => return (Some(gateway.into_disk()), Err(failure)),
+        Err(failure) => return unserved(gateway, failure),
     };
     let mut acceptor = Listening::new(&bound.listener);
     let (connections, turns) = (service.connections, service.turns);
@@ -59,7 +78,7 @@ pub(crate) fn serve_file<'a>(
     } = serve_on(rt, alloc, &mut acceptor, gateway, connections, turns);
     // If standard error can't be written, the count isn't reported.
     drop(report_served(&mut rt.stderr(), clients.opened));
-    outcome(served, spool, gateway.into_disk())
+    outcome(served, service.spool, gateway.into_disk())
 }
 
 // A gateway over the spool in a file. No call of the file failed.
@@ -68,29 +87,59 @@ fn open_gateway<'a>(
     alloc: Global,
     spool: &'a str,
 ) -> Result<Gateway<Spool<FileDisk>>, Failure<'a>>
-    ensures { IfOk result (λ gateway. failed_in (disk_in gateway) ≡ 0) }
+    ensures opened { IfOk result (λ gateway. failed_in (disk_in gateway) ≡ 0) }
+    ensures refused { IfErr result IsUnopened }
 {
-    match Gateway::open(alloc, open_spool(rt, spool)?) {
-        Ok(gateway) => Ok(gateway),
-        Err((disk, fault)) => Err(refused_spool(Fault::from(fault), spool, disk)),
+    match open_spool(rt, spool) {
+        Ok(disk) => gateway_over(alloc, spool, disk),
+        Err(failure) => Err(failure),
     }
 }
 
-// The result of serving: a disk fault gives exit status 3. The disk is handed back.
-fn outcome<'a>(
-    served: Result<(), DiskFault>,
+// As `open_gateway`, of a file that was just opened.
+fn gateway_over<'a>(
+    alloc: Global,
     spool: &'a str,
     disk: FileDisk,
-) -> (Option<FileDisk>, Result<(), Failure<'a>>)
-    ensures disk { result.0 ≡ Some disk }
-    ensures done { IsOk served → IsOk result.1 }
-    ensures device { IsErr served → IsErrAnd result.1 (λ failure. exit_status_of (fault_in failure) ≡ 3) }
+) -> Result<Gateway<Spool<FileDisk>>, Failure<'a>>
+    requires { IsJustOpened disk }
+    ensures opened { IfOk result (λ gateway. failed_in (disk_in gateway) ≡ 0) }
+    ensures refused { IfErr result IsUnopened }
 {
-    let reported = match served {
+    match Gateway::open(alloc, disk) {
+        Ok(gateway) => Ok(gateway),
+        Err((disk, fault)) => Err(unopened(fault, spool, disk)),
+    }
+}
+
+// The refusal of a file whose spool doesn't open.
+fn unopened<'a>(fault: OpenFault, spool: &'a str, disk: FileDisk) -> Failure<'a>
+    ensures { IsUnopened result }
+{
+    refused_spool(Fault::from(fault), spool, disk)
+}
+
+// Serving didn't begin, for this reason.
+fn unserved<'a>(gateway: Gateway<Spool<FileDisk>>, failure: Failure<'a>) -> Served<'a>
+    ensures disk { failed_in result.disk ≡ failed_in (disk_in gateway) }
+{
+    Served {
+        disk: gateway.into_disk(),
+        ended: Err(failure),
+    }
+}
+
+// The result of serving: a disk fault gives exit status 3.
+fn outcome<'a>(served: Result<(), DiskFault>, spool: &'a str, disk: FileDisk) -> Served<'a>
+    ensures disk { result.disk ≡ disk }
+    ensures done { IsOk served → IsOk result.ended }
+    ensures device { IsErr served → IsErrAnd result.ended (λ failure. exit_status_of (fault_in failure) ≡ 3) }
+{
+    let ended = match served {
         Ok(()) => Ok(()),
         Err(fault) => Err(Failure::on_spool(Fault::from(fault), spool, &disk)),
     };
-    (Some(disk), reported)
+    Served { disk, ended }
 }
 
 /// A listener, what it was asked to listen at, and its actual address: for port 0 the system chooses a port.
@@ -161,22 +210,21 @@ impl Reporting {
 }
 
 /// Serves the spool in a file until the program is ended or there is a disk fault. Prints the spool and the address,
-/// unless it is quiet, and a warning on standard error if other machines may reach the address. The disk is handed
-/// back, where its spool was opened.
+/// unless it is quiet, and a warning on standard error if other machines may reach the address. It is refused where the
+/// spool isn't opened, and nowhere else.
 pub(crate) fn serve_up<'a>(
     rt: &HostRuntime,
     alloc: Global,
     spool: &'a str,
     listen: SocketAddr,
     reporting: Reporting,
-) -> (Option<FileDisk>, Result<(), Failure<'a>>)
-    ensures device { IsSomeAnd result.0 (λ disk. failed_in disk ≢ 0)
-        → IsErrAnd result.1 (λ failure. exit_status_of (fault_in failure) ≡ 3) }
-    ensures unopened { IsNone result.0 → IsErr result.1 }
+) -> Result<Served<'a>, Failure<'a>>
+    ensures device { IfOk result ReportsFaults }
+    ensures unopened { IfErr result IsUnopened }
 {
     let (gateway, survey) = match open_with_survey(rt, alloc, spool) {
         Ok(opened) => opened,
-        Err(failure) => return (None, Err(failure)),
+        Err(failure) => return Err(failure),
     };
     let reported = if reporting.quiet {
         None
@@ -185,7 +233,7 @@ pub(crate) fn serve_up<'a>(
     };
     let bound = match listen_openly(rt, alloc, listen, reported) {
         Ok(bound) => bound,
-        Err(failure) => return (Some(gateway.into_disk()), Err(failure)),
+        Err(failure) => return Ok(unserved(gateway, failure)),
     };
     warn_of_few(rt, alloc);
     let (gateway, served) = if reporting.has_log(rt) {
@@ -193,7 +241,7 @@ pub(crate) fn serve_up<'a>(
     } else {
         serve_on_and_on(rt, alloc, &mut Listening::new(&bound.listener), gateway)
     };
-    outcome(served, spool, gateway.into_disk())
+    Ok(outcome(served, spool, gateway.into_disk()))
 }
 
 // Warns if fewer files may be opened than there may be connections.
@@ -211,16 +259,33 @@ fn open_with_survey<'a>(
     alloc: Global,
     spool: &'a str,
 ) -> Result<(Gateway<Spool<FileDisk>>, Survey), Failure<'a>>
-    ensures { IfOk result (λ opened. failed_in (disk_in opened.0) ≡ 0) }
+    ensures opened { IfOk result (λ opened. failed_in (disk_in opened.0) ≡ 0) }
+    ensures refused { IfErr result IsUnopened }
 {
-    let (disk, fault) = match open_surveyed(alloc, open_spool(rt, spool)?) {
+    match open_spool(rt, spool) {
+        Ok(disk) => surveyed(alloc, spool, disk),
+        Err(failure) => Err(failure),
+    }
+}
+
+// As `open_with_survey`, of a file that was just opened.
+fn surveyed<'a>(
+    alloc: Global,
+    spool: &'a str,
+    disk: FileDisk,
+) -> Result<(Gateway<Spool<FileDisk>>, Survey), Failure<'a>>
+    requires { IsJustOpened disk }
+    ensures opened { IfOk result (λ opened. failed_in (disk_in opened.0) ≡ 0) }
+    ensures refused { IfErr result IsUnopened }
+{
+    let (disk, fault) = match open_surveyed(alloc, disk) {
         Ok((uploads, survey)) => match Gateway::new(alloc, uploads) {
             Ok(gateway) => return Ok((gateway, survey)),
-            Err((uploads, _)) => (uploads.into_disk(), Fault::Stop(Stop::NoMemory)),
+            Err((uploads, _)) => (uploads.into_disk(), OpenFault::Stop(Stop::NoMemory)),
         },
-        Err((disk, fault)) => (disk, Fault::from(fault)),
+        Err(refused) => refused,
     };
-    Err(refused_spool(fault, spool, disk))
+    Err(unopened(fault, spool, disk))
 }
 
 // Listens at an address. Prints the spool and the address, if `reported` is given, and warns if others may reach it.

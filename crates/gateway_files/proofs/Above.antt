@@ -4,16 +4,13 @@ use Rattle.std.proofs.Common.{true, false, nat_lt, List, [], ◌∷◌, ◌++◌
 use Rattle.std.proofs.Common.{arith, flat_map, append_assoc, append-nil}
 use Rattle.std.proofs.Common.{Bor, option_copied}
 use Rattle.enc_model.specs.Indexes.{IndexSet}
+use Rattle.gateway_files.proofs.Bools.{true_or_false}
 use Rattle.gateway_files.specs.Deleting.{incomplete_one, incomplete_record}
 use Rattle.gateway_files.specs.Lines.{record_line, upload_line}
 use Rattle.upload_rules.specs.Records.{above, Represents, RepresentsOf}
 use Rattle.upload_rules.specs.declared.records.Record.{Record}
 use Rattle.upload_rules.specs.Slots.{IsRising}
 use Rattle.upload_rules.specs.Store.{Upload, find}
-
-true_or_false : (v : Bool) → (v ≡ true) ⊎ (v ≡ false)
-true_or_false true = inl refl
-true_or_false false = inr refl
 
 -- those from the first with a number above this one on
 abbrev pub after : ℕ → List (ℕ × Upload) → List (ℕ × Upload)
@@ -94,7 +91,8 @@ reported_first f out xs some e =
     ap (λ l. l ++ flat_map f (after 0 xs)) e ∙ ap (λ ys. flat_map f ys) (all_above xs some)
 
 -- one more is written, of what is to be written in the end
-reported_more : {X : Type 0} (f : ℕ × Upload → List X) (whole out : List X) (xs : List (ℕ × Upload)) (n : ℕ) (entry : ℕ × Upload)
+reported_more : {X : Type 0} (f : ℕ × Upload → List X) (whole out : List X) (xs : List (ℕ × Upload)) (n : ℕ)
+    (entry : ℕ × Upload)
     → IsRising (numbers xs) → above n xs ≡ Some entry → out ++ flat_map f (after n xs) ≡ whole
     → (out ++ f entry) ++ flat_map f (after entry.0 xs) ≡ whole
 reported_more f whole out xs n entry rising e before =
@@ -102,8 +100,8 @@ reported_more f whole out xs n entry rising e before =
     ∙ (ap (λ ys. out ++ flat_map f ys) (sym (some_above n xs entry rising e)) ∙ before)
 
 -- all are written
-reported_all : {X : Type 0} (f : ℕ × Upload → List X) (whole out : List X) (xs : List (ℕ × Upload)) (n : ℕ) → above n xs ≡ None
-    → out ++ flat_map f (after n xs) ≡ whole → out ≡ whole
+reported_all : {X : Type 0} (f : ℕ × Upload → List X) (whole out : List X) (xs : List (ℕ × Upload)) (n : ℕ)
+    → above n xs ≡ None → out ++ flat_map f (after n xs) ≡ whole → out ≡ whole
 reported_all f whole out xs n e before =
     sym (append-nil out) ∙ (ap (λ ys. out ++ flat_map f ys) (sym (none_above n xs e)) ∙ before)
 

@@ -1,12 +1,14 @@
 -- Files that are compared with texts, piece by piece.
-use Rattle.std.proofs.Common.{◌≡◌, ◌∙◌, ap, arith, refl, subst, sym, ℕ, ◌+◌, ◌≤◌, Bool, true, false, List}
+use Rattle.std.proofs.Common.{◌≡◌, ◌∙◌, ap, arith, subst, sym, ℕ, ◌+◌, ◌≤◌, Bool, true, false, List}
 use Rattle.std.proofs.Common.{◌++◌, length, take, drop}
 use Rattle.std.specs.Prelude.{bytes_eq}
 use Rattle.std.proofs.lemmas.List.{take_all}
 use Rattle.std.proofs.lemmas.Slice.Eq.{bytes_eq-Decides}
 use Rattle.tus_request.proofs.FieldLemmas.{bytes_eq_other}
 use Rattle.gateway_files.specs.Copies.{AreOf}
-use Rattle.gateway_files.specs.Exporting.{IsText}
+use Rattle.gateway_files.specs.Exporting.{IsLike, IsText}
+use Rattle.gateway_files.specs.declared.comparing.Likeness.{Likeness}
+use Rattle.gateway_files.specs.declared.comparing.Likeness.TheVariants.{Other, Same}
 use Rattle.gateway_files.proofs.Pieces.{are_both, take_on}
 
 same_eq : (x : List ℕ) → bytes_eq x x ≡ true
@@ -36,16 +38,25 @@ same_more sure bytes text at count before now =
     (subst (λ x. AreOf sure (take at bytes ++ take count (drop at bytes)) x) (take_on at count text)
     (are_both sure (take at bytes) (take count (drop at bytes)) (take at text) (take count (drop at text)) before now))
 
+-- what a comparison came to
+pub like_same : (sure : Bool) (bytes text : List ℕ) (likeness : Likeness) → likeness ≡ Same
+    → IsLike sure bytes text likeness → IsText sure bytes text true
+like_same sure bytes text likeness is like = rw is at like
+
+pub like_other : (sure : Bool) (bytes text : List ℕ) (likeness : Likeness) → likeness ≡ Other
+    → IsLike sure bytes text likeness → IsText sure bytes text false
+like_other sure bytes text likeness is like = rw is at like
+
 -- where one piece differs, all does
-pub whole_differs : (sure : Bool) (bytes text : List ℕ) (at count : ℕ) (same : Bool) → same ≡ false
-    → IsText sure (take count (drop at bytes)) (take count (drop at text)) same → IsText sure bytes text false
-whole_differs sure bytes text at count same differs piece = record {
+pub whole_differs : (sure : Bool) (bytes text : List ℕ) (at count : ℕ)
+    → IsText sure (take count (drop at bytes)) (take count (drop at text)) false → IsText sure bytes text false
+whole_differs sure bytes text at count piece = record {
   yes = λ never. absurd (cc);
   no = λ e. sym (bytes_eq_other bytes text (λ one.
       let equal : bytes_eq (take count (drop at bytes)) (take count (drop at text)) ≡ true =
       subst (λ z. bytes_eq (take count (drop at bytes)) (take count (drop at z)) ≡ true) one
       (same_eq (take count (drop at bytes))) in
-      let bad : true ≡ false = sym equal ∙ (sym (piece.no e) ∙ differs) in absurd (cc)));
+      let bad : true ≡ false = sym equal ∙ sym (piece.no e) in absurd (cc)));
 }
 
 -- and where its length does

@@ -3,31 +3,34 @@ use Rattle.std.proofs.Common.{◌≡◌, ◌∙◌, ◌⊎◌, ap, arith, inl, i
 use Rattle.std.proofs.Common.{Bool, true, false, ◌||◌, List, [], ◌∷◌, ◌++◌, get_or, length, map, take, if◌then◌else◌}
 use Rattle.std.proofs.Common.{Option, Some, None, Result, Ok, Err, IfOk, OnOk}
 use Rattle.std.proofs.Common.{option_map}
-use Rattle.std.specs.Prelude.{bytes_eq, not}
+use Rattle.std.specs.Prelude.{IfSome, bytes_eq, not, string_bytes}
 use Rattle.std.proofs.lemmas.List.{map-append, take-map, take_more}
 use Rattle.std.proofs.Math.Bool.{or-false, or_assoc}
 use Rattle.std.proofs.lemmas.Slice.Eq.{bytes_eq-Decides}
-use Rattle.tus_request.proofs.LineLemmas.{true_or_false}
+use Rattle.gateway_files.proofs.Bools.{true_or_false}
 use Rattle.upload_rules.specs.Reading.{text_at}
 use Rattle.upload_rules.specs.Store.{Store, upload_of}
 use Rattle.gateway_files.specs.Copies.{AreOf}
-use Rattle.gateway_files.specs.Exporting.{AllLast, AllThere, ExportedAs, Exports, ExportsAs, ExportsOneAs, ExportsSome}
-use Rattle.gateway_files.specs.Exporting.{ExportsSomeAs, HoldsEach, HoldsTexts, IsJob, IsText, differs_from}
-use Rattle.gateway_files.specs.Exporting.{differs_one, exported, exported_as, exported_one, is_other, some_differ}
-use Rattle.gateway_files.specs.Folders.{Files, HoldsAll, HoldsEither, PreservesFiles, new_file}
-use Rattle.gateway_files.specs.Planning.{Job, job_shown}
+use Rattle.gateway_files.specs.Exporting.{AllLast, AllThere, DoneAs, ExportedAs, Exports, ExportsAs, ExportsOneAs}
+use Rattle.gateway_files.specs.Exporting.{ExportsSome, FailsAs, TakenAs, WroteAs}
+use Rattle.gateway_files.specs.Exporting.{ExportsSomeAs, HoldsEach, HoldsTexts, IsFound, IsJob, TellsOf}
+use Rattle.gateway_files.specs.Exporting.{differs_from, differs_one, exported, exported_as, exported_one}
+use Rattle.gateway_files.specs.Exporting.{is_amiss, is_other, is_unread, some_amiss, some_differ}
+use Rattle.gateway_files.specs.Folders.{EndsAs, Files, HoldsAll, HoldsEither, PreservesFiles, new_file}
+use Rattle.gateway_files.specs.Planning.{Job, job_in}
 use Rattle.gateway_files.specs.declared.exporting.ExportTally.{ExportTally}
 use Rattle.gateway_files.specs.declared.outcomes.Outcome.{Outcome}
+use Rattle.gateway_files.specs.declared.outcomes.Outcome.TheVariants.{Unread}
 use Rattle.gateway_files.proofs.Pieces.{are_same}
 use Rattle.gateway_files.proofs.Named.{Apart}
 use Rattle.gateway_files.specs.declared.planning.Job as code
 
 -- one job more
-jobs_more : (jobs : List code.Job) (i : ℕ) (job : code.Job) → i < length jobs → job ≡ get_or jobs i job
-    → map job_shown (take i jobs) ++ job_shown job ∷ [] ≡ map job_shown (take (i + 1) jobs)
-jobs_more jobs i job lt is =
-    sym (ap (λ js. map job_shown js) (take_more jobs i job lt)
-    ∙ (ap (λ x. map job_shown (take i jobs ++ x ∷ [])) (sym is) ∙ map-append job_shown (take i jobs) (job ∷ [])))
+jobs_more : (shown : code.Job → Job) (jobs : List code.Job) (i : ℕ) (job : code.Job) → i < length jobs
+    → job ≡ get_or jobs i job → map shown (take i jobs) ++ shown job ∷ [] ≡ map shown (take (i + 1) jobs)
+jobs_more shown jobs i job lt is =
+    sym (ap (λ js. map shown js) (take_more jobs i job lt)
+    ∙ (ap (λ x. map shown (take i jobs ++ x ∷ [])) (sym is) ∙ map-append shown (take i jobs) (job ∷ [])))
 
 as_last : (sure : Bool) (m : Store) (files mid now : Files) (jobs : List Job) (job : Job)
     → ExportedAs sure m jobs files mid → ExportedAs sure m (job ∷ []) mid now
@@ -57,11 +60,11 @@ each_last P jobs job each one number name is = elim (last_or jobs job (number, S
   | inr same ↦ one number name (inl same)
 ]
 
-pub each_more : (P : ℕ → List ℕ → Type 0) (jobs : List code.Job) (i : ℕ) (job : code.Job) → i < length jobs
-    → job ≡ get_or jobs i job → Each P (map job_shown (take i jobs)) → Each P (job_shown job ∷ [])
-    → Each P (map job_shown (take (i + 1) jobs))
-each_more P jobs i job lt is each one =
-    subst (λ js. Each P js) (jobs_more jobs i job lt is) (each_last P (map job_shown (take i jobs)) (job_shown job) each
+pub each_more : (shown : code.Job → Job) (P : ℕ → List ℕ → Type 0) (jobs : List code.Job) (i : ℕ) (job : code.Job)
+    → i < length jobs → job ≡ get_or jobs i job → Each P (map shown (take i jobs)) → Each P (shown job ∷ [])
+    → Each P (map shown (take (i + 1) jobs))
+each_more shown P jobs i job lt is each one =
+    subst (λ js. Each P js) (jobs_more shown jobs i job lt is) (each_last P (map shown (take i jobs)) (shown job) each
     one)
 
 -- of the only one
@@ -116,58 +119,60 @@ there_still sure m mid now jobs preserves there number name is =
 neither : (a b : Bool) → (a || b) ≡ false → (a ≡ false) × (b ≡ false)
 neither a b is = (grind arith, grind arith)
 
-pub last_more : (lasting lasting' : List ℕ → Type 0) (jobs : List code.Job) (i : ℕ) (job : code.Job) (a b : Bool)
+pub last_more : (shown : code.Job → Job) (lasting lasting' : List ℕ → Type 0) (jobs : List code.Job) (i : ℕ)
+    (job : code.Job) (a b : Bool)
     → i < length jobs → job ≡ get_or jobs i job → ((name : List ℕ) → lasting name → lasting' name)
-    → (a ≡ false → AllLast lasting (map job_shown (take i jobs)))
-    → (b ≡ false → AllLast lasting' (job_shown job ∷ [])) → (a || b) ≡ false
-    → AllLast lasting' (map job_shown (take (i + 1) jobs))
-last_more lasting lasting' jobs i job a b lt is still each one none =
+    → (a ≡ false → AllLast lasting (map shown (take i jobs)))
+    → (b ≡ false → AllLast lasting' (shown job ∷ [])) → (a || b) ≡ false
+    → AllLast lasting' (map shown (take (i + 1) jobs))
+last_more shown lasting lasting' jobs i job a b lt is still each one none =
     let both = neither a b none in
-    each_more (λ number name. lasting' name) jobs i job lt is
+    each_more shown (λ number name. lasting' name) jobs i job lt is
     (λ number name among. still name (each both.0 number name among)) (one both.1)
 
 -- AN EXPORT THAT CAME SO FAR
-module _ (sure : Bool) (holds : Files → Type 0) (m : Store) (files : Files) (jobs : List code.Job) (i : ℕ) where
-  some_held : (now : Files) → holds now → ExportedAs sure m (map job_shown (take i jobs)) files now
-      → ExportsSomeAs sure holds m (map job_shown jobs) files
+module _ (shown : code.Job → Job) (sure : Bool) (holds : Files → Type 0) (m : Store) (files : Files)
+    (jobs : List code.Job) (i : ℕ) where
+  some_held : (now : Files) → holds now → ExportedAs sure m (map shown (take i jobs)) files now
+      → ExportsSomeAs sure holds m (map shown jobs) files
   some_held now held are = record {
     count = i;
     some = record {
       now = now;
       held = held;
-      are = subst (λ js. ExportedAs sure m js files now) (sym (take-map job_shown i jobs)) are;
+      are = subst (λ js. ExportedAs sure m js files now) (sym (take-map shown i jobs)) are;
       there = λ never. absurd (cc);
     };
   }
 
-  pub as_some : (differs : Bool) → ExportsAs sure differs holds m (map job_shown (take i jobs)) files
-      → ExportsSomeAs sure holds m (map job_shown jobs) files
+  pub as_some : (differs : Bool) → ExportsAs sure differs holds m (map shown (take i jobs)) files
+      → ExportsSomeAs sure holds m (map shown jobs) files
   as_some differs is = some_held is.now is.held is.are
 
-module _ (sure differs : Bool) (was holds : Files → Type 0) (m : Store) (files : Files) (jobs : List code.Job) (i : ℕ)
-    (job : code.Job) (lt : i < length jobs) (same : job ≡ get_or jobs i job)
-    (is : ExportsAs sure differs was m (map job_shown (take i jobs)) files) where
-  pub as_more : (other : Bool) → ExportsAs sure other holds m (job_shown job ∷ []) is.now
-      → ExportsAs sure (differs || other) holds m (map job_shown (take (i + 1) jobs)) files
+module _ (shown : code.Job → Job) (sure differs : Bool) (was holds : Files → Type 0) (m : Store) (files : Files)
+    (jobs : List code.Job) (i : ℕ) (job : code.Job) (lt : i < length jobs) (same : job ≡ get_or jobs i job)
+    (is : ExportsAs sure differs was m (map shown (take i jobs)) files) where
+  pub as_more : (other : Bool) → ExportsAs sure other holds m (shown job ∷ []) is.now
+      → ExportsAs sure (differs || other) holds m (map shown (take (i + 1) jobs)) files
   as_more other one = record {
     now = one.now;
     held = one.held;
-    are = subst (λ js. ExportedAs sure m js files one.now) (jobs_more jobs i job lt same)
-        (as_last sure m files is.now one.now (map job_shown (take i jobs)) (job_shown job) is.are one.are);
+    are = subst (λ js. ExportedAs sure m js files one.now) (jobs_more shown jobs i job lt same)
+        (as_last sure m files is.now one.now (map shown (take i jobs)) (shown job) is.are one.are);
     there = λ none.
         let both = neither differs other none in
-        each_more
+        each_more shown
         (λ number name. (bytes : List ℕ) × (one.now name ≡ Some bytes) × AreOf sure bytes
         (text_at m (upload_of m number))) jobs i job lt same
-        (there_still sure m is.now one.now (map job_shown (take i jobs))
-        (preserved sure m is.now one.now (job_shown job ∷ []) one.are) (is.there both.0)) (one.there both.1);
+        (there_still sure m is.now one.now (map shown (take i jobs))
+        (preserved sure m is.now one.now (shown job ∷ []) one.are) (is.there both.0)) (one.there both.1);
   }
 
   -- that was broken off in one
-  pub as_either : ExportsOneAs sure holds m (job_shown job) is.now
-      → ExportsSomeAs sure holds m (map job_shown jobs) files
-  as_either (inl held) = some_held sure holds m files jobs i is.now held is.are
-  as_either (inr one) = as_some sure holds m files jobs (i + 1) (differs || true) (as_more true one)
+  pub as_either : ExportsOneAs sure holds m (shown job) is.now
+      → ExportsSomeAs sure holds m (map shown jobs) files
+  as_either (inl held) = some_held shown sure holds m files jobs i is.now held is.are
+  as_either (inr one) = as_some shown sure holds m files jobs (i + 1) (differs || true) (as_more true one)
 
 -- ONE JOB: where its text is to be written and where not
 module _ (sure : Bool) (holds : Files → Type 0) (m : Store) (files : Files) where
@@ -204,24 +209,76 @@ module _ (sure : Bool) (holds : Files → Type 0) (m : Store) (files : Files) wh
       new_here : (files : Files) (name text : List ℕ) → new_file None files name text name ≡ Some text
       new_here files name text = grind (arith, bytes_eq-Decides name name)
 
-  pub as_ended : (n : ℕ) (name bytes : List ℕ) → AreOf sure bytes (text_at m (upload_of m n))
-      → HoldsEither holds files (exported_as files (Some name) bytes) → ExportsOneAs sure holds m (n, Some name) files
-  as_ended n name bytes are (inl held) = inl held
-  as_ended n name bytes are (inr held) = inr (record {
-    now = exported_as files (Some name) bytes;
-    held = held;
-    are = (bytes, are, refl);
-    there = λ never. absurd (cc);
-  })
+  pub as_ended : (n : ℕ) (name bytes : List ℕ) (taken : Bool) → AreOf sure bytes (text_at m (upload_of m n))
+      → HoldsEither taken holds files (exported_as files (Some name) bytes)
+      → FailsAs sure holds m (n, Some name) taken files
+  as_ended n name bytes taken are (inl held) = inl held
+  as_ended n name bytes taken are (inr both) = inr (
+    both.0,
+    record {
+      now = exported_as files (Some name) bytes;
+      held = both.1;
+      are = (bytes, are, refl);
+      there = λ never. absurd (cc);
+    },
+  )
+
+  pub wrote_as : (n : ℕ) (name bytes : List ℕ) (taken : Bool) → AreOf sure bytes (text_at m (upload_of m n))
+      → EndsAs taken holds files name bytes → WroteAs sure holds m (n, Some name) files taken
+  wrote_as n name bytes false are ended = ended
+  wrote_as n name bytes true are ended = as_new n name bytes ended.0 are ended.1
 
   -- that was there, and was compared
-  pub as_found : {E : Type 0} (result : Result Outcome E) (n : ℕ) (shown : Option (List ℕ)) (name bytes : List ℕ)
-      → shown ≡ Some name → files name ≡ Some bytes → holds files
-      → IfOk result (λ outcome. IsText sure bytes (text_at m (upload_of m n)) (not (is_other outcome)))
-      → IfOk result (λ outcome. ExportsAs sure (is_other outcome) holds m ((n, shown) ∷ []) files)
-  as_found (Err e) n shown name bytes named here held is = tt
-  as_found (Ok outcome) n shown name bytes named here held is =
-      rw named (as_there n name bytes (is_other outcome) here (λ same. is.yes (ap not same)) held)
+  pub as_found : (outcome : Outcome) (n : ℕ) (name bytes : List ℕ) → files name ≡ Some bytes → holds files
+      → IsFound sure bytes (text_at m (upload_of m n)) outcome
+      → ExportsAs sure (is_amiss outcome) holds m ((n, Some name) ∷ []) files
+  as_found outcome n name bytes here held is = as_there n name bytes (is_amiss outcome) here (λ none.
+      let both = neither (is_other outcome) (is_unread outcome) none in (is both.1).yes (ap not both.0)) held
+
+  -- that may have gone into the file of another name
+  pub done_none : (job : Job) (done : Option Outcome) → done ≡ None → DoneAs sure holds m job files done → holds files
+  done_none job end none is = rw none at is
+
+  pub done_some : (job : Job) (done : Option Outcome) (outcome : Outcome) → done ≡ Some outcome
+      → DoneAs sure holds m job files done → ExportsAs sure (is_amiss outcome) holds m (job ∷ []) files
+  done_some job end outcome some is = rw some at is
+
+  -- as the job has it
+  pub fails_as : (job it : Job) (taken : Bool) → (taken ≡ true → it ≡ job) → FailsAs sure holds m it taken files
+      → ExportsOneAs sure holds m job files
+  fails_as job it taken same (inl held) = inl held
+  fails_as job it taken same (inr both) =
+      inr (subst (λ (j : Job). ExportsAs sure true holds m (j ∷ []) files) (same both.0) both.1)
+
+-- whether its name was taken
+pub taken_none : (taken : Bool) (done : Option Outcome) → done ≡ None → TakenAs taken done → taken ≡ false
+taken_none taken end none is = rw none at is
+
+pub taken_some : (taken : Bool) (done : Option Outcome) (outcome : Outcome) → done ≡ Some outcome → TakenAs taken done
+    → taken ≡ true
+taken_some taken end outcome some is = rw some at is
+
+pub of_some : {A : Type 0} (P : A → Type 0) (found : Option A) (x : A) → found ≡ Some x → IfSome found P → P x
+of_some P found x some is = rw some at is
+
+pub one_lasts : {E : Type 0} (result : Result Outcome E) (lasting : List ℕ → Type 0) (n : ℕ) (name : List ℕ)
+    → IfOk result (λ outcome. is_amiss outcome ≡ false → lasting name)
+    → IfOk result (λ outcome. is_amiss outcome ≡ false → AllLast lasting ((n, Some name) ∷ []))
+one_lasts (Err e) lasting n name is = tt
+one_lasts (Ok outcome) lasting n name is = λ none. each_one (λ _ other. lasting other) n name (is none)
+
+-- the file of a job
+pub job_none : (takes : List ℕ → Bool) (job : code.Job) → option_map string_bytes job.name ≡ None
+    → (job_in takes job).1 ≡ None
+job_none takes job none = rw none refl
+
+pub job_first : (takes : List ℕ → Bool) (job : code.Job) (name : List ℕ) → option_map string_bytes job.name ≡ Some name
+    → takes name ≡ true → (job.number, Some name) ≡ job_in takes job
+job_first takes job name named taken = rw (named, taken) refl
+
+pub job_last : (takes : List ℕ → Bool) (job : code.Job) (name : List ℕ) → option_map string_bytes job.name ≡ Some name
+    → takes name ≡ false → (job.number, Some (string_bytes job.plain)) ≡ job_in takes job
+job_last takes job name named taken = rw (named, taken) refl
 
 -- the file that has so many bytes
 pub some_length : (there : Option (List ℕ)) (len : ℕ) → Some len ≡ option_map length there
@@ -234,17 +291,22 @@ not_not : (a b : Bool) → not a ≡ b → a ≡ not b
 not_not true b is = ap not is
 not_not false b is = ap not is
 
-pub found_differs : {E : Type 0} (result : Result Outcome E) (m : Store) (files : Files) (n : ℕ)
-    (shown : Option (List ℕ)) (name bytes : List ℕ) → shown ≡ Some name → files name ≡ Some bytes
-    → IfOk result (λ outcome. IsText true bytes (text_at m (upload_of m n)) (not (is_other outcome)))
-    → IfOk result (λ outcome. is_other outcome ≡ differs_one m files (n, shown))
-found_differs (Err e) m files n shown name bytes named here is = tt
-found_differs (Ok outcome) m files n shown name bytes named here is =
-    let text = text_at m (upload_of m n) in
-    rw named (not_not (is_other outcome) (bytes_eq bytes text) (is.no refl)
-    ∙ ap (λ there. differs_from there text) (sym here))
+-- one that is another was read
+other_read : (outcome : Outcome) → is_other outcome ≡ true → is_unread outcome ≡ false
+other_read (Unread name) other = absurd (cc)
+other_read outcome other = refl
 
--- whether or not one differs
+pub found_tells : (outcome : Outcome) (m : Store) (files : Files) (n : ℕ) (name bytes : List ℕ)
+    → files name ≡ Some bytes → IsFound true bytes (text_at m (upload_of m n)) outcome
+    → TellsOf (is_other outcome) (is_unread outcome) (differs_one m files (n, Some name))
+found_tells outcome m files n name bytes here is =
+    let text = text_at m (upload_of m n) in
+    let exact = λ (read : is_unread outcome ≡ false).
+    not_not (is_other outcome) (bytes_eq bytes text) ((is read).no refl)
+    ∙ ap (λ there. differs_from there text) (sym here) in
+    record { only = λ other. sym (exact (other_read outcome other)) ∙ other; all = exact }
+
+-- whether or not one is amiss
 pub any_one : {sure : Bool} {holds : Files → Type 0} {m : Store} {job : Job} {files : Files} (differs : Bool)
     → ExportsAs sure differs holds m (job ∷ []) files → ExportsAs sure true holds m (job ∷ []) files
 any_one differs is = record {
@@ -263,7 +325,7 @@ surely m (job ∷ jobs) files now is =
     ∙ ap (λ bytes. exported m (exported_as files job.1 bytes) jobs) (is.1.same refl)
 
 pub surely_all : {E : Type 0} (result : Result ExportTally E) (holds : Files → Type 0) (m : Store) (jobs : List Job)
-    (files : Files) → IfOk result (λ done. ExportsAs true done.differs holds m jobs files)
+    (files : Files) → IfOk result (λ done. ExportsAs true (some_amiss done) holds m jobs files)
     → OnOk result (holds (exported m files jobs))
 surely_all (Err e) holds m jobs files is = tt
 surely_all (Ok done) holds m jobs files is = subst holds (surely m jobs files is.now is.are) is.held
@@ -275,12 +337,12 @@ surely_some holds m jobs files is = record {
   held = subst holds (surely m (take is.count jobs) files is.some.now is.some.are) is.some.held;
 }
 
--- and if none differs, each has its text
+-- and if none is amiss, each has its text
 pub surely_each : {E : Type 0} (result : Result ExportTally E) (holds : Files → Type 0) (lasting : List ℕ → Type 0)
     (m : Store) (jobs : List Job) (files : Files)
-    → IfOk result (λ done. ExportsAs true done.differs holds m jobs files)
-    → IfOk result (λ done. done.differs ≡ false → AllLast lasting jobs)
-    → IfOk result (λ done. done.differs ≡ false → HoldsEach holds lasting m jobs)
+    → IfOk result (λ done. ExportsAs true (some_amiss done) holds m jobs files)
+    → IfOk result (λ done. some_amiss done ≡ false → AllLast lasting jobs)
+    → IfOk result (λ done. some_amiss done ≡ false → HoldsEach holds lasting m jobs)
 surely_each (Err e) holds lasting m jobs files is lasts = tt
 surely_each (Ok done) holds lasting m jobs files is lasts = λ none. record {
   now = is.now;
@@ -289,9 +351,9 @@ surely_each (Ok done) holds lasting m jobs files is lasts = λ none. record {
   lasts = lasts none;
 }
 
--- where it isn't asked whether one differs
+-- where it isn't asked whether one is amiss
 pub any_differs : {E : Type 0} (result : Result ExportTally E) (sure : Bool) (holds : Files → Type 0) (m : Store)
-    (jobs : List Job) (files : Files) → IfOk result (λ done. ExportsAs sure done.differs holds m jobs files)
+    (jobs : List Job) (files : Files) → IfOk result (λ done. ExportsAs sure (some_amiss done) holds m jobs files)
     → OnOk result (ExportsAs sure true holds m jobs files)
 any_differs (Err e) sure holds m jobs files is = tt
 any_differs (Ok done) sure holds m jobs files is = record {
@@ -301,7 +363,36 @@ any_differs (Ok done) sure holds m jobs files is = record {
   there = λ never. absurd (cc);
 }
 
--- WHETHER A FILE DIFFERS
+-- WHETHER A FILE DIFFERS, OR IS UNREAD
+amiss_both : (d u o n : Bool) → ((d || u) || (o || n)) ≡ ((d || o) || (u || n))
+amiss_both true u o n = refl
+amiss_both false true true n = refl
+amiss_both false true false n = refl
+amiss_both false false o n = refl
+
+-- a tally with one outcome more
+pub amiss_more : (d u o n d' u' : Bool) → d' ≡ (d || o) → u' ≡ (u || n) → ((d || u) || (o || n)) ≡ (d' || u')
+amiss_more d u o n d' u' p q = rw (p, q) (amiss_both d u o n)
+
+true_last : (x y : Bool) → y ≡ true → (x || y) ≡ true
+true_last true y e = refl
+true_last false y e = e
+
+tells_both : (a u x o n y : Bool) → TellsOf a u x → TellsOf o n y → TellsOf (a || o) (u || n) (x || y)
+tells_both a u x o n y first next = record {
+  only = λ told. elim (true_or_false a) [
+    | inl before ↦ ap (λ (b : Bool). b || y) (first.only before)
+    | inr unlike ↦ true_last x y (next.only (sym (ap (λ (b : Bool). b || o) unlike) ∙ told))
+  ];
+  all = λ none.
+      let both = neither u n none in
+      ap (λ (b : Bool). b || o) (first.all both.0) ∙ ap (λ (b : Bool). x || b) (next.all both.1);
+}
+
+pub tells_more : (a u x o n y d' u' z : Bool) → TellsOf a u x → TellsOf o n y → d' ≡ (a || o) → u' ≡ (u || n)
+    → (x || y) ≡ z → TellsOf d' u' z
+tells_more a u x o n y d' u' z first next p q r = rw (p, q, ← r) (tells_both a u x o n y first next)
+
 differ_last : (m : Store) (files : Files) (jobs : List Job) (job : Job)
     → some_differ m files (jobs ++ job ∷ []) ≡ (some_differ m files jobs || differs_one m (exported m files jobs) job)
 differ_last m files [] job = or-false (differs_one m files job)
@@ -310,15 +401,15 @@ differ_last m files (first ∷ jobs) job =
     ∙ sym (or_assoc (differs_one m files first) (some_differ m (exported_one m files first) jobs)
     (differs_one m (exported m files (first ∷ jobs)) job))
 
-pub differ_more : (m : Store) (files now : Files) (jobs : List code.Job) (i : ℕ) (job : code.Job)
-    → i < length jobs → job ≡ get_or jobs i job → ExportedAs true m (map job_shown (take i jobs)) files now
-    → (some_differ m files (map job_shown (take i jobs)) || differs_one m now (job_shown job))
-    ≡ some_differ m files (map job_shown (take (i + 1) jobs))
-differ_more m files now jobs i job lt same is =
-    let done : List Job = map job_shown (take i jobs) in
-    let it : Job = job_shown job in
+pub differ_more : (shown : code.Job → Job) (m : Store) (files now : Files) (jobs : List code.Job) (i : ℕ)
+    (job : code.Job) → i < length jobs → job ≡ get_or jobs i job → ExportedAs true m (map shown (take i jobs)) files now
+    → (some_differ m files (map shown (take i jobs)) || differs_one m now (shown job))
+    ≡ some_differ m files (map shown (take (i + 1) jobs))
+differ_more shown m files now jobs i job lt same is =
+    let done : List Job = map shown (take i jobs) in
+    let it : Job = shown job in
     ap (λ (f : Files). some_differ m files done || differs_one m f it) (surely m done files now is)
-    ∙ (sym (differ_last m files done it) ∙ ap (λ js. some_differ m files js) (jobs_more jobs i job lt same))
+    ∙ (sym (differ_last m files done it) ∙ ap (λ js. some_differ m files js) (jobs_more shown jobs i job lt same))
 
 -- WHAT AN EXPORT LEAVES
 

@@ -1,3 +1,4 @@
+mod Bools
 mod Writing
 mod Above
 mod InOrder

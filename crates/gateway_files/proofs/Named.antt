@@ -7,7 +7,7 @@ use Rattle.std.specs.Str.Parse.{digits_value}
 use Rattle.std.proofs.lemmas.Fmt.{decimal_by_steps, decimal_is_IsNumeral}
 use Rattle.spool_disk.specs.declared.disk.Disk.{Ghosts}
 use Rattle.spool_image.specs.LeftOnly.{IsSpool}
-use Rattle.tus_request.proofs.LineLemmas.{true_or_false}
+use Rattle.gateway_files.proofs.Bools.{true_or_false}
 use Rattle.upload_rules.specs.Slots.{IsRising}
 use Rattle.upload_rules.specs.Store.{Store, Upload, find, is_complete}
 use Rattle.gateway_files.specs.Exporting.{IsJob}

@@ -2,7 +2,7 @@
 use Rattle.std.proofs.Common.{◌≡◌, ◌⊎◌, ℕ, List, Bool, true, false, Option, Some, None, inl, inr, ap, refl, subst}
 use Rattle.std.specs.Str.{IsUtf8, is_utf8}
 use Rattle.std.proofs.lemmas.Str.{IsUtf8-from_is_utf8, is_utf8-from_IsUtf8}
-use Rattle.tus_request.proofs.LineLemmas.{true_or_false}
+use Rattle.gateway_files.proofs.Bools.{true_or_false}
 use Rattle.gateway_files.specs.Naming.{text_in}
 
 pub text_some : (bytes text : List ℕ) → text ≡ bytes → IsUtf8 text → Some text ≡ text_in (Some bytes)

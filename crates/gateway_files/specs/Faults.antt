@@ -1,10 +1,13 @@
 -- Why the program ends before its work is done: what it prints of that, and its status.
 use Rattle.std.specs.Prelude.{ℕ, List, [], ◌∷◌, ◌++◌, codes, decimal, Option, Some, None}
 use Rattle.std.specs.Borrow.{Bor}
+use Rattle.std.specs.IoError.{error_kind}
 use Rattle.std.specs.declared.io.ErrorKind.{ErrorKind}
 use Rattle.std.specs.declared.io.ErrorKind.TheVariants as kinds
 use Rattle.common.specs.declared.stop.Stop.TheVariants as stops
 use Rattle.enc_index.specs.declared.kind.ReadError.TheVariants as lines
+use Rattle.spool_disk.specs.declared.file.CreateError.{CreateError}
+use Rattle.spool_disk.specs.declared.file.CreateError.TheVariants as creates
 use Rattle.spool_image.specs.declared.error.FormatError.{FormatError}
 use Rattle.spool_image.specs.declared.error.FormatError.TheVariants as formats
 use Rattle.spool_image.specs.declared.error.UpgradeError.{UpgradeError}
@@ -70,6 +73,15 @@ abbrev pub opening_fault : ErrorKind → Fault
 opening_fault kinds.ResourceBusy = faults.InUse
 opening_fault kinds.OutOfMemory = faults.Stop stops.NoMemory
 opening_fault kind = faults.CannotOpen
+
+-- why one that is open isn't lengthened or synced
+abbrev pub lengthening_fault : ErrorKind → Fault
+lengthening_fault kinds.OutOfMemory = faults.Stop stops.NoMemory
+lengthening_fault kind = faults.Stop stops.DiskFault
+
+abbrev pub creating_fault : CreateError → Fault
+creating_fault (creates.Open error) = opening_fault (error_kind error)
+creating_fault (creates.Lengthen error) = lengthening_fault (error_kind error)
 
 -- WHAT THE CALLS BELOW REFUSE, as the program's fault
 abbrev pub open_fault : OpenFault → Fault

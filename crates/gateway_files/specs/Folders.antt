@@ -1,5 +1,5 @@
 -- The files of a folder.
-use Rattle.std.specs.Prelude.{◌≡◌, ◌⊎◌, List, Option, None, Some, ℕ, bytes_eq, if◌then◌else◌}
+use Rattle.std.specs.Prelude.{◌≡◌, ◌⊎◌, Bool, true, false, List, Option, None, Some, ℕ, bytes_eq, if◌then◌else◌}
 
 -- the content of the file of each name, where there is one
 abbrev pub Files : Type 0
@@ -14,9 +14,14 @@ abbrev pub new_file : Option (List ℕ) → Files → List ℕ → List ℕ → 
 new_file (Some there) files name bytes = files
 new_file None files name bytes = with_file files name bytes
 
--- these files are held, or those
-abbrev pub HoldsEither : (Files → Type 0) → Files → Files → Type 0
-HoldsEither holds these those = holds these ⊎ holds those
+-- an end of a file that failed: these files are held, or those, where it may have the name
+abbrev pub HoldsEither : Bool → (Files → Type 0) → Files → Files → Type 0
+HoldsEither taken holds these those = holds these ⊎ ((taken ≡ true) × holds those)
+
+-- a file that was ended: it has the name, which none had; or none may have it, and nothing of it is there
+abbrev pub EndsAs : Bool → (Files → Type 0) → Files → List ℕ → List ℕ → Type 0
+EndsAs true holds files name bytes = (files name ≡ None) × holds (with_file files name bytes)
+EndsAs false holds files name bytes = holds files
 
 -- each file that was there is there still, with the same content
 abbrev pub PreservesFiles : Files → Files → Type 0

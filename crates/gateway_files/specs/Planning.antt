@@ -9,8 +9,14 @@ use Rattle.gateway_files.specs.declared.planning.Job as code
 abbrev pub Job : Type 0
 Job = ℕ × Option (List ℕ)
 
-abbrev pub job_shown : code.Job → Job
-job_shown job = (job.number, option_map string_bytes job.name)
+-- the first name where the folder takes it, and else the second
+abbrev pub taken_or : (List ℕ → Bool) → List ℕ → List ℕ → List ℕ
+taken_or takes name plain = if takes name then name else plain
+
+-- a job as the code has it, in a folder that takes these names
+abbrev pub job_in : (List ℕ → Bool) → code.Job → Job
+job_in takes job =
+    (job.number, option_map (λ name. taken_or takes name (string_bytes job.plain)) (option_map string_bytes job.name))
 
 -- the name by an upload's number, and the one by its number and a name that its metadata gives
 abbrev pub number_name : ℕ → List ℕ
@@ -19,9 +25,9 @@ number_name n = decimal n ++ codes ".txt"
 abbrev pub long_name : ℕ → List ℕ → List ℕ
 long_name n name = decimal n ++ (45 ∷ name)
 
-abbrev pub name_or : Option (List ℕ) → ℕ → List ℕ
-name_or None n = number_name n
-name_or (Some name) n = name
+abbrev pub name_or : (List ℕ → Bool) → Option (List ℕ) → ℕ → List ℕ
+name_or takes None n = number_name n
+name_or takes (Some name) n = taken_or takes name (number_name n)
 
 -- where that is safe, has at most 255 bytes, and is one that the folder takes
 abbrev pub chosen : (List ℕ → Bool) → ℕ → Option (List ℕ) → List ℕ

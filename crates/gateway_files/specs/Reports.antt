@@ -45,6 +45,16 @@ found_lines file (Other count) =
 abbrev pub file_lines : IndexFile → List ℕ
 file_lines file = found_lines file file.found
 
+-- and where texts are only shown by it: nothing but of another one
+abbrev pub other_line_of : IndexFile → Found → List ℕ
+other_line_of file (Other count) =
+    codes "WARNING: " ++ (file.name.now ++ (codes " isn't the standard's: what is in " ++ (file.encodings.now
+    ++ codes " may be read wrong\n")))
+other_line_of file found = []
+
+abbrev pub other_line : IndexFile → List ℕ
+other_line file = other_line_of file file.found
+
 -- and of an index in a spool: of the standard's nothing
 abbrev pub held_lines : IndexFile → Found → List ℕ
 held_lines file Missing =

@@ -1,9 +1,14 @@
 -- Files that spools are in, by their paths, and what a call leaves in one.
-use Rattle.std.specs.Prelude.{◌≡◌, List, Option, Some, ℕ, bytes_eq, if◌then◌else◌}
+use Rattle.std.specs.Prelude.{◌≡◌, List, [], ◌∷◌, Option, Some, ℕ, bytes_eq, true, false, if◌then◌else◌}
 use Rattle.std.specs.declared.io.ErrorKind.{ErrorKind}
 use Rattle.spool_disk.specs.Disk.{IsImage, Preserves}
+use Rattle.spool_disk.specs.File.{calls_in, failed_in, length_of}
+use Rattle.spool_disk.specs.Positioned.{made, opened}
 use Rattle.spool_disk.specs.Views.{Lasts}
 use Rattle.spool_disk.specs.declared.disk.Disk.{Ghosts}
+use Rattle.spool_disk.specs.declared.file.PositionedDisk.{PositionedDisk}
+use Rattle.spool_disk.specs.declared.positioned.FileCall.TheVariants.{Len}
+use Rattle.spool_disk.specs.declared.system_file.SystemFile.{SystemFile}
 use Rattle.gateway_files.specs.Failures.{fault_in}
 use Rattle.gateway_files.specs.Faults.{opening_fault}
 use Rattle.gateway_files.specs.declared.failures.Failure.{Failure}
@@ -31,6 +36,11 @@ pub record LeavesOthers {D : Type 0} (holds : Disks D → Type 0) (disks : Disks
 -- why a file isn't opened: by the system's error
 abbrev pub IsNotOpened : Failure → Type 0
 IsNotOpened failure = (kind : ErrorKind) × (fault_in failure ≡ opening_fault kind)
+
+-- a file that was only opened: of it nothing was asked but its length, and no call failed
+abbrev pub IsJustOpened : PositionedDisk SystemFile → Type 0
+IsJustOpened disk =
+    (failed_in disk ≡ 0) × (calls_in disk ≡ made (Len (length_of disk)) [] true ∷ opened false)
 
 -- this was answered, since the file wasn't opened, and its disk is as it was
 pub record NotOpened {D : Type 0} (d : D) (failure : Failure) (d' : D) : Type 0 where

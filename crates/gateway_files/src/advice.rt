@@ -19,8 +19,12 @@ pub enum Task<'a> {
     UseSpool(&'a str),
     /// Looking into this folder for index files.
     FindFolder(&'a str),
+    /// Looking into this folder, into which texts are to be written.
+    FindTextFolder(&'a str),
     /// Making or writing a file in this folder.
     WriteInto(&'a str),
+    /// Reading or syncing a file of this folder, which an upload's text is to be in.
+    ReadTexts(&'a str),
     /// Reading the index file of this name in this folder.
     ReadIndex(&'a str, &'static str),
     /// Listening at this address.
@@ -44,8 +48,11 @@ impl fmt::Display for Task<'_> {
             Task::FitSpool(path) => write!(f, "no room for the spool {path}"),
             Task::OpenSpool(path) => write!(f, "cannot open the spool {path}"),
             Task::UseSpool(path) => write!(f, "cannot read or write the spool {path}"),
-            Task::FindFolder(path) => write!(f, "cannot look into the folder {path}"),
+            Task::FindFolder(path) | Task::FindTextFolder(path) => {
+                write!(f, "cannot look into the folder {path}")
+            }
             Task::WriteInto(path) => write!(f, "cannot write into the folder {path}"),
+            Task::ReadTexts(path) => write!(f, "cannot read or sync a file in {path}"),
             Task::ReadIndex(folder, file) => write!(f, "cannot read {folder}/{file}"),
             Task::Listen(address) => write!(f, "cannot listen at {address}"),
             Task::ReadWords => f.write_str("cannot read the command line"),
@@ -64,6 +71,12 @@ impl Task<'_> {
             }
             (Task::FindFolder(_), ErrorKind::NotFound) => {
                 ". The standard's index files are in /usr/share/wovelatsa/indexes, or encoding.spec.whatwg.org has them"
+            }
+            (Task::FindTextFolder(_), ErrorKind::NotFound) => {
+                ". The texts are written into a folder that is there: make it first"
+            }
+            (Task::ReadTexts(_), _) => {
+                ". Make what is `unread` readable, or move it away, and export again: the others are written"
             }
             _ => "",
         }
@@ -97,7 +110,7 @@ pub enum Advice<'a> {
     Undeleted,
     /// The number of blocks is out of range.
     Blocks,
-    /// A file in this folder isn't as long as its upload's text.
+    /// A file in this folder isn't its upload's text.
     Differs(&'a str),
     /// A text can't be shown as asked.
     Text(TextAdvice<'a>),
@@ -190,12 +203,12 @@ impl fmt::Display for TextAdvice<'_> {
             ),
             TextAdvice::Lacks(label, Some(character), bytes) => write!(
                 f,
-                "{label} lacks U+{:04X}, after the {bytes} bytes that were written: --mode html writes its number",
+                "{label} lacks U+{:04X}, after the {bytes} bytes that were written: --mode html writes `&#NUMBER;`",
                 u32::from(*character)
             ),
             TextAdvice::Lacks(label, None, bytes) => write!(
                 f,
-                "{label} lacks a character, after the {bytes} bytes that were written: --mode html writes its number"
+                "{label} lacks a character, after the {bytes} bytes that were written: --mode html writes `&#NUMBER;`"
             ),
         }
     }

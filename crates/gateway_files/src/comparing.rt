@@ -9,27 +9,40 @@ ghost use Rattle.upload_rules.specs.Store.{upload_of};
 ghost use Rattle.upload_rules.specs.World.{World};
 ghost use Rattle.gateway_files.specs.declared.faults.Fault.{Fault};
 ghost use Rattle.gateway_files.specs.Changing.{IsChangeFault};
-ghost use Rattle.gateway_files.specs.Exporting.{IsText};
+ghost use Rattle.gateway_files.specs.Exporting.{IsLike};
 ghost use Rattle.gateway_files.specs.Folders.{Files, StillLast};
 
 use crate::copies::{PIECE, read_at};
 use crate::faults::Fault;
 use crate::folders::Folder;
+use std::io;
 use upload_rules::Uploads;
 
+/// Whether a file that is there is a text.
+#[derive(Clone, Copy, Drop)]
+pub(crate) enum Likeness {
+    /// It is, byte for byte.
+    Same,
+    /// It isn't.
+    Other,
+    /// It couldn't be read.
+    Unread,
+}
+
 /// Whether the file of this name, which has so many bytes, is the text of an upload, byte for byte. The text is read up
-/// to the first piece that differs.
-pub(crate) fn is_text<F: Folder, U: Uploads>(
+/// to the first piece that differs, or that couldn't be read in the file.
+pub(crate) fn compare_text<F: Folder, U: Uploads>(
     folder: &mut F,
     uploads: &mut U,
     number: u64,
     name: &str,
     len: u64,
-) -> Result<bool, Fault>
+) -> Result<Likeness, Fault>
     ensures same { (sure : Bool) (w : World) → U.represents uploads.old sure w → (files : Files) (bytes : List ℕ)
         → F.holds folder.old files → files name.now ≡ Some bytes → len ≡ length bytes
-        → IfOk result (IsText sure bytes (text_at w.store (upload_of w.store number))) }
+        → IfOk result (IsLike sure bytes (text_at w.store (upload_of w.store number))) }
     ensures preserves { (files : Files) → F.holds folder.old files → F.holds folder.new files }
+    ensures names { F.takes folder.new ≡ F.takes folder.old }
     ensures still { StillLast (F.lasting folder.old) (F.lasting folder.new) }
     ensures represents { (sure : Bool) (w : World) → U.represents uploads.old sure w
         → OnOk result (U.represents uploads.new sure w) }
@@ -41,17 +54,18 @@ pub(crate) fn is_text<F: Folder, U: Uploads>(
     ensures reads { MoreReads (U.reads uploads.old) (U.reads uploads.new) }
 {
     if len != text_len(uploads, number) {
-        return Ok(false);
+        return Ok(Likeness::Other);
     }
     let mut at = 0;
     while at < len {
         let count = (len - at).min(PIECE as u64);
-        if !has_piece(folder, uploads, number, name, at, count as usize)? {
-            return Ok(false);
+        match compare_piece(folder, uploads, number, name, at, count as usize)? {
+            Likeness::Same => at += count,
+            Likeness::Other => return Ok(Likeness::Other),
+            Likeness::Unread => return Ok(Likeness::Unread),
         }
-        at += count;
     }
-    Ok(true)
+    Ok(Likeness::Same)
 }
 
 // How many bytes the text of an upload has.
@@ -66,21 +80,22 @@ fn text_len<U: Uploads>(uploads: &U, number: u64) -> u64
 }
 
 // Whether the file of this name has so many bytes of a text, from `at` on.
-fn has_piece<F: Folder, U: Uploads>(
+fn compare_piece<F: Folder, U: Uploads>(
     folder: &mut F,
     uploads: &mut U,
     number: u64,
     name: &str,
     at: u64,
     count: usize,
-) -> Result<bool, Fault>
+) -> Result<Likeness, Fault>
     requires { count ≤ PIECE }
     ensures same { (sure : Bool) (w : World) → U.represents uploads.old sure w → (files : Files) (bytes : List ℕ)
         → F.holds folder.old files → files name.now ≡ Some bytes
         → at + count ≤ length (text_at w.store (upload_of w.store number))
-        → IfOk result (IsText sure (take count (drop at bytes))
+        → IfOk result (IsLike sure (take count (drop at bytes))
         (take count (drop at (text_at w.store (upload_of w.store number))))) }
     ensures preserves { (files : Files) → F.holds folder.old files → F.holds folder.new files }
+    ensures names { F.takes folder.new ≡ F.takes folder.old }
     ensures still { StillLast (F.lasting folder.old) (F.lasting folder.new) }
     ensures represents { (sure : Bool) (w : World) → U.represents uploads.old sure w
         → OnOk result (U.represents uploads.new sure w) }
@@ -94,5 +109,23 @@ fn has_piece<F: Folder, U: Uploads>(
     let mut buffer = [0; PIECE];
     let piece = &mut buffer[..count];
     read_at(uploads, number, at, piece)?;
-    Ok(folder.has_at(name, at, piece)?)
+    match folder.has_at(name, at, piece) {
+        Ok(true) => Ok(Likeness::Same),
+        Ok(false) => Ok(Likeness::Other),
+        Err(error) => {
+            pass_over(error)?;
+            Ok(Likeness::Unread)
+        }
+    }
+}
+
+/// A file that is there couldn't be read or synced, which is no reason to leave the others. Refused with `NoMemory`,
+/// where that is why.
+pub(crate) fn pass_over(error: io::Error) -> Result<(), Fault>
+    ensures { IfErr result (λ fault. fault ≡ Fault.Stop Stop.NoMemory) }
+{
+    match Fault::from(error) {
+        Fault::Stop(stop) => Err(Fault::Stop(stop)),
+        _ => Ok(()),
+    }
 }

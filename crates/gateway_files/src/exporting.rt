@@ -14,12 +14,14 @@ ghost use Rattle.spool_image.specs.Opening.{OpeningReadsBy};
 ghost use Rattle.gateway_files.specs.declared.faults.Fault.{Fault};
 ghost use Rattle.gateway_files.specs.Changing.{IsChangeResult, IsChangeFault};
 ghost use Rattle.gateway_files.specs.Exporting.{AllLast, Exports, ExportsAs, ExportsSome, ExportsSomeAs, HoldsEach};
-ghost use Rattle.gateway_files.specs.Exporting.{exported, is_other, some_differ, summary_line};
+ghost use Rattle.gateway_files.specs.Exporting.{TellsOf, exported, is_other, is_unread, some_amiss, some_differ};
+ghost use Rattle.gateway_files.specs.Exporting.{summary_line};
+ghost use Rattle.gateway_files.specs.Failures.{fault_in};
 ghost use Rattle.gateway_files.specs.Folders.{Files, HoldsAll, StillLast};
 ghost use Rattle.gateway_files.specs.Leaving.{LeavesOne};
 ghost use Rattle.gateway_files.specs.Lines.{IsInOrder};
 ghost use Rattle.gateway_files.specs.Listing.{AnswersAs, ListRefusedFor, RefusesListAs};
-ghost use Rattle.gateway_files.specs.Planning.{job_shown, jobs_of};
+ghost use Rattle.gateway_files.specs.Planning.{job_in, jobs_of};
 
 use crate::advice::{Advice, Task};
 use crate::failures::Failure;
@@ -37,8 +39,8 @@ use upload_rules::Uploads;
 
 /// Writes the text of each complete upload of a spool, or of each upload, into a file of its own in a folder, and
 /// prints a line for each upload. A file gets its name once it is whole. A file that was there before stays as it is,
-/// and the others are still written. If such a file isn't its upload's text, byte for byte, the call is refused at the
-/// end, with `FileDiffers`.
+/// and the others are still written. If such a file couldn't be read or synced, the call is refused at the end, with
+/// `Io`; or else, if one isn't its upload's text, byte for byte, with `FileDiffers`.
 pub fn export_file<'a>(
     rt: &'a HostRuntime,
     alloc: Global,
@@ -50,6 +52,7 @@ pub fn export_file<'a>(
     let mut files = FileFolder::find(rt, alloc, folder)?;
     let (disk, exported) = export_on(alloc, &mut output, &mut files, open_spool(rt, spool)?, all);
     match (exported, files.error()) {
+        (Ok(done), _) if done.unread => Err(unread_in(folder, files.unread())),
         (Ok(done), _) if done.differs => {
             Err(Failure::advised(Fault::FileDiffers, Advice::Differs(folder)))
         }
@@ -59,6 +62,16 @@ pub fn export_file<'a>(
         }
         (Err(Fault::Io), None) => Err(Failure::on_streams(Fault::Io, None, output.error())),
         (Err(fault), _) => Err(refused_spool(fault, spool, disk)),
+    }
+}
+
+// Some files of this folder couldn't be read or synced, the first for this reason.
+fn unread_in<'a>(folder: &'a str, error: Option<io::Error>) -> Failure<'a>
+    ensures { fault_in result ≡ Fault.Io }
+{
+    match error {
+        Some(error) => Failure::new(Fault::Io, Task::ReadTexts(folder), error),
+        None => Failure::from(Fault::Io),
     }
 }
 
@@ -80,9 +93,10 @@ pub fn export_on<D: Disk + Drop, F: Folder, W: Write>(
     ensures preserves { (files : Files) → F.holds folder.old files → HoldsAll (F.holds folder.new) files }
     ensures still { StillLast (F.lasting folder.old) (F.lasting folder.new) }
 
-    // If no file differs, every text is in its file, byte for byte, and lasts: written now, or compared and synced.
+    // If no file differs and none is unread, every text is in its file, byte for byte, and lasts: written now, or
+    // compared and synced.
     ensures each { (n : ℕ) (m : Store) → IsSpool D.Disk disk n m → (files : Files) → F.holds folder.old files
-        → IfOk result.1 (λ done. done.differs ≡ false
+        → IfOk result.1 (λ done. some_amiss done ≡ false
         → HoldsEach (F.holds folder.new) (F.lasting folder.new) m (jobs_of (F.takes folder.old) all m)) }
 
     // However it ends, no file of an upload's name has a part of a text: the folder holds what it does after some of
@@ -90,9 +104,11 @@ pub fn export_on<D: Disk + Drop, F: Folder, W: Write>(
     ensures whole { (n : ℕ) (m : Store) → IsSpool D.Disk disk n m → (files : Files) → F.holds folder.old files
         → ExportsSome (F.holds folder.new) m (jobs_of (F.takes folder.old) all m) files }
 
-    // `differs` is whether a file that was there isn't its upload's text.
+    // `differs` is whether a file that was there isn't its upload's text: never if none is another, and exactly so if
+    // none is unread.
     ensures differs { (n : ℕ) (m : Store) → IsSpool D.Disk disk n m → (files : Files) → F.holds folder.old files
-        → IfOk result.1 (λ done. done.differs ≡ some_differ m files (jobs_of (F.takes folder.old) all m)) }
+        → IfOk result.1 (λ done. TellsOf done.differs done.unread
+        (some_differ m files (jobs_of (F.takes folder.old) all m))) }
 
     // The disk shows the same uploads still, and a crash at any moment of it leaves them.
     ensures shows { (n : ℕ) (m : Store) → IsSpool D.Disk disk n m → IsOk result.1 → AllShow D.Disk result.0 n m }
@@ -137,9 +153,9 @@ pub fn export_uploads<W: Write, F: Folder, U: Uploads>(
 ) -> Result<ExportTally, Fault>
     // On any disk, for the uploads that they represent: the folder holds a file of each text that is to be written,
     // where there was none of its name. It has as many bytes as the text, and is the text if that is sure; so is each
-    // file that was there, unless one differs.
+    // file that was there, unless one differs or is unread.
     ensures files { (sure : Bool) (w : World) → U.represents uploads.old sure w → IsInOrder w.store → (files : Files)
-        → F.holds folder.old files → IfOk result (λ done. ExportsAs sure done.differs (F.holds folder.new) w.store
+        → F.holds folder.old files → IfOk result (λ done. ExportsAs sure (some_amiss done) (F.holds folder.new) w.store
         (jobs_of (F.takes folder.old) all w.store) files) }
 
     // However it ends, the folder holds what it does after some of the uploads, and each file that was there.
@@ -148,12 +164,14 @@ pub fn export_uploads<W: Write, F: Folder, U: Uploads>(
         → ExportsSomeAs sure (F.holds folder.new) w.store (jobs_of (F.takes folder.old) all w.store) files }
     ensures preserves { (files : Files) → F.holds folder.old files → HoldsAll (F.holds folder.new) files }
 
-    // `differs` is whether a file that was there isn't its upload's text. If none is, all their files last.
+    // `differs` is whether a file that was there isn't its upload's text, as far as they were read. If none differs and
+    // none is unread, all their files last.
     ensures differs { (w : World) → U.represents uploads.old true w → IsInOrder w.store → (files : Files)
         → F.holds folder.old files
-        → IfOk result (λ done. done.differs ≡ some_differ w.store files (jobs_of (F.takes folder.old) all w.store)) }
+        → IfOk result (λ done. TellsOf done.differs done.unread
+        (some_differ w.store files (jobs_of (F.takes folder.old) all w.store))) }
     ensures settled { (sure : Bool) (w : World) → U.represents uploads.old sure w → IsInOrder w.store
-        → (files : Files) → F.holds folder.old files → IfOk result (λ done. done.differs ≡ false
+        → (files : Files) → F.holds folder.old files → IfOk result (λ done. some_amiss done ≡ false
         → AllLast (F.lasting folder.new) (jobs_of (F.takes folder.old) all w.store)) }
     ensures still { StillLast (F.lasting folder.old) (F.lasting folder.new) }
 
@@ -182,6 +200,8 @@ pub struct ExportTally {
     pub there: u64,
     /// A file that was there isn't its upload's text.
     pub differs: bool,
+    /// A file that was there couldn't be read or synced.
+    pub unread: bool,
 }
 
 // Writes texts into files, and a line for each upload.
@@ -192,15 +212,16 @@ fn do_jobs<W: Write, F: Folder, U: Uploads>(
     jobs: &[Job],
 ) -> Result<ExportTally, Fault>
     ensures files { (sure : Bool) (w : World) → U.represents uploads.old sure w → (files : Files)
-        → F.holds folder.old files → IfOk result (λ done. ExportsAs sure done.differs (F.holds folder.new) w.store
-        (map job_shown jobs.now) files) }
+        → F.holds folder.old files → IfOk result (λ done. ExportsAs sure (some_amiss done) (F.holds folder.new) w.store
+        (map (job_in (F.takes folder.old)) jobs.now) files) }
     ensures whole { (sure : Bool) (w : World) → U.represents uploads.old sure w → (files : Files)
         → F.holds folder.old files
-        → ExportsSomeAs sure (F.holds folder.new) w.store (map job_shown jobs.now) files }
+        → ExportsSomeAs sure (F.holds folder.new) w.store (map (job_in (F.takes folder.old)) jobs.now) files }
     ensures differs { (w : World) → U.represents uploads.old true w → (files : Files) → F.holds folder.old files
-        → IfOk result (λ done. done.differs ≡ some_differ w.store files (map job_shown jobs.now)) }
-    ensures settled { (files : Files) → F.holds folder.old files → IfOk result (λ done. done.differs ≡ false
-        → AllLast (F.lasting folder.new) (map job_shown jobs.now)) }
+        → IfOk result (λ done. TellsOf done.differs done.unread
+        (some_differ w.store files (map (job_in (F.takes folder.old)) jobs.now))) }
+    ensures settled { (files : Files) → F.holds folder.old files → IfOk result (λ done. some_amiss done ≡ false
+        → AllLast (F.lasting folder.new) (map (job_in (F.takes folder.old)) jobs.now)) }
     ensures still { StillLast (F.lasting folder.old) (F.lasting folder.new) }
     ensures preserves { (files : Files) → F.holds folder.old files → HoldsAll (F.holds folder.new) files }
     ensures represents { (sure : Bool) (w : World) → U.represents uploads.old sure w
@@ -216,6 +237,7 @@ fn do_jobs<W: Write, F: Folder, U: Uploads>(
         exported: 0,
         there: 0,
         differs: false,
+        unread: false,
     };
     for job in jobs {
         let outcome = do_job(writer, folder, uploads, job)?;
@@ -227,7 +249,8 @@ fn do_jobs<W: Write, F: Folder, U: Uploads>(
 impl ExportTally {
     // With one upload more.
     fn and(self, outcome: Outcome) -> Self
-        ensures { result.differs ≡ (self.differs || is_other outcome.entry) }
+        ensures differs { result.differs ≡ (self.differs || is_other outcome.entry) }
+        ensures unread { result.unread ≡ (self.unread || is_unread outcome.entry) }
     {
         ExportTally {
             exported: self
@@ -237,6 +260,7 @@ impl ExportTally {
                 .there
                 .saturating_add(matches!(outcome, Outcome::There(_)) as u64),
             differs: self.differs || matches!(outcome, Outcome::Differs(_)),
+            unread: self.unread || matches!(outcome, Outcome::Unread(_)),
         }
     }
 }
@@ -250,6 +274,7 @@ fn report_done<W: Write>(writer: &mut W, done: ExportTally, uploads: usize) -> i
         exported,
         there,
         differs,
+        unread: _,
     } = done;
     if differs {
         return writeln!(

@@ -94,7 +94,7 @@ impl<'a> Failure<'a> {
         }
     }
 
-    /// A run over what was read and written failed. If one of these failed, the one that failed last has the reason.
+    /// A run over what was read and written failed. If reading failed, its error is the reason, or else the writer's.
     pub fn on_streams(fault: Fault, input: Option<io::Error>, output: Option<io::Error>) -> Self
         ensures { fault_in result ≡ fault }
     {

@@ -1,6 +1,7 @@
 //! Why the program ends before its work is done.
 ghost use Rattle.std.specs.Prelude.{◌≡◌, Some, option_map};
-ghost use Rattle.gateway_files.specs.Faults.{failure_line, opening_fault, numbered_refusal_of, row, exit_status_of};
+ghost use Rattle.gateway_files.specs.Faults.{failure_line, lengthening_fault, numbered_refusal_of, opening_fault, row};
+ghost use Rattle.gateway_files.specs.Faults.{exit_status_of};
 
 use common::Stop;
 use enc_index::ReadError;
@@ -82,6 +83,16 @@ impl Fault {
             ErrorKind::ResourceBusy => Fault::InUse,
             ErrorKind::OutOfMemory => Fault::Stop(Stop::NoMemory),
             _ => Fault::CannotOpen,
+        }
+    }
+
+    /// Why a file that is open doesn't become a spool's, by the system's error. No room is told as `CannotOpen` later.
+    pub(crate) fn of_lengthening(kind: ErrorKind) -> Self
+        ensures { result ≡ lengthening_fault kind }
+    {
+        match kind {
+            ErrorKind::OutOfMemory => Fault::Stop(Stop::NoMemory),
+            _ => Fault::Stop(Stop::DiskFault),
         }
     }
 

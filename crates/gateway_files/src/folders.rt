@@ -1,8 +1,8 @@
 //! Folders that texts are written into.
 
-ghost use Rattle.std.specs.Prelude.{◌≡◌, ℕ, Bool, List, [], None, Some, IfOk, OnErr, OnOk, bytes_eq, drop, length};
-ghost use Rattle.std.specs.Prelude.{option_map, take, true};
-ghost use Rattle.gateway_files.specs.Folders.{Files, HoldsAll, HoldsEither, StillLast, new_file, with_file};
+ghost use Rattle.std.specs.Prelude.{◌≡◌, ℕ, Bool, List, [], Some, IfOk, IfSome, OnErr, OnOk, bytes_eq, drop, false};
+ghost use Rattle.std.specs.Prelude.{length, option_map, take, true};
+ghost use Rattle.gateway_files.specs.Folders.{EndsAs, Files, HoldsAll, HoldsEither, StillLast, new_file};
 
 use crate::advice::Task;
 use crate::failures::Failure;
@@ -21,25 +21,28 @@ pub trait Folder {
     /// The folder holds these files.
     ghost holds: { Self → Files → Type 0 };
 
-    /// A file may have this name there.
+    /// A file may have this name there. No call changes that.
     ghost takes: { Self → List ℕ → Bool };
 
     /// The file of this name outlasts a crash, with what it holds.
     ghost lasting: { Self → List ℕ → Type 0 };
 
-    /// Whether a file may have this name there, as the file system answers.
+    /// Whether a file may have this name there, as far as the file system tells before one gets it.
     fn may_take(&self, name: &str) -> io::Result<bool>
         ensures takes { (files : Files) → holds self.now files
-            → IfOk result (λ taken. taken ≡ takes self.now name.now) };
+            → IfOk result (λ may. may ≡ false → takes self.now name.now ≡ false) };
 
     /// Whether there is something of this name, as far as it can be seen: only what is printed depends on it.
     fn is_there(&self, name: &str) -> bool;
 
-    /// How many bytes the file of this name has. `None` where there is none.
+    /// How many bytes the file of this name has. `None` where there is none. A file that is there may have its name.
     fn len_of(&mut self, name: &str) -> io::Result<Option<u64>>
+        ensures taken { (files : Files) → holds self.old files
+            → IfOk result (λ len. IfSome len (λ _. takes self.old name.now ≡ true)) }
         ensures len { (files : Files) → holds self.old files
             → IfOk result (λ len. len ≡ option_map length (files name.now)) }
         ensures preserves { (files : Files) → holds self.old files → holds self.new files }
+        ensures names { takes self.new ≡ takes self.old }
         ensures still { StillLast (lasting self.old) (lasting self.new) };
 
     /// Whether the file of this name has these bytes from `at` on.
@@ -47,12 +50,14 @@ pub trait Folder {
         ensures same { (files : Files) (bytes : List ℕ) → holds self.old files → files name.now ≡ Some bytes
             → IfOk result (λ same. same ≡ bytes_eq (take (length piece.now) (drop at bytes)) piece.now) }
         ensures preserves { (files : Files) → holds self.old files → holds self.new files }
+        ensures names { takes self.new ≡ takes self.old }
         ensures still { StillLast (lasting self.old) (lasting self.new) };
 
     /// Makes the file of this name last, and its name.
     fn settle(&mut self, name: &str) -> io::Result<()>
         ensures settled { (files : Files) → holds self.old files → OnOk result (lasting self.new name.now) }
         ensures preserves { (files : Files) → holds self.old files → holds self.new files }
+        ensures names { takes self.new ≡ takes self.old }
         ensures still { StillLast (lasting self.old) (lasting self.new) };
 
     /// Begins a file. The folder holds what it held.
@@ -60,29 +65,37 @@ pub trait Folder {
         ensures empty { (files : Files) → holds self.old files
             → IfOk result (λ file. Self.File.contents file ≡ Some []) }
         ensures preserves { (files : Files) → holds self.old files → holds self.new files }
+        ensures names { takes self.new ≡ takes self.old }
         ensures still { StillLast (lasting self.old) (lasting self.new) };
 
-    /// Ends a file: it has this name, and what was written to it lasts from then on. It fails where a file has the name
-    /// already, which stays as it is. Where it fails for another reason, the folder may have the whole file or none.
-    fn end(&mut self, file: Self::File, name: &str) -> io::Result<()>
+    /// Ends a file: it has this name, and what was written to it lasts from then on. `false` where no file may have the
+    /// name: then nothing of it stays. It fails where a file has the name already, which stays as it is. Where it fails
+    /// for another reason, the folder may have the whole file or none.
+    fn end(&mut self, file: Self::File, name: &str) -> io::Result<bool>
+        ensures taken { (files : Files) → holds self.old files
+            → IfOk result (λ taken. taken ≡ takes self.old name.now) }
         ensures ended { (files : Files) (bytes : List ℕ) → holds self.old files → Self.File.contents file ≡ Some bytes
-            → OnOk result ((files name.now ≡ None) × holds self.new (with_file files name.now bytes)) }
-        ensures settled { (files : Files) → holds self.old files → OnOk result (lasting self.new name.now) }
+            → IfOk result (λ taken. EndsAs taken (holds self.new) files name.now bytes) }
+        ensures settled { (files : Files) → holds self.old files
+            → IfOk result (λ taken. taken ≡ true → lasting self.new name.now) }
         ensures failed { (files : Files) (bytes : List ℕ) → holds self.old files → Self.File.contents file ≡ Some bytes
-            → OnErr result (HoldsEither (holds self.new) files (new_file (files name.now) files name.now bytes)) }
+            → OnErr result (HoldsEither (takes self.old name.now) (holds self.new) files
+            (new_file (files name.now) files name.now bytes)) }
         ensures preserves { (files : Files) → holds self.old files → HoldsAll (holds self.new) files }
+        ensures names { takes self.new ≡ takes self.old }
         ensures still { StillLast (lasting self.old) (lasting self.new) };
 
     /// Gives a file up, of which nothing stays. The folder holds what it held.
     fn give_up(&mut self, file: Self::File)
         ensures preserves { (files : Files) → holds self.old files → holds self.new files }
+        ensures names { takes self.new ≡ takes self.old }
         ensures still { StillLast (lasting self.old) (lasting self.new) };
 }
 
 // The name of the file that is being written. It begins with a dot, as the name of no upload's file does.
 const PART: &str = ".gateway-export";
 
-/// A folder of the file system, and why its latest call failed. It is locked against other exports. While a file is
+/// A folder of the file system, and why its calls failed. It is locked against other exports. While a file is
 /// written, it has the name `.gateway-export`. If a run ended in between, the next run removes that file. If the file
 /// system has no locks, it isn't removed, since another export may be writing it, and then no file can be begun.
 ///
@@ -95,12 +108,14 @@ pub struct FileFolder<'a> {
     path: &'a str,
     folder: File,
     error: Option<io::Error>,
+    // why the first file that couldn't be read or synced couldn't
+    unread: Option<io::Error>,
 }
 
 impl<'a> FileFolder<'a> {
     /// The folder at this path, which has to be there, and into which nobody else exports.
     pub fn find(rt: &'a HostRuntime, alloc: Global, path: &'a str) -> Result<Self, Failure<'a>> {
-        find_folder(rt, path)?;
+        find_folder(rt, path, Task::FindTextFolder(path))?;
         match FileFolder::lock(rt, alloc, path) {
             Ok(folder) => Ok(folder),
             Err(error) => Err(Failure::new(Fault::from(error), Task::WriteInto(path), error)),
@@ -117,6 +132,7 @@ impl<'a> FileFolder<'a> {
             path,
             folder,
             error: None,
+            unread: None,
         };
         match locked {
             Ok(()) => found.clear()?,
@@ -132,6 +148,19 @@ impl<'a> FileFolder<'a> {
     /// Why a file couldn't be written. `None` where each could.
     pub fn error(&self) -> Option<io::Error> {
         self.error
+    }
+
+    /// Why a file that is there couldn't be read or synced: the first such one. `None` where each could.
+    pub fn unread(&self) -> Option<io::Error> {
+        self.unread
+    }
+
+    // Keeps why a file couldn't be read or synced, where it is the first one.
+    fn note<T: Copy>(&mut self, outcome: io::Result<T>) -> io::Result<T> {
+        if let (Err(error), None) = (outcome, self.unread) {
+            self.unread = Some(error);
+        }
+        outcome
     }
 
     // The path of a file.
@@ -154,19 +183,27 @@ impl<'a> FileFolder<'a> {
         File::create_new(self.rt, part.as_str())
     }
 
-    // Gives a file its name. A link never replaces a file.
-    fn name_part(&self, file: File, name: &str) -> io::Result<()> {
+    // Gives a file its name. A link never replaces a file. `false` where the file system refuses the name, as some do
+    // only then.
+    fn name_part(&mut self, file: File, name: &str) -> io::Result<bool> {
         file.sync_all()?;
         let part = self.path_of(PART)?;
         let path = self.path_of(name)?;
-        fs::hard_link(self.rt, part.as_str(), path.as_str())?;
+        if let Err(error) = fs::hard_link(self.rt, part.as_str(), path.as_str()) {
+            self.error = Some(error);
+            return if is_of_name(error) {
+                Ok(false)
+            } else {
+                Err(error)
+            };
+        }
         let settled = self.keep_name(part.as_str());
         if settled.is_err() {
             // What fails has no name: the next run writes it again.
             let taken_back = fs::remove_file(self.rt, path.as_str());
             drop(taken_back);
         }
-        settled
+        settled.map(|()| true)
     }
 
     // Takes the other name of a file away that has its own, which lasts then.
@@ -221,10 +258,7 @@ impl Folder for FileFolder<'_> {
     fn may_take(&self, name: &str) -> io::Result<bool> {
         let path = self.path_of(name)?;
         match fs::symlink_metadata(self.rt, path.as_str()) {
-            Err(error) => Ok(!matches!(
-                error.kind(),
-                ErrorKind::InvalidFilename | ErrorKind::InvalidInput
-            )),
+            Err(error) => Ok(!is_of_name(error)),
             Ok(_) => Ok(true),
         }
     }
@@ -244,14 +278,12 @@ impl Folder for FileFolder<'_> {
 
     fn has_at(&mut self, name: &str, at: u64, piece: &[u8]) -> io::Result<bool> {
         let same = self.compare(name, at, piece);
-        self.error = same.err();
-        same
+        self.note(same)
     }
 
     fn settle(&mut self, name: &str) -> io::Result<()> {
         let settled = self.sync_file(name);
-        self.error = settled.err();
-        settled
+        self.note(settled)
     }
 
     fn begin(&mut self) -> io::Result<Noted<File>> {
@@ -265,10 +297,13 @@ impl Folder for FileFolder<'_> {
         }
     }
 
-    fn end(&mut self, file: Noted<File>, name: &str) -> io::Result<()> {
+    fn end(&mut self, file: Noted<File>, name: &str) -> io::Result<bool> {
+        self.error = None;
         let ended = self.name_part(file.into_stream(), name);
-        self.error = ended.err();
-        if ended.is_err() {
+        if let Err(error) = ended {
+            self.error = Some(error);
+        }
+        if !matches!(ended, Ok(true)) {
             let cleared = self.clear();
             drop(cleared);
         }
@@ -283,11 +318,23 @@ impl Folder for FileFolder<'_> {
     }
 }
 
-/// The folder at this path is there.
-pub(crate) fn find_folder<'a>(rt: &HostRuntime, path: &'a str) -> Result<(), Failure<'a>> {
+// Whether a file system refuses the name itself.
+fn is_of_name(error: io::Error) -> bool {
+    matches!(
+        error.kind(),
+        ErrorKind::InvalidFilename | ErrorKind::InvalidInput
+    )
+}
+
+/// The folder at this path is there. This is what it is looked for.
+pub(crate) fn find_folder<'a>(
+    rt: &HostRuntime,
+    path: &str,
+    task: Task<'a>,
+) -> Result<(), Failure<'a>> {
     match is_folder(rt, path) {
         Ok(()) => Ok(()),
-        Err(error) => Err(Failure::new(Fault::from(error), Task::FindFolder(path), error)),
+        Err(error) => Err(Failure::new(Fault::from(error), task, error)),
     }
 }
 

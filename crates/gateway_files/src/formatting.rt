@@ -10,6 +10,7 @@ ghost use Rattle.spool_image.specs.Format.{FitsSpool, HasMagic, IsRefusal, LeftB
 ghost use Rattle.spool_image.specs.LeftOnly.{AllShow};
 ghost use Rattle.gateway_files.specs.Blanks.{IsBlank};
 ghost use Rattle.gateway_files.specs.Failures.{fault_in};
+ghost use Rattle.gateway_files.specs.Faults.{creating_fault};
 ghost use Rattle.gateway_files.specs.Found.{AreStandard, all_standard, row_for, row_of};
 ghost use Rattle.gateway_files.specs.IndexFiles.{index_files};
 ghost use Rattle.gateway_files.specs.SpoolFiles.{Disks, Leaves, LeavesOthers, OnlyRead};
@@ -22,7 +23,7 @@ use crate::index_files::{IndexFile, IndexFiles, read_indexes, refuse_others};
 use crate::reports::report_read;
 use crate::spool_files::{SpoolFiles, SystemFiles};
 use enc_index::IndexSet;
-use spool_disk::Disk;
+use spool_disk::{CreateError, Disk};
 use spool_image::{FormatError, format, is_spool, pages_of};
 use spool_journal::PAGE;
 use std::alloc::Global;
@@ -133,7 +134,7 @@ pub struct Made {
 /// Refused with `Size`; then with `InUse`, `CannotOpen` and the like where the file isn't opened; then with
 /// `AlreadySpool` for a spool, and, unless the file may be overwritten, with `NotEmpty` for one that has a byte other
 /// than zero: these stay as they are. Where the system says that there is no room, it is refused with `CannotOpen`, and
-/// a file that wasn't there before is removed again.
+/// a file that wasn't there before is removed again. Any other failure to lengthen or sync the file is a disk fault.
 pub fn format_in<'a, F: SpoolFiles>(
     files: &mut F,
     path: &'a str,
@@ -251,7 +252,7 @@ fn make_spool<'a, F: SpoolFiles>(
     let mut disk = match files.create(path, PAGE as u64 * pages as u64) {
         Ok(disk) => disk,
         Err(error) => {
-            let failure = Failure::on_opening(Task::MakeSpool(path), path, error);
+            let (failure, error) = not_created(path, error);
             return Err(not_made(files, path, is_new, failure, Some(error)));
         }
     };
@@ -264,6 +265,22 @@ fn make_spool<'a, F: SpoolFiles>(
             let failure = Failure::on_disk(Fault::from(fault), path, error);
             Err(not_made(files, path, is_new, failure, error))
         }
+    }
+}
+
+// The failure to make a spool's file, and the system's reason.
+fn not_created<'a>(path: &'a str, error: CreateError) -> (Failure<'a>, io::Error)
+    ensures { fault_in result.0 ≡ creating_fault error }
+{
+    match error {
+        CreateError::Open(error) => (
+            Failure::on_opening(Task::MakeSpool(path), path, error),
+            error,
+        ),
+        CreateError::Lengthen(error) => (
+            Failure::on_disk(Fault::of_lengthening(error.kind()), path, Some(error)),
+            error,
+        ),
     }
 }
 

@@ -191,7 +191,7 @@ pub fn read_indexes<'a>(
 ) -> Result<IndexFiles, Failure<'a>>
     ensures { IfOk result (λ read. map row_of read.files.items ≡ map row_for index_files) }
 {
-    find_folder(rt, folder)?;
+    find_folder(rt, folder, Task::FindFolder(folder))?;
     read_indexes_from(alloc, &IndexFolder { rt, path: folder }, folder)
 }
 

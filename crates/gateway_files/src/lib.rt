@@ -54,8 +54,8 @@ pub use losses::Tally;
 pub use naming::{given_name, is_safe_name};
 pub use planning::{Job, plan};
 pub use reports::{
-    report_few, report_formatted, report_longer, report_open, report_read, report_served,
-    report_up, report_upgraded,
+    report_few, report_formatted, report_longer, report_open, report_others, report_read,
+    report_served, report_up, report_upgraded,
 };
 pub use spool_files::{SpoolFiles, SystemFiles, open_in, open_spool, refused_in, refused_spool};
 pub use spool_indexes::{InSpool, found_in, report_indexes};

@@ -1,7 +1,7 @@
 //! The export of one upload's text, and what became of it.
 
-ghost use Rattle.std.specs.Prelude.{◌≡◌, [], ◌∷◌, ℕ, List, Bool, IfErr, IfOk, IsErrOf, OnErr, OnOk, Some, length};
-ghost use Rattle.std.specs.Prelude.{false, not, true};
+ghost use Rattle.std.specs.Prelude.{◌≡◌, [], ◌∷◌, ℕ, List, Bool, IfErr, IfOk, IfSome, IsErrOf, OnErr, OnOk, Some};
+ghost use Rattle.std.specs.Prelude.{false, length, string_bytes, true};
 ghost use Rattle.std.specs.Io.KnownBytes.{Appends};
 ghost use Rattle.common.specs.Given.{MoreReads};
 ghost use Rattle.common.specs.declared.stop.Stop.{Stop};
@@ -11,12 +11,13 @@ ghost use Rattle.upload_rules.specs.Store.{upload_of};
 ghost use Rattle.upload_rules.specs.World.{World};
 ghost use Rattle.gateway_files.specs.declared.faults.Fault.{Fault};
 ghost use Rattle.gateway_files.specs.Changing.{IsChangeFault};
-ghost use Rattle.gateway_files.specs.Exporting.{AllLast, ExportsAs, ExportsOneAs, IsText, differs_one, is_other};
+ghost use Rattle.gateway_files.specs.Exporting.{AllLast, DoneAs, ExportsAs, ExportsOneAs, FailsAs, IsFound, TellsOf};
+ghost use Rattle.gateway_files.specs.Exporting.{TakenAs, WroteAs, differs_one, is_amiss, is_other, is_unread};
 ghost use Rattle.gateway_files.specs.Exporting.{outcome_line};
 ghost use Rattle.gateway_files.specs.Folders.{Files, HoldsAll, StillLast};
-ghost use Rattle.gateway_files.specs.Planning.{job_shown};
+ghost use Rattle.gateway_files.specs.Planning.{job_in};
 
-use crate::comparing::is_text;
+use crate::comparing::{Likeness, compare_text, pass_over};
 use crate::copies::copy_text;
 use crate::faults::Fault;
 use crate::folders::Folder;
@@ -33,6 +34,8 @@ pub(crate) enum Outcome<'j> {
     There(&'j str),
     /// There is such a file, which isn't the text.
     Differs(&'j str),
+    /// There is such a file, which couldn't be read or synced.
+    Unread(&'j str),
     /// Its text couldn't be written into this file.
     Failed(&'j str),
     /// It isn't complete, and only complete ones were to be written.
@@ -48,15 +51,17 @@ pub(crate) fn do_job<'j, W: Write, F: Folder, U: Uploads>(
 ) -> Result<Outcome<'j>, Fault>
     ensures files { (sure : Bool) (w : World) → U.represents uploads.old sure w → (files : Files)
         → F.holds folder.old files
-        → IfOk result (λ outcome. ExportsAs sure (is_other outcome) (F.holds folder.new) w.store
-        (job_shown job.now ∷ []) files) }
+        → IfOk result (λ outcome. ExportsAs sure (is_amiss outcome) (F.holds folder.new) w.store
+        (job_in (F.takes folder.old) job.now ∷ []) files) }
     ensures failed { (sure : Bool) (w : World) → U.represents uploads.old sure w → (files : Files)
         → F.holds folder.old files
-        → OnErr result (ExportsOneAs sure (F.holds folder.new) w.store (job_shown job.now) files) }
+        → OnErr result (ExportsOneAs sure (F.holds folder.new) w.store (job_in (F.takes folder.old) job.now) files) }
     ensures differs { (w : World) → U.represents uploads.old true w → (files : Files) → F.holds folder.old files
-        → IfOk result (λ outcome. is_other outcome ≡ differs_one w.store files (job_shown job.now)) }
-    ensures settled { (files : Files) → F.holds folder.old files → IfOk result (λ outcome. is_other outcome ≡ false
-        → AllLast (F.lasting folder.new) (job_shown job.now ∷ [])) }
+        → IfOk result (λ outcome. TellsOf (is_other outcome) (is_unread outcome)
+        (differs_one w.store files (job_in (F.takes folder.old) job.now))) }
+    ensures settled { (files : Files) → F.holds folder.old files → IfOk result (λ outcome. is_amiss outcome ≡ false
+        → AllLast (F.lasting folder.new) (job_in (F.takes folder.old) job.now ∷ [])) }
+    ensures names { F.takes folder.new ≡ F.takes folder.old }
     ensures still { StillLast (F.lasting folder.old) (F.lasting folder.new) }
     ensures preserves { (files : Files) → F.holds folder.old files → HoldsAll (F.holds folder.new) files }
     ensures represents { (sure : Bool) (w : World) → U.represents uploads.old sure w
@@ -93,15 +98,17 @@ fn export_job<'j, F: Folder, U: Uploads>(
 ) -> Result<Outcome<'j>, Fault>
     ensures files { (sure : Bool) (w : World) → U.represents uploads.old sure w → (files : Files)
         → F.holds folder.old files
-        → IfOk result (λ outcome. ExportsAs sure (is_other outcome) (F.holds folder.new) w.store
-        (job_shown job.now ∷ []) files) }
+        → IfOk result (λ outcome. ExportsAs sure (is_amiss outcome) (F.holds folder.new) w.store
+        (job_in (F.takes folder.old) job.now ∷ []) files) }
     ensures failed { (sure : Bool) (w : World) → U.represents uploads.old sure w → (files : Files)
         → F.holds folder.old files
-        → OnErr result (ExportsOneAs sure (F.holds folder.new) w.store (job_shown job.now) files) }
+        → OnErr result (ExportsOneAs sure (F.holds folder.new) w.store (job_in (F.takes folder.old) job.now) files) }
     ensures differs { (w : World) → U.represents uploads.old true w → (files : Files) → F.holds folder.old files
-        → IfOk result (λ outcome. is_other outcome ≡ differs_one w.store files (job_shown job.now)) }
-    ensures settled { (files : Files) → F.holds folder.old files → IfOk result (λ outcome. is_other outcome ≡ false
-        → AllLast (F.lasting folder.new) (job_shown job.now ∷ [])) }
+        → IfOk result (λ outcome. TellsOf (is_other outcome) (is_unread outcome)
+        (differs_one w.store files (job_in (F.takes folder.old) job.now))) }
+    ensures settled { (files : Files) → F.holds folder.old files → IfOk result (λ outcome. is_amiss outcome ≡ false
+        → AllLast (F.lasting folder.new) (job_in (F.takes folder.old) job.now ∷ [])) }
+    ensures names { F.takes folder.new ≡ F.takes folder.old }
     ensures still { StillLast (F.lasting folder.old) (F.lasting folder.new) }
     ensures preserves { (files : Files) → F.holds folder.old files → HoldsAll (F.holds folder.new) files }
     ensures represents { (sure : Bool) (w : World) → U.represents uploads.old sure w
@@ -116,11 +123,90 @@ fn export_job<'j, F: Folder, U: Uploads>(
     let Some(name) = &job.name else {
         return Ok(Outcome::Incomplete);
     };
-    if let Some(len) = folder.len_of(name.as_str())? {
-        return found(folder, uploads, job.number, name.as_str(), len);
+    match export_as(folder, uploads, job.number, name.as_str())? {
+        Some(outcome) => Ok(outcome),
+        None => export_plain(folder, uploads, job),
     }
-    write_text(folder, uploads, job.number, name.as_str())?;
-    Ok(Outcome::Exported(name.as_str()))
+}
+
+// Writes a text into the file of its plain name, which the folder has to take.
+fn export_plain<'j, F: Folder, U: Uploads>(
+    folder: &mut F,
+    uploads: &mut U,
+    job: &'j Job,
+) -> Result<Outcome<'j>, Fault>
+    ensures files { (sure : Bool) (w : World) → U.represents uploads.old sure w → (files : Files)
+        → F.holds folder.old files
+        → IfOk result (λ outcome. ExportsAs sure (is_amiss outcome) (F.holds folder.new) w.store
+        ((job.now.number, Some (string_bytes job.now.plain)) ∷ []) files) }
+    ensures failed { (sure : Bool) (w : World) → U.represents uploads.old sure w → (files : Files)
+        → F.holds folder.old files → OnErr result (ExportsOneAs sure (F.holds folder.new) w.store
+        (job.now.number, Some (string_bytes job.now.plain)) files) }
+    ensures differs { (w : World) → U.represents uploads.old true w → (files : Files) → F.holds folder.old files
+        → IfOk result (λ outcome. TellsOf (is_other outcome) (is_unread outcome)
+        (differs_one w.store files (job.now.number, Some (string_bytes job.now.plain)))) }
+    ensures settled { (files : Files) → F.holds folder.old files → IfOk result (λ outcome. is_amiss outcome ≡ false
+        → F.lasting folder.new (string_bytes job.now.plain)) }
+    ensures names { F.takes folder.new ≡ F.takes folder.old }
+    ensures still { StillLast (F.lasting folder.old) (F.lasting folder.new) }
+    ensures preserves { (files : Files) → F.holds folder.old files → HoldsAll (F.holds folder.new) files }
+    ensures represents { (sure : Bool) (w : World) → U.represents uploads.old sure w
+        → OnOk result (U.represents uploads.new sure w) }
+    ensures crash { Quiet (U.moment uploads.old) (U.moment uploads.new) (U.left_only uploads.old)
+        (U.left_only uploads.new) }
+    ensures refused { IfErr result IsChangeFault }
+    ensures counts { Counts (IsErrOf result (Fault.Stop Stop.DiskFault)) (U.failures uploads.old)
+        (U.failures uploads.new) }
+    ensures reads { MoreReads (U.reads uploads.old) (U.reads uploads.new) }
+{
+    match export_as(folder, uploads, job.number, job.plain.as_str())? {
+        Some(outcome) => Ok(outcome),
+        None => Err(Fault::Io),
+    }
+}
+
+// Writes a text into the file of this name, where that is to be done. `None` where the folder doesn't take the name.
+fn export_as<'j, F: Folder, U: Uploads>(
+    folder: &mut F,
+    uploads: &mut U,
+    number: u64,
+    name: &'j str,
+) -> Result<Option<Outcome<'j>>, Fault>
+    ensures files { (sure : Bool) (w : World) → U.represents uploads.old sure w → (files : Files)
+        → F.holds folder.old files
+        → IfOk result (DoneAs sure (F.holds folder.new) w.store (number, Some name.now) files) }
+    ensures taken { (files : Files) → F.holds folder.old files
+        → IfOk result (TakenAs (F.takes folder.old name.now)) }
+    ensures failed { (sure : Bool) (w : World) → U.represents uploads.old sure w → (files : Files)
+        → F.holds folder.old files
+        → OnErr result (FailsAs sure (F.holds folder.new) w.store (number, Some name.now) (F.takes folder.old name.now)
+        files) }
+    ensures differs { (w : World) → U.represents uploads.old true w → (files : Files) → F.holds folder.old files
+        → IfOk result (λ done. IfSome done (λ outcome. TellsOf (is_other outcome) (is_unread outcome)
+        (differs_one w.store files (number, Some name.now)))) }
+    ensures settled { (files : Files) → F.holds folder.old files → IfOk result (λ done. IfSome done (λ outcome.
+        is_amiss outcome ≡ false → F.lasting folder.new name.now)) }
+    ensures names { F.takes folder.new ≡ F.takes folder.old }
+    ensures still { StillLast (F.lasting folder.old) (F.lasting folder.new) }
+    ensures preserves { (files : Files) → F.holds folder.old files → HoldsAll (F.holds folder.new) files }
+    ensures represents { (sure : Bool) (w : World) → U.represents uploads.old sure w
+        → OnOk result (U.represents uploads.new sure w) }
+    ensures crash { Quiet (U.moment uploads.old) (U.moment uploads.new) (U.left_only uploads.old)
+        (U.left_only uploads.new) }
+    ensures refused { IfErr result IsChangeFault }
+    ensures counts { Counts (IsErrOf result (Fault.Stop Stop.DiskFault)) (U.failures uploads.old)
+        (U.failures uploads.new) }
+    ensures reads { MoreReads (U.reads uploads.old) (U.reads uploads.new) }
+{
+    if let Some(len) = folder.len_of(name)? {
+        let outcome = found(folder, uploads, number, name, len)?;
+        return Ok(Some(outcome));
+    }
+    if write_text(folder, uploads, number, name)? {
+        Ok(Some(Outcome::Exported(name)))
+    } else {
+        Ok(None)
+    }
 }
 
 // What there is of an upload's text: a file of this name and of so many bytes. If it is the text, it is made to last.
@@ -133,10 +219,10 @@ fn found<'j, F: Folder, U: Uploads>(
 ) -> Result<Outcome<'j>, Fault>
     ensures same { (sure : Bool) (w : World) → U.represents uploads.old sure w → (files : Files) (bytes : List ℕ)
         → F.holds folder.old files → files name.now ≡ Some bytes → len ≡ length bytes
-        → IfOk result (λ outcome. IsText sure bytes (text_at w.store (upload_of w.store number))
-        (not (is_other outcome))) }
+        → IfOk result (IsFound sure bytes (text_at w.store (upload_of w.store number))) }
     ensures settled { (files : Files) → F.holds folder.old files
-        → IfOk result (λ outcome. is_other outcome ≡ false → F.lasting folder.new name.now) }
+        → IfOk result (λ outcome. is_amiss outcome ≡ false → F.lasting folder.new name.now) }
+    ensures names { F.takes folder.new ≡ F.takes folder.old }
     ensures still { StillLast (F.lasting folder.old) (F.lasting folder.new) }
     ensures preserves { (files : Files) → F.holds folder.old files → F.holds folder.new files }
     ensures represents { (sure : Bool) (w : World) → U.represents uploads.old sure w
@@ -148,27 +234,51 @@ fn found<'j, F: Folder, U: Uploads>(
         (U.failures uploads.new) }
     ensures reads { MoreReads (U.reads uploads.old) (U.reads uploads.new) }
 {
-    if !is_text(folder, uploads, number, name, len)? {
-        return Ok(Outcome::Differs(name));
+    match compare_text(folder, uploads, number, name, len)? {
+        Likeness::Same => settle(folder, name),
+        Likeness::Other => Ok(Outcome::Differs(name)),
+        Likeness::Unread => Ok(Outcome::Unread(name)),
     }
-    folder.settle(name)?;
-    Ok(Outcome::There(name))
 }
 
-// Writes a text into a new file, which then has the name.
+// Makes a file last that is the text.
+fn settle<'j, F: Folder>(folder: &mut F, name: &'j str) -> Result<Outcome<'j>, Fault>
+    ensures kept { IfOk result (λ outcome. is_other outcome ≡ false) }
+    ensures settled { (files : Files) → F.holds folder.old files
+        → IfOk result (λ outcome. is_unread outcome ≡ false → F.lasting folder.new name.now) }
+    ensures names { F.takes folder.new ≡ F.takes folder.old }
+    ensures still { StillLast (F.lasting folder.old) (F.lasting folder.new) }
+    ensures preserves { (files : Files) → F.holds folder.old files → F.holds folder.new files }
+    ensures refused { IfErr result (λ fault. fault ≡ Fault.Stop Stop.NoMemory) }
+{
+    match folder.settle(name) {
+        Ok(()) => Ok(Outcome::There(name)),
+        Err(error) => {
+            pass_over(error)?;
+            Ok(Outcome::Unread(name))
+        }
+    }
+}
+
+// Writes a text into a new file, which then has the name. `false` where the folder doesn't take it: then nothing stays.
 fn write_text<F: Folder, U: Uploads>(
     folder: &mut F,
     uploads: &mut U,
     number: u64,
     name: &str,
-) -> Result<(), Fault>
+) -> Result<bool, Fault>
+    ensures taken { (files : Files) → F.holds folder.old files
+        → IfOk result (λ taken. taken ≡ F.takes folder.old name.now) }
     ensures files { (sure : Bool) (w : World) → U.represents uploads.old sure w → (files : Files)
         → F.holds folder.old files
-        → OnOk result (ExportsAs sure false (F.holds folder.new) w.store ((number, Some name.now) ∷ []) files) }
+        → IfOk result (WroteAs sure (F.holds folder.new) w.store (number, Some name.now) files) }
     ensures failed { (sure : Bool) (w : World) → U.represents uploads.old sure w → (files : Files)
         → F.holds folder.old files
-        → OnErr result (ExportsOneAs sure (F.holds folder.new) w.store (number, Some name.now) files) }
-    ensures settled { (files : Files) → F.holds folder.old files → OnOk result (F.lasting folder.new name.now) }
+        → OnErr result (FailsAs sure (F.holds folder.new) w.store (number, Some name.now) (F.takes folder.old name.now)
+        files) }
+    ensures settled { (files : Files) → F.holds folder.old files
+        → IfOk result (λ taken. taken ≡ true → F.lasting folder.new name.now) }
+    ensures names { F.takes folder.new ≡ F.takes folder.old }
     ensures still { StillLast (F.lasting folder.old) (F.lasting folder.new) }
     ensures preserves { (files : Files) → F.holds folder.old files → HoldsAll (F.holds folder.new) files }
     ensures represents { (sure : Bool) (w : World) → U.represents uploads.old sure w
@@ -182,10 +292,7 @@ fn write_text<F: Folder, U: Uploads>(
 {
     let mut file = folder.begin()?;
     match copy_text(&mut file, uploads, number) {
-        Ok(()) => {
-            folder.end(file, name)?;
-            Ok(())
-        }
+        Ok(()) => Ok(folder.end(file, name)?),
         Err(fault) => {
             folder.give_up(file);
             Err(fault)
@@ -202,6 +309,7 @@ fn report_outcome<W: Write>(writer: &mut W, number: u64, outcome: Outcome) -> io
         Outcome::Exported(name) => writeln!(writer, "exported {number} {name}"),
         Outcome::There(name) => writeln!(writer, "there {number} {name}"),
         Outcome::Differs(name) => writeln!(writer, "differs {number} {name}"),
+        Outcome::Unread(name) => writeln!(writer, "unread {number} {name}"),
         Outcome::Failed(name) => writeln!(writer, "failed {number} {name}"),
         Outcome::Incomplete => writeln!(writer, "incomplete {number}"),
     }

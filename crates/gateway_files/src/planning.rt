@@ -5,7 +5,7 @@ ghost use Rattle.upload_rules.specs.World.{World};
 ghost use Rattle.gateway_files.specs.Changing.{IsStreamFault};
 ghost use Rattle.gateway_files.specs.Folders.{Files};
 ghost use Rattle.gateway_files.specs.Lines.{IsInOrder};
-ghost use Rattle.gateway_files.specs.Planning.{file_name, job_for, job_shown, jobs_of, name_or};
+ghost use Rattle.gateway_files.specs.Planning.{file_name, job_for, job_in, jobs_of, name_or, number_name, taken_or};
 
 use crate::faults::Fault;
 use crate::folders::Folder;
@@ -24,11 +24,13 @@ pub struct Job {
     pub number: u64,
     /// The name of the file.
     pub name: Option<String>,
+    /// Its name where the folder doesn't take that one.
+    pub plain: String,
 }
 
 /// All uploads by number. The text of one is written where it is complete, or where all are. Its file has its number, a
 /// hyphen and the name that its metadata gives, where that is safe and the folder takes it, and else its number and
-/// `.txt`.
+/// `.txt`: the plain name, which each job has too, since a folder may refuse the other one only later.
 ///
 /// Refused with `NoMemory`, or with `Io` by the folder.
 pub fn plan<U: Uploads, F: Folder>(
@@ -40,7 +42,8 @@ pub fn plan<U: Uploads, F: Folder>(
     // On any disk: for the uploads that they represent.
     ensures jobs { (sure : Bool) (w : World) → U.represents uploads.now sure w → IsInOrder w.store → (files : Files)
         → F.holds folder.now files
-        → IfOk result (λ jobs. map job_shown jobs.items ≡ jobs_of (F.takes folder.now) all w.store) }
+        → IfOk result (λ jobs. map (job_in (F.takes folder.now)) jobs.items
+        ≡ jobs_of (F.takes folder.now) all w.store) }
     ensures refused { IfErr result IsStreamFault }
 {
     let mut jobs = Vec::new(alloc);
@@ -65,9 +68,9 @@ fn push_job<F: Folder>(
     all: bool,
 ) -> Result<(), Fault>
     ensures job { (files : Files) → F.holds folder.now files
-        → OnOk result (map job_shown jobs.new.items ≡ map job_shown jobs.old.items
-        ++ job_for (F.takes folder.now) all record.now.number (is_length record.now.declared record.now.accepted)
-        record.now.metadata.bytes.items ∷ []) }
+        → OnOk result (map (job_in (F.takes folder.now)) jobs.new.items
+        ≡ map (job_in (F.takes folder.now)) jobs.old.items ++ job_for (F.takes folder.now) all record.now.number
+        (is_length record.now.declared record.now.accepted) record.now.metadata.bytes.items ∷ []) }
     ensures refused { IfErr result IsStreamFault }
 {
     let name = if all || is_length(record.declared, record.accepted) {
@@ -76,7 +79,12 @@ fn push_job<F: Folder>(
         None
     };
     let number = record.number;
-    match jobs.push(Job { number, name }) {
+    let plain = plain_name(alloc, number)?;
+    match jobs.push(Job {
+        number,
+        name,
+        plain,
+    }) {
         Ok(()) => Ok(()),
         Err(full) => Err(AllocError::from(full).into()),
     }
@@ -90,16 +98,25 @@ fn file_name<F: Folder>(
     metadata: &str,
 ) -> Result<String, Fault>
     ensures name { (files : Files) → F.holds folder.now files
-        → IfOk result (λ name. string_bytes name ≡ file_name (F.takes folder.now) number metadata.now) }
+        → IfOk result (λ name. taken_or (F.takes folder.now) (string_bytes name) (number_name number)
+        ≡ file_name (F.takes folder.now) number metadata.now) }
     ensures refused { IfErr result IsStreamFault }
 {
     match long_name(alloc, folder, number, metadata)? {
         Some(name) => Ok(name),
-        None => Ok(format!(in alloc; "{number}.txt")?),
+        None => plain_name(alloc, number),
     }
 }
 
-// The name by an upload's number and a name that its metadata gives, where a file may have it.
+// The name by an upload's number alone.
+fn plain_name(alloc: Global, number: u64) -> Result<String, Fault>
+    ensures name { IfOk result (λ name. string_bytes name ≡ number_name number) }
+    ensures refused { IfErr result IsStreamFault }
+{
+    Ok(format!(in alloc; "{number}.txt")?)
+}
+
+// The name by an upload's number and a name that its metadata gives, where the folder may take it.
 fn long_name<F: Folder>(
     alloc: Global,
     folder: &F,
@@ -107,7 +124,7 @@ fn long_name<F: Folder>(
     metadata: &str,
 ) -> Result<Option<String>, Fault>
     ensures name { (files : Files) → F.holds folder.now files
-        → IfOk result (λ name. name_or (option_map string_bytes name) number
+        → IfOk result (λ name. name_or (F.takes folder.now) (option_map string_bytes name) number
         ≡ file_name (F.takes folder.now) number metadata.now) }
     ensures refused { IfErr result IsStreamFault }
 {

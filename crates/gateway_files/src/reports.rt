@@ -1,10 +1,11 @@
 //! What the program prints of what it did.
-ghost use Rattle.std.specs.Prelude.{◌≡◌, OnOk, count_by};
+ghost use Rattle.std.specs.Prelude.{◌≡◌, OnOk, count_by, flat_map};
 ghost use Rattle.std.specs.Io.KnownBytes.{Appends};
 ghost use Rattle.gateway_files.specs.Reports.{formatted_line, free_line, is_read, losses_line, losses_line_of};
 ghost use Rattle.gateway_files.specs.Reports.{few_line, longer_line, open_line};
-ghost use Rattle.gateway_files.specs.Reports.{read_lines, served_line, up_line, upgraded_line};
+ghost use Rattle.gateway_files.specs.Reports.{other_line, read_lines, served_line, up_line, upgraded_line};
 
+use crate::found::Found;
 use crate::index_files::IndexFile;
 use crate::surveying::Survey;
 use common::SLOTS;
@@ -43,6 +44,30 @@ fn count_read(files: &[IndexFile]) -> usize
     ensures { result ≡ count_by is_read files.now }
 {
     files.iter().filter(|file| file.found.is_there()).count()
+}
+
+/// Prints which of the index files that were read aren't the standard's, by which texts are only shown.
+pub fn report_others<W: Write>(writer: &mut W, files: &[IndexFile]) -> io::Result<()>
+    ensures { OnOk result (Appends (W.contents writer.old) (W.contents writer.new) (flat_map other_line files.now)) }
+{
+    for file in files {
+        report_other(writer, file)?;
+    }
+    Ok(())
+}
+
+// Prints that a file isn't the standard's, if it isn't.
+fn report_other<W: Write>(writer: &mut W, file: &IndexFile) -> io::Result<()>
+    ensures { OnOk result (Appends (W.contents writer.old) (W.contents writer.new) (other_line file.now)) }
+{
+    let (name, encodings) = (file.name, file.encodings);
+    match file.found {
+        Found::Other(_) => writeln!(
+            writer,
+            "WARNING: {name} isn't the standard's: what is in {encodings} may be read wrong"
+        ),
+        Found::Missing | Found::Standard => Ok(()),
+    }
 }
 
 /// Prints that a spool was upgraded.

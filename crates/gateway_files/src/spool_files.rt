@@ -2,15 +2,14 @@
 ghost use Rattle.std.specs.Prelude.{◌≡◌, Err, IfErr, IfOk, None, OnErr, Some};
 ghost use Rattle.std.specs.IoError.{error_kind};
 ghost use Rattle.std.specs.declared.io.ErrorKind.{ErrorKind};
-ghost use Rattle.spool_disk.specs.File.{failed_in};
 ghost use Rattle.gateway_files.specs.Failures.{fault_in};
-ghost use Rattle.gateway_files.specs.SpoolFiles.{Disks, IsNotOpened, Leaves, LeavesOthers, OnlyRead};
+ghost use Rattle.gateway_files.specs.SpoolFiles.{Disks, IsJustOpened, IsNotOpened, Leaves, LeavesOthers, OnlyRead};
 ghost use Rattle.gateway_files.specs.SpoolFiles.{with_disk};
 
 use crate::advice::{Advice, Task};
 use crate::failures::Failure;
 use crate::faults::Fault;
-use spool_disk::{Disk, FileDisk};
+use spool_disk::{CreateError, Disk, FileDisk};
 use spool_image::is_spool;
 use std::{fs, io};
 
@@ -31,7 +30,7 @@ pub trait SpoolFiles {
             → IfErr result (λ error. error_kind error ≡ ErrorKind.NotFound → disks path.now ≡ None) };
 
     /// Opens the file at this path, or makes it, as a disk of so many bytes. Where it fails the others stay.
-    fn create(&mut self, path: &str, len: u64) -> io::Result<Self::File>
+    fn create(&mut self, path: &str, len: u64) -> Result<Self::File, CreateError>
         ensures made { (disks : Disks Self.File) → holds self.old disks
             → IfOk result (λ disk. (Self.File.size disk ≡ len) × Self.File.honest disk
             × holds self.new (with_disk disks path.now None)) }
@@ -43,7 +42,7 @@ pub trait SpoolFiles {
         ensures closed { (disks : Disks Self.File) → holds self.old disks
             → holds self.new (with_disk disks path.now (Some disk)) };
 
-    /// Removes the file at this path. The others stay.
+    /// Removes the file at this path, and no link to it. The others stay.
     fn remove(&mut self, path: &str) -> io::Result<()>
         ensures others { (disks : Disks Self.File) → holds self.old disks
             → LeavesOthers (holds self.new) disks path.now };
@@ -78,7 +77,7 @@ impl SpoolFiles for SystemFiles<'_> {
         FileDisk::try_open(self.rt, path)
     }
 
-    fn create(&mut self, path: &str, len: u64) -> io::Result<FileDisk> {
+    fn create(&mut self, path: &str, len: u64) -> Result<FileDisk, CreateError> {
         FileDisk::try_create(self.rt, path, len)
     }
 
@@ -87,7 +86,8 @@ impl SpoolFiles for SystemFiles<'_> {
     }
 
     fn remove(&mut self, path: &str) -> io::Result<()> {
-        fs::remove_file(self.rt, path)
+        let file = fs::canonicalize(self.rt, path)?;
+        fs::remove_file(self.rt, file.as_path())
     }
 
     fn error_of(&self, disk: &FileDisk) -> Option<io::Error> {
@@ -95,9 +95,10 @@ impl SpoolFiles for SystemFiles<'_> {
     }
 }
 
-/// The spool in the file at this path. No call of it failed so far.
+/// The spool in the file at this path, of which only the length was asked.
 pub fn open_spool<'a>(rt: &HostRuntime, path: &'a str) -> Result<FileDisk, Failure<'a>>
-    ensures { IfOk result (λ disk. failed_in disk ≡ 0) }
+    ensures opened { IfOk result IsJustOpened }
+    ensures refused { IfErr result IsNotOpened }
 {
     match FileDisk::try_open(rt, path) {
         Ok(disk) => Ok(disk),

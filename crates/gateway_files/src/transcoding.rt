@@ -7,6 +7,7 @@ ghost use Rattle.enc_model.specs.Indexes.{tables};
 ghost use Rattle.enc_stream.specs.TranscoderState.{IsOutput};
 ghost use Rattle.tus_request.specs.Metadata.{choice_with, mode_of};
 ghost use Rattle.gateway_files.specs.Failures.{fault_in};
+ghost use Rattle.gateway_files.specs.declared.faults.Fault.{Fault};
 ghost use Rattle.gateway_files.specs.Transcoding.{CopiesOn, EndsOn, IsConverted, IsTextFault, choice_in};
 
 use crate::advice::{Advice, TextAdvice};
@@ -14,7 +15,7 @@ use crate::failures::Failure;
 use crate::faults::Fault;
 use crate::index_files::{IndexFiles, read_indexes};
 use crate::losses::Tally;
-use crate::reports::report_losses;
+use crate::reports::{report_losses, report_others};
 use crate::streams::Noted;
 use enc_index::IndexSet;
 use enc_labels::{encoding_of, output_of};
@@ -58,8 +59,8 @@ pub fn conversion_of(from: &str, to: &str, mode: &str) -> Option<Conversion>
 }
 
 /// Writes what an upload of standard input with these labels and this mode would be stored as, by the index files of a
-/// folder. On standard error it writes how often the text has U+FFFD. `BadLabel` where an upload with them is refused
-/// so.
+/// folder. On standard error it writes which of these aren't the standard's, and how often the text has U+FFFD.
+/// `BadLabel` where an upload with them is refused so.
 pub fn text_file<'a>(
     rt: &HostRuntime,
     alloc: Global,
@@ -71,7 +72,9 @@ pub fn text_file<'a>(
     let Some(conversion) = conversion_of(from, to, mode) else {
         return Err(refused_text(Fault::BadLabel, what_is_unknown(from, to, mode)));
     };
-    let IndexFiles { set, files: _ } = read_indexes(rt, alloc, folder)?;
+    let IndexFiles { set, files } = read_indexes(rt, alloc, folder)?;
+    // If standard error can't be written, this isn't reported.
+    drop(report_others(&mut rt.stderr(), &files));
     for (encoding, label) in [(conversion.from, from), (conversion.to, to)] {
         if !set.offers(encoding) {
             return Err(refused_text(Fault::BadLabel, TextAdvice::NoIndex(folder, label)));

@@ -13,7 +13,7 @@ use std::alloc::{AllocError, Global};
 use std::io::{self, Write};
 
 /// The version, which `--version` prints after the program's name.
-const VERSION: &str = "1.1.0, for spools of version 1 and 2";
+const VERSION: &str = "1.2.0, for spools of version 1 and 2";
 
 /// The address that `up` listens at by default.
 const DOOR: &str = "127.0.0.1:8080";
@@ -147,7 +147,7 @@ static COMMANDS: [Described; 10] = [
             Given {
                 name: "json",
                 with: With::NothingOr("long"),
-                help: "Prints a line of JSON for each upload",
+                help: "Prints a line of JSON for each upload, and one for the indexes",
             },
         ],
     },
@@ -184,7 +184,7 @@ static COMMANDS: [Described; 10] = [
     Described {
         name: "export",
         about: "Writes the text of each complete upload into a file of its own",
-        example: "Into files as 3.txt, or as an upload's metadata names it, while no gateway serves the spool:\n\n  \
+        example: "Into files as 3.txt, or 3-NAME if an upload has a name, while no gateway serves the spool:\n\n  \
             mkdir texts && gateway export spool texts",
         takes: &[
             SPOOL,
@@ -202,7 +202,7 @@ static COMMANDS: [Described; 10] = [
     },
     Described {
         name: "labels",
-        about: "Prints which labels standard input may have, the likeliest first",
+        about: "Prints what each label makes of standard input, the least strange text first",
         example: "What each encoding makes of a letter:\n\n  gateway labels --indexes idx < letter",
         takes: &[
             INDEXES,
@@ -236,7 +236,7 @@ static COMMANDS: [Described; 10] = [
             Given {
                 name: "mode",
                 with: With::TextOr("MODE", "html"),
-                help: "For a character that `--to` lacks: `html` writes its number, `fatal` refuses",
+                help: "For a character that `--to` lacks: `html` writes `&#NUMBER;`, `fatal` refuses",
             },
             INDEXES,
         ],

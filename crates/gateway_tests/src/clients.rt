@@ -164,14 +164,17 @@ impl Clock for Steps {
 
 /// Serves `clients` over a new spool of `blocks` blocks for `turns` turns, and returns how many connections were
 /// closed. No test reaches the limit of `MOST_OPEN + 2` connections.
-pub(crate) fn served(
+pub(crate) fn served<L: OpenListener>(
     rt: &impl Abort,
     alloc: Global,
     clock: &Steps,
-    clients: &Clients,
+    clients: &L,
     blocks: u32,
     turns: u64,
-) -> u64 {
+) -> u64
+where
+    L::Stream: Read + Write + OpenStream + Drop,
+{
     let gateway = opened(rt, alloc, fresh(rt, alloc, blocks, None));
     let mut acceptor = Listening::new(clients);
     let Outcome {

@@ -1,12 +1,16 @@
 //! Exports of the texts of uploads to files.
 
+use crate::shelves::{Call, Shelf};
 use crate::spools::ends;
 use crate::steps::Step::{self, Added, Deferred, Made, Open};
 use crate::talks::{Talk, fresh};
-use gateway_files::{FileFolder, export_on};
+use common::Stop;
+use gateway_files::{ExportTally, Fault, FileFolder, export_on};
 use spool_disk::MemoryDisk;
 use std::alloc::Global;
 use std::fs;
+use std::io::ErrorKind;
+use std::os::unix::fs::symlink;
 use std::process::Abort;
 
 /// Five uploads: a partial one, three complete ones, and one of unknown length. Two of the complete ones have the same
@@ -132,4 +136,147 @@ fn texts_are_written_into_files(rt: HostRuntime) {
         fs::remove_dir_all(&rt, folder).expect(&rt, "a folder");
         disk = after;
     }
+}
+
+/// An export into a folder of which one call fails. It has the file `2-letter.txt`.
+struct Hindered {
+    /// What the file has.
+    found: &'static str,
+    call: Call,
+    kind: ErrorKind,
+    lines: &'static [u8],
+    outcome: Result<ExportTally, Fault>,
+    /// What the file `4-letter.txt` has afterwards, where there is one.
+    later: Option<&'static str>,
+}
+
+/// What comes of two new files.
+const TWO: ExportTally = ExportTally {
+    exported: 2,
+    there: 0,
+    differs: false,
+    unread: false,
+};
+
+static HINDERED: [Hindered; 5] = [
+    Hindered {
+        found: "ab",
+        call: Call::Read,
+        kind: ErrorKind::PermissionDenied,
+        lines: b"incomplete 1\nunread 2 2-letter.txt\nexported 3 3.txt\nexported 4 4-letter.txt\nincomplete 5\n\
+        exported 2 of 5 uploads, 0 there\n",
+        outcome: Ok(ExportTally {
+            unread: true,
+            ..TWO
+        }),
+        later: Some("ef"),
+    },
+    Hindered {
+        found: "ab",
+        call: Call::Sync,
+        kind: ErrorKind::Other,
+        lines: b"incomplete 1\nunread 2 2-letter.txt\nexported 3 3.txt\nexported 4 4-letter.txt\nincomplete 5\n\
+        exported 2 of 5 uploads, 0 there\n",
+        outcome: Ok(ExportTally {
+            unread: true,
+            ..TWO
+        }),
+        later: Some("ef"),
+    },
+    // what isn't the text isn't synced
+    Hindered {
+        found: "xy",
+        call: Call::Sync,
+        kind: ErrorKind::Other,
+        lines: b"incomplete 1\ndiffers 2 2-letter.txt\nexported 3 3.txt\nexported 4 4-letter.txt\nincomplete 5\n\
+        exported 2 of 5 uploads, 0 there; a file that was there isn't the text of its upload\n",
+        outcome: Ok(ExportTally {
+            differs: true,
+            ..TWO
+        }),
+        later: Some("ef"),
+    },
+    // out of memory ends the run
+    Hindered {
+        found: "ab",
+        call: Call::Read,
+        kind: ErrorKind::OutOfMemory,
+        lines: b"incomplete 1\n",
+        outcome: Err(Fault::Stop(Stop::NoMemory)),
+        later: None,
+    },
+    Hindered {
+        found: "ab",
+        call: Call::Name,
+        kind: ErrorKind::StorageFull,
+        lines: b"incomplete 1\nthere 2 2-letter.txt\nfailed 3 3.txt\n",
+        outcome: Err(Fault::Io),
+        later: None,
+    },
+];
+
+#[test]
+fn others_are_written(rt: HostRuntime) {
+    let alloc = rt.alloc();
+    let mut disk = spool_with_five(&rt, alloc);
+    for row in HINDERED.iter() {
+        let failing = Some((row.call, row.kind));
+        let mut shelf = Shelf::new(&rt, alloc, "2-letter.txt", row.found, failing, None);
+        let mut lines = Vec::new(alloc);
+        let (after, exported) = export_on(alloc, &mut lines, &mut shelf, disk, false);
+        assert_eq!(rt; lines.as_slice(), row.lines);
+        assert_eq!(rt; exported, row.outcome);
+        assert_eq!(rt; shelf.text("2-letter.txt"), Some(row.found.as_bytes()));
+        assert_eq!(rt;
+            shelf.text("4-letter.txt"),
+            row.later.map(|text| text.as_bytes())
+        );
+        disk = after;
+    }
+}
+
+/// The lines of exports into a folder that takes the name `4-letter.txt` for no file, one after the other.
+static REFUSED: [&[u8]; 2] = [
+    b"incomplete 1\nthere 2 2-letter.txt\nexported 3 3.txt\nexported 4 4.txt\nincomplete 5\n\
+    exported 2 of 5 uploads, 1 there\n",
+    b"incomplete 1\nthere 2 2-letter.txt\nthere 3 3.txt\nthere 4 4.txt\nincomplete 5\n\
+    exported 0 of 5 uploads, 3 there\n",
+];
+
+#[test]
+fn refused_name_gives_way_to_the_number(rt: HostRuntime) {
+    let alloc = rt.alloc();
+    let mut disk = spool_with_five(&rt, alloc);
+    let mut shelf = Shelf::new(&rt, alloc, "2-letter.txt", "ab", None, Some("4-letter.txt"));
+    for wanted in REFUSED.iter() {
+        let mut lines = Vec::new(alloc);
+        let (after, exported) = export_on(alloc, &mut lines, &mut shelf, disk, false);
+        exported.expect(&rt, "an export");
+        assert_eq!(rt; lines.as_slice(), *wanted);
+        assert_eq!(rt; shelf.text("4-letter.txt"), None);
+        assert_eq!(rt; shelf.text("4.txt"), Some(b"ef".as_slice()));
+        disk = after;
+    }
+}
+
+const UNSYNCED: &str = "gateway_unsynced_test";
+
+/// A link to a file of the system that has no bytes, as the upload has none, and that can't be synced.
+const LINK: &str = "gateway_unsynced_test/5-later";
+
+#[test]
+fn unread_file_is_named(rt: HostRuntime) {
+    let alloc = rt.alloc();
+    let _ = fs::remove_dir_all(&rt, UNSYNCED);
+    fs::create_dir(&rt, UNSYNCED).expect(&rt, "a folder");
+    symlink(&rt, "/proc/self/status", LINK).expect(&rt, "a link");
+    let mut into = FileFolder::find(&rt, alloc, UNSYNCED).expect(&rt, "a folder");
+    let mut lines = Vec::new(alloc);
+    let disk = spool_with_five(&rt, alloc);
+    let (_, exported) = export_on(alloc, &mut lines, &mut into, disk, true);
+    let done = exported.expect(&rt, "an export");
+    assert_eq!(rt; (done.exported, done.unread), (4, true));
+    let error = into.unread().expect(&rt, "a reason");
+    assert_eq!(rt; error.kind(), ErrorKind::InvalidInput);
+    fs::remove_dir_all(&rt, UNSYNCED).expect(&rt, "a folder");
 }

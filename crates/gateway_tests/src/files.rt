@@ -189,7 +189,8 @@ fn spool_stays_as_it_is(rt: HostRuntime) {
         unread,
         2,
         "refused: 4 Range index-jis0212.txt 2\n\
-        gateway_again_test/index-jis0212.txt is damaged, or no index file: fetch it again from encoding.spec.whatwg.org",
+        gateway_again_test/index-jis0212.txt is damaged, or no index file: fetch it again from \
+        encoding.spec.whatwg.org",
     );
     let after = fs::read(&rt, "gateway_again_test/spool").expect(&rt, "its bytes");
     assert_eq!(rt; before.len(), 557 * 4096);
@@ -219,6 +220,11 @@ fn failure_says_what_the_system_said(rt: HostRuntime) {
     are in /usr/share/wovelatsa/indexes, or encoding.spec.whatwg.org has them";
     fails(&rt, alloc, unmade, 2, last_line);
     assert!(rt; !fs::exists(&rt, "gateway_unmade_test").expect(&rt, "a folder"));
+    let nowhere = export_file(&rt, alloc, "gateway_unmade_test", "no_such_folder", false);
+    let message = "refused: 33 Io\n\
+    cannot look into the folder no_such_folder: No such file or directory (os error 2). The texts are written into a \
+    folder that is there: make it first";
+    fails(&rt, alloc, nowhere, 2, message);
     let used = FileDisk::create(&rt, "gateway_used_test", 4).expect(&rt, "a file");
     let twice = open_spool(&rt, "gateway_used_test").map(drop);
     let last_line = "refused: 38 InUse\n\

@@ -4,6 +4,8 @@
 #[cfg(test)]
 mod clients;
 #[cfg(test)]
+mod drains;
+#[cfg(test)]
 mod examples;
 #[cfg(test)]
 mod exports;
@@ -33,6 +35,8 @@ mod script_stories;
 mod scripts;
 #[cfg(test)]
 mod serving;
+#[cfg(test)]
+mod shelves;
 #[cfg(test)]
 mod slow_readers;
 #[cfg(test)]

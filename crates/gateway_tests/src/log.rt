@@ -132,7 +132,7 @@ struct Row {
     lines: &'static str,
 }
 
-const ROWS: [Row; 17] = [
+const ROWS: [Row; 18] = [
     // no bytes
     Row {
         sends: &[],
@@ -143,16 +143,27 @@ const ROWS: [Row; 17] = [
     // a body, an empty line before the head, and field names in any case
     Row {
         sends: &[
-            b"\r\nPATCH /files/1 HTTP/1.1\r\ntus-resumable: 1.0.0\r\ncontent-type: application/offset+octet-stream\r\nupload-offset: 3\r\nContent-Length: 3\r\n\r\nabc",
+            b"\r\nPATCH /files/1 HTTP/1.1\r\ntus-resumable: 1.0.0\r\n\
+            content-type: application/offset+octet-stream\r\nupload-offset: 3\r\nContent-Length: 3\r\n\r\n\
+            abc",
         ],
         room: 9999,
         lines: "1 127.0.0.1:7 PATCH /files/1 offset=3 body=3 status=204 in=138 out=92 ms=0 now=6\n\
         minute connections=1 requests=1 2xx=1 4xx=0 5xx=0 in=138 out=92 bodies=0\n",
     },
+    // a head whose lines end in LF alone
+    Row {
+        sends: &[b"HEAD /files/1 HTTP/1.1\nTus-Resumable: 1.0.0\n\n"],
+        room: 9999,
+        lines: "1 127.0.0.1:7 HEAD /files/1 status=200 in=45 out=102 ms=0 now=3/6\n\
+        minute connections=1 requests=1 2xx=1 4xx=0 5xx=0 in=45 out=102 bodies=0\n",
+    },
     // the body of a refused request isn't the next one
     Row {
         sends: &[
-            b"PATCH /files/9 HTTP/1.1\r\nTus-Resumable: 1.0.0\r\nContent-Type: application/offset+octet-stream\r\nUpload-Offset: 0\r\nContent-Length: 28\r\n\r\n",
+            b"PATCH /files/9 HTTP/1.1\r\nTus-Resumable: 1.0.0\r\n\
+            Content-Type: application/offset+octet-stream\r\nUpload-Offset: 0\r\nContent-Length: 28\r\n\
+            \r\n",
             b"DELETE /files/1 HTTP/1.1\r\n\r\n",
             b"HEAD /files/1 HTTP/1.1\r\nTus-Resumable: 1.0.0\r\n\r\n",
         ],
@@ -164,7 +175,10 @@ const ROWS: [Row; 17] = [
     // three at once: an interim reply is no reply
     Row {
         sends: &[
-            b"POST /files HTTP/1.1\r\nTus-Resumable: 1.0.0\r\nUpload-Length: 10\r\n\r\nPATCH /files/2 HTTP/1.1\r\nTus-Resumable: 1.0.0\r\nContent-Type: application/offset+octet-stream\r\nUpload-Offset: 0\r\nContent-Length: 3\r\nExpect: 100-continue\r\n\r\n",
+            b"POST /files HTTP/1.1\r\nTus-Resumable: 1.0.0\r\nUpload-Length: 10\r\n\r\n\
+            PATCH /files/2 HTTP/1.1\r\nTus-Resumable: 1.0.0\r\n\
+            Content-Type: application/offset+octet-stream\r\nUpload-Offset: 0\r\nContent-Length: 3\r\n\
+            Expect: 100-continue\r\n\r\n",
         ],
         room: 9999,
         lines: "1 127.0.0.1:7 POST /files length=10 status=201 in=65 out=110 ms=0 number=2\n\
@@ -181,7 +195,8 @@ const ROWS: [Row; 17] = [
     // a label that isn't known
     Row {
         sends: &[
-            b"POST /files HTTP/1.1\r\nTus-Resumable: 1.0.0\r\nUpload-Length: 5\r\nUpload-Metadata: from a2xpbmdvbg==\r\n\r\n",
+            b"POST /files HTTP/1.1\r\nTus-Resumable: 1.0.0\r\nUpload-Length: 5\r\n\
+            Upload-Metadata: from a2xpbmdvbg==\r\n\r\n",
         ],
         room: 9999,
         lines: "1 127.0.0.1:7 POST /files length=5 status=400 refusal=28:BadLabel \
@@ -191,7 +206,8 @@ const ROWS: [Row; 17] = [
     // labels and a mode in any order
     Row {
         sends: &[
-            b"POST /files HTTP/1.1\r\nTus-Resumable: 1.0.0\r\nUpload-Length: 5\r\nUpload-Metadata: to dXRm, from dXRmLTg=, mode aGFyZCB0aW1lcw==\r\n\r\n",
+            b"POST /files HTTP/1.1\r\nTus-Resumable: 1.0.0\r\nUpload-Length: 5\r\n\
+            Upload-Metadata: to dXRm, from dXRmLTg=, mode aGFyZCB0aW1lcw==\r\n\r\n",
         ],
         room: 9999,
         lines: "1 127.0.0.1:7 POST /files length=5 status=400 refusal=28:BadLabel \
@@ -217,7 +233,8 @@ const ROWS: [Row; 17] = [
     // blanks before the length of a body whose bytes look like a request, and blanks after it
     Row {
         sends: &[
-            b"PATCH /files/1 HTTP/1.1\r\nTus-Resumable: 1.0.0\r\nContent-Type: application/offset+octet-stream\r\nUpload-Offset:\t3 \r\nContent-Length:",
+            b"PATCH /files/1 HTTP/1.1\r\nTus-Resumable: 1.0.0\r\n\
+            Content-Type: application/offset+octet-stream\r\nUpload-Offset:\t3 \r\nContent-Length:",
             &BLANKS,
             b"3",
             &BLANKS,
@@ -269,7 +286,8 @@ const ROWS: [Row; 17] = [
     // another method counts than that of the first line: the first one that a field gives
     Row {
         sends: &[
-            b"POST /files/1 HTTP/1.1\r\nTus-Resumable: 1.0.0\r\nX-HTTP-Method-Override: DELETE\r\nx-http-method-override: HEAD\r\n\r\n",
+            b"POST /files/1 HTTP/1.1\r\nTus-Resumable: 1.0.0\r\nX-HTTP-Method-Override: DELETE\r\n\
+            x-http-method-override: HEAD\r\n\r\n",
             b"GET /files/2 HTTP/1.1\r\nX-HTTP-Method-Override:  \r\n\r\n",
         ],
         room: 9999,
@@ -280,7 +298,9 @@ const ROWS: [Row; 17] = [
     // a body that is cut, whose upload has what came; and a reply of which nothing could be sent
     Row {
         sends: &[
-            b"PATCH /files/1 HTTP/1.1\r\nTus-Resumable: 1.0.0\r\nContent-Type: application/offset+octet-stream\r\nUpload-Offset: 3\r\nContent-Length: 3\r\n\r\nab",
+            b"PATCH /files/1 HTTP/1.1\r\nTus-Resumable: 1.0.0\r\n\
+            Content-Type: application/offset+octet-stream\r\nUpload-Offset: 3\r\nContent-Length: 3\r\n\r\n\
+            ab",
         ],
         room: 9999,
         lines: "1 127.0.0.1:7 PATCH /files/1 offset=3 body=3 status=none in=135 out=0 ms=1 now=5/6\n\
@@ -478,8 +498,8 @@ fn lines_of_a_log(rt: HostRuntime) {
     }
 }
 
-/// Each row: the time, and the lines that are written then by a read that finds nothing. The client waited for its place
-/// until 5,000.
+/// Each row: the time, and the lines that are written then by a read that finds nothing. The client waited for its
+/// place until 5,000.
 const LATER: [(u64, &str); 4] = [
     (5999, ""),
     (

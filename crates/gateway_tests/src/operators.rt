@@ -56,11 +56,11 @@ fn spool_with_three(rt: &impl Abort, alloc: Global) -> MemoryDisk {
 fn uploads_are_deleted_by_their_numbers(rt: HostRuntime) {
     let alloc = rt.alloc();
     let mut disk = spool_with_three(&rt, alloc);
-    for (numbers, all, last_line, left) in DELETIONS.iter() {
+    for (numbers, all, printed, left) in DELETIONS.iter() {
         let mut lines = Vec::new(alloc);
         let (after, deleted) = delete_on(alloc, &mut lines, disk, numbers);
         assert!(rt; deleted == Ok(*all));
-        assert_eq!(rt; lines.as_slice(), *last_line);
+        assert_eq!(rt; lines.as_slice(), *printed);
         let mut lines = Vec::new(alloc);
         let (after, listed) = list_on(alloc, &mut lines, after, false);
         assert!(rt; listed.is_ok());

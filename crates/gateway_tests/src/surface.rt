@@ -8,10 +8,10 @@ use std::io::{self, ErrorKind, Read, Write};
 use std::process::Abort;
 
 /// Checks the message and the exit status of a failure.
-fn fails(rt: &impl Abort, alloc: Global, failure: Failure, status: u8, last_line: &str) {
-    let mut replied = Vec::new(alloc);
-    assert_eq!(rt; ended(&mut replied, Err(failure)), status);
-    assert_eq!(rt; replied.as_slice(), last_line.as_bytes());
+fn fails(rt: &impl Abort, alloc: Global, failure: Failure, status: u8, message: &str) {
+    let mut shown = Vec::new(alloc);
+    assert_eq!(rt; ended(&mut shown, Err(failure)), status);
+    assert_eq!(rt; shown.as_slice(), message.as_bytes());
 }
 
 /// A stream that fails.
@@ -37,7 +37,7 @@ impl Write for Lost {
 #[test]
 fn failures_are_told(rt: HostRuntime) {
     let alloc = rt.alloc();
-    for (fault, status, last_line) in [
+    for (fault, status, message) in [
         (Fault::Script(2), 2, "refused: 32 Script 2\n"),
         (
             Fault::Index("index-ibm866.txt", ReadError::Twice(7)),
@@ -49,7 +49,7 @@ fn failures_are_told(rt: HostRuntime) {
         (Fault::CannotOpen, 2, "refused: 39 CannotOpen\n"),
         (Fault::Stop(Stop::DiskFault), 3, "device fault\n"),
     ] {
-        fails(&rt, alloc, Failure::from(fault), status, last_line);
+        fails(&rt, alloc, Failure::from(fault), status, message);
     }
     let mut input = Noted::new(Lost);
     assert!(rt; input.read(&mut [0]).is_err());

@@ -57,7 +57,8 @@ returns-in-Err-run g c = record {
       (λ x d'. (NotOpened x c.refused_in.result d' × (c.run.new.reader ≡ c.args.reader.now)
       × (c.run.new.writer ≡ c.args.writer.now))
       ⊎ RanIn {T = Unit {0}} disk x (Err c.refused_in.result) input before after none d') opened.0 is
-      (leaves_again holds disks c.args.path.now None _ _ (c.refused_in.ensures.left _ opened.1) (λ d' reads. inr (record {
+      (leaves_again holds disks c.args.path.now None _ _
+      (c.refused_in.ensures.left _ opened.1) (λ d' reads. inr (record {
         run = Err (c.in-Err-run.disk, c.in-Err-run.fault);
         runs = record {
           runs = ran.runs;

@@ -5,7 +5,7 @@ use Rattle.upload_rules.specs.Reading.{text_at, AreOf}
 use Rattle.upload_rules.specs.Store.{upload_of}
 use Rattle.upload_rules.specs.World.{World}
 use Rattle.gateway_files.specs.Folders.{Files, StillLast}
-use Rattle.gateway_files.proofs.comparing.is_text.Given as goal
+use Rattle.gateway_files.proofs.comparing.compare_text.Given as goal
 
 abbrev pub invariant-loop-at : goal.invariant-loop-at
 invariant-loop-at g l =
@@ -19,6 +19,7 @@ invariant-loop-at g l =
     × ((sure : Bool) (w : World) → g.U.Uploads.represents l.fn.uploads sure w → (files : Files) (bytes : List ℕ)
     → g.F.Folder.holds l.fn.folder files → files l.name ≡ Some bytes → l.len ≡ length bytes
     → AreOf sure (take l.at bytes) (take l.at (text_at w.store (upload_of w.store l.number))))
+    × (g.F.Folder.takes l.folder ≡ g.F.Folder.takes l.fn.folder)
     × MoreReads (g.U.Uploads.reads l.fn.uploads) (g.U.Uploads.reads l.uploads)
 
 abbrev pub decreases-loop-at : goal.decreases-loop-at
