@@ -55,8 +55,8 @@ fn example_of_open_transcoder(rt: HostRuntime) {
     assert!(rt; matches!(refused, Err(EncodeError::Unencodable('\u{1F600}'))));
     let next = open.fed(&set, b"a", &mut out).expect(rt, "it has a code");
     let end = next.ended(&set, &mut out).expect(rt, "no memory is needed");
-    assert!(rt; out.as_slice() == b"a".as_slice() && next.pack() == next.copy().pack());
     assert!(rt; OpenTranscoder::of(end).is_none());
+    assert!(rt; out.as_slice() == b"a".as_slice() && next.pack() == next.copy().pack());
 }
 
 #[test]

@@ -129,8 +129,8 @@ fn write_spent(out: &mut Vec<u8>, spent: Spent) -> io::Result<()> {
     Ok(())
 }
 
-// Writes what is known of an upload: its number if it is new, and how many bytes it has now, of how many: by the reply, or
-// where a body was cut without one, by how far it came.
+// Writes what is known of an upload: its number if it is new, and how many bytes it has now, of how many: by the reply,
+// or where a body was cut without one, by how far it came.
 fn write_upload(
     out: &mut Vec<u8>,
     exchange: &Exchange,

@@ -36,7 +36,7 @@ pub trait CountedWrite {
     /// How many calls it refused, or 2^64 - 1 where they were more or weren't counted.
     ghost refusals: { Self → ℕ };
 
-    /// Writes a prefix part of the piece: how many bytes, none only where the piece is empty.
+    /// Writes a prefix of the piece: how many bytes, none only where the piece is empty.
     fn write_piece(&mut self, piece: &[u8]) -> Result<usize, Refused>
         ensures bound { WritesAtMost result piece.now }
         ensures bytes { WriteAppends (contents self.old) (contents self.new) result piece.now }

@@ -28,7 +28,7 @@ const MOST_WAITING: usize = 65_536;
 /// A buffer of which all is written holds on to so many bytes of memory: a piece of a text needs none anew.
 const MOST_HELD: usize = 131_072;
 
-/// What was read from a socket: the session took a prefix part of it.
+/// What was read from a socket: the session took a prefix of it.
 #[derive(Drop)]
 pub(crate) struct Input {
     bytes: [u8; PIECE],
@@ -107,7 +107,7 @@ impl Input {
     }
 }
 
-/// What a session gave for a socket: a prefix part of it is written.
+/// What a session gave for a socket: a prefix of it is written.
 #[derive(Drop)]
 pub(crate) struct Output {
     bytes: Vec<u8>,
@@ -149,7 +149,7 @@ impl Output {
         self.left().len() < MOST_WAITING
     }
 
-    /// Writes now a prefix part of what is left: how many bytes.
+    /// Writes now a prefix of what is left: how many bytes.
     pub(crate) fn write<S: Read + Write>(
         &mut self,
         socket: &mut Socket<S>,

@@ -104,7 +104,7 @@ impl<S: Read + Write> Socket<S> {
         }
     }
 
-    /// Writes now a prefix part of the bytes: how many.
+    /// Writes now a prefix of the bytes: how many.
     pub(crate) fn write(&mut self, bytes: &[u8], now: Duration) -> io::Result<usize>
         ensures bound { WritesAtMost result bytes.now }
         ensures went { IfOk result (λ n. went_of self.new ≡ went_of self.old ++ take n bytes.now) }

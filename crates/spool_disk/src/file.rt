@@ -2,6 +2,7 @@
 ghost use Rattle.std.specs.Prelude.{◌≡◌, ◌↔◌, ◌++◌, ℕ, [], ◌∷◌, true, false, is_ok, IfOk, IfErr, IsErr, OnOk, Some};
 ghost use Rattle.spool_disk.specs.Disk.{Counts, IsImage};
 ghost use Rattle.spool_disk.specs.Positioned.{made, opened, lengthened, calls_to_make};
+ghost use Rattle.spool_disk.specs.SystemFile.{calls_of};
 
 use crate::{Disk, DiskFault, FileCall, Positioned, SystemFile};
 use std::fs::{File, Files};
@@ -26,6 +27,21 @@ pub struct PositionedDisk<F> {
 /// It has the file's exclusive lock (`flock`) until it is dropped, so that no other `FileDisk` of any process uses the
 /// file meanwhile. The lock is advisory: other programs can still write to the file.
 pub type FileDisk = PositionedDisk<SystemFile>;
+
+/// Why no file became a disk.
+#[derive(Clone, Copy, Debug, Drop)]
+pub enum CreateError {
+    /// It can't be opened or made, or another disk has its lock (`ResourceBusy`).
+    Open(io::Error),
+    /// Its length can't be asked for or set, or it or its folder can't be synced.
+    Lengthen(io::Error),
+}
+
+impl From<CreateError> for DiskFault {
+    fn from(_error: CreateError) -> Self {
+        DiskFault
+    }
+}
 
 impl PositionedDisk<SystemFile> {
     ghost use Rattle.spool_disk.specs.File.{length_of, failed_in, calls_in};
@@ -61,20 +77,24 @@ impl PositionedDisk<SystemFile> {
         FileDisk::try_open(rt, path).map_err(DiskFault::from)
     }
 
-    /// As `create`, with the system's error: `ResourceBusy` if another disk has the file's lock.
+    /// As `create`, with the call that failed and the system's error.
     pub fn try_create<R: Files<File = File> + Alloc>(
         rt: &R,
         path: &str,
         len: u64,
-    ) -> io::Result<Self>
+    ) -> Result<Self, CreateError>
         ensures len { IfOk result (λ disk. length_of disk ≡ len) }
         ensures none { IfOk result (λ disk. failed_in disk ≡ 0) }
         ensures made { IfOk result (λ disk. (found : ℕ) × (calls_in disk ≡ calls_to_make found len)) }
     {
-        let mut file = SystemFile::create(rt, path)?;
-        lengthen(&mut file, len)?;
-        file.sync_folder(rt, path)?;
-        Ok(PositionedDisk::new(file, len))
+        let mut file = match SystemFile::create(rt, path) {
+            Ok(file) => file,
+            Err(error) => return Err(CreateError::Open(error)),
+        };
+        match make_last(rt, path, &mut file, len) {
+            Ok(()) => Ok(PositionedDisk::new(file, len)),
+            Err(error) => Err(CreateError::Lengthen(error)),
+        }
     }
 
     /// As `open`, with the system's error: `ResourceBusy` if another disk has the file's lock.
@@ -130,6 +150,20 @@ impl<F> PositionedDisk<F> {
             }
         }
     }
+}
+
+// Makes the file at the path at least `len` bytes long, and makes it and its name last.
+fn make_last<R: Files<File = File> + Alloc>(
+    rt: &R,
+    path: &str,
+    file: &mut SystemFile,
+    len: u64,
+) -> io::Result<()>
+    ensures { OnOk result ((found : ℕ)
+        × (calls_of file.new ≡ made FileCall.SyncFolder [] true ∷ lengthened found len ++ calls_of file.old)) }
+{
+    lengthen(file, len)?;
+    file.sync_folder(rt, path)
 }
 
 // Makes the file at least `len` bytes long, and syncs all of it.

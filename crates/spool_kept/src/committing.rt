@@ -36,8 +36,8 @@ use std::alloc::Global;
 use upload_rules::{UploadError, UploadRefusal, is_length, taken};
 
 // Ends a draft's text after its upload's, and answers what the upload becomes, and the bytes that are still to be
-// written: refused with `Unencodable`, `TooLong`, `Full`, `NoMemory`, `DiskFault`. The blocks stay the draft's. Nothing is
-// written.
+// written: refused with `Unencodable`, `TooLong`, `Full`, `NoMemory`, `DiskFault`. The blocks stay the draft's. Nothing
+// is written.
 fn ended<D: Disk>(
     alloc: Global,
     disk: &mut D,

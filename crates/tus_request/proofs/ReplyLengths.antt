@@ -44,7 +44,8 @@ pub record IsReply (text reply_bytes : List ℕ) : Type 0 where
   pub fits : length text < 2 ^ 64
 
 is_reply : (text reply_bytes : List ℕ) → text ≡ reply_bytes → length reply_bytes ≤ 2048 → IsReply text reply_bytes
-is_reply text reply_bytes same short = record { same = same; short = rw same short; fits = rw same (omega (arith, short)) }
+is_reply text reply_bytes same short =
+    record { same = same; short = rw same short; fits = rw same (omega (arith, short)) }
 
 pub unless_small : (bare : Bool) (n : ℕ) → n < 2 ^ 64 → IfSome (unless_bare bare n) (λ k. k < 2 ^ 64)
 unless_small true n small = tt
@@ -111,7 +112,8 @@ long_head offset declared size metadata closes few long = omega (
   arith,
   few,
   long,
-  around (codes "200 OK") (offset ++ (declared ++ (metadata_line metadata ++ (size ++ [])))) None closes (omega arith) tt,
+  around (codes "200 OK") (offset ++ (declared ++ (metadata_line metadata ++ (size ++ [])))) None closes
+      (omega arith) tt,
   length-append offset (declared ++ (metadata_line metadata ++ (size ++ []))),
   length-append declared (metadata_line metadata ++ (size ++ [])),
   length-append (metadata_line metadata) (size ++ []),

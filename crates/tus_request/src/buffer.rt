@@ -44,8 +44,9 @@ impl HeadBuffer {
         self.bytes.len()
     }
 
-    /// Reads the head together with a further piece of the stream; the result is that of `parse` over both. Bytes that
-    /// can't belong to the head aren't copied, and only the piece is searched for the head's end.
+    /// Reads the head together with a further piece of the stream; the result is that of `parse` over both. Of the
+    /// piece as many bytes are copied as a head still may have, and they alone are searched for the head's end; a head
+    /// that is whole is measured once more.
     ///
     /// A head that is still unfinished is stored. Otherwise the buffer is empty afterwards.
     ///

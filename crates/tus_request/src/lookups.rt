@@ -106,7 +106,7 @@ pub(crate) fn body_length(fields: &[Header<'_>]) -> Option<u64>
     number_in(fields, &CONTENT_LENGTH)
 }
 
-/// The new offset that the request expects, if it is given once and is a number.
+/// The offset of the upload that the request names, if it is given once and is a number.
 pub(crate) fn offset_in(fields: &[Header<'_>]) -> Option<u64>
     ensures { result ≡ number_in (values fields.now (codes "upload-offset")) }
 {

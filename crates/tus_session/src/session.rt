@@ -103,7 +103,7 @@ impl<U: Uploads> Session<U> {
     ///
     /// The call takes the bytes up to the end of the current request, or all of them if it doesn't end there. It takes
     /// none while a text is pending. A request that makes a text pending is taken up to the end of its head. At most
-    /// 8,192 bytes of an unfinished head are stored, and each call searches them for the head's end once.
+    /// 8,192 bytes of an unfinished head are stored, and each call searches its own bytes alone for the head's end.
     ///
     /// # Errors
     ///

@@ -14,7 +14,7 @@ use common::Stop;
 use tus_action::{Given, OpenPatch, PieceBuffer, cut, give_more};
 use upload_rules::Uploads;
 
-// The answer of an open connection to which no reply was given.
+// The answer of a call after which the connection stays open.
 pub(crate) fn waits(taken: usize, more: bool) -> Answer
     ensures { result ≡ record { taken = taken; closes = false; more = more } }
 {

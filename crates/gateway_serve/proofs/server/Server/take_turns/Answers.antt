@@ -121,7 +121,8 @@ pub turn-requires-clause-room : goal.turn-requires-clause-room
 turn-requires-clause-room g c =
     (counts_on (g.A.Acceptor.answers c.args.acceptor.now) (g.A.Acceptor.answers c.loop-left.acceptor) c.args.turns
     c.loop-left.left (done_of c.loop-left.self.door) c.loop-left.self.door.clients
-    (is_some c.loop-left.self.door.waiting) (passes_of c.loop-left.self.door.pace) c.loop-left.invariant.5 (omega (arith, c.loop-left-test.true))
+    (is_some c.loop-left.self.door.waiting) (passes_of c.loop-left.self.door.pace) c.loop-left.invariant.5
+    (omega (arith, c.loop-left-test.true))
     c.loop-left.invariant.4 (omega (arith, c.ranges.turns.fits))).0
 
 pub loop-left-init : goal.loop-left-init
