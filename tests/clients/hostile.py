@@ -237,8 +237,7 @@ def try_index(program, rng, folder, sound):
     told = (ran.returncode, ran.stdout, ran.stderr)
     same("formatted again", (again.returncode, again.stdout, again.stderr), told)
     if refusal:
-        wanted = f"refused: {refusal[0]} {JIS0208} {refusal[1]}\n".encode()
-        same("the refusal", (ran.returncode, ran.stderr), (2, wanted))
+        same("the refusal", refusal_in(ran), f"refused: {refusal[0]} {JIS0208} {refusal[1]}".encode())
         holds("a spool was made", not made[0].exists() and not made[1].exists())
         return
     same("the status", (ran.returncode, ran.stderr.splitlines()[:1]), (0, [b"index files read: 18"]))

@@ -121,7 +121,7 @@ def digest_of(file):
 
 def try_digests(folder):
     """The digests in the source, each after the name of its file, are those of the standard's files."""
-    source = (ROOT / "crates/gateway_files/src/digests.rt").read_text()
+    source = (ROOT / "crates/gateway_indexes/src/digests.rt").read_text()
     told = re.findall(r"/// Of (index-.*\.txt)\.\n.* = \[([^]]*)\];", source)
     got = {name: "".join(re.findall("0x(..)", digits)).lower() for name, digits in told}
     same("the digests", got, {it.name: digest_of(it) for it in folder.glob("index-*.txt")})
@@ -370,17 +370,22 @@ def try_reader(program):
 
 
 def try_deletions(program):
-    """`delete --incomplete` deletes what it printed, and nothing before `--yes`."""
+    """`delete --incomplete` deletes what it printed, and nothing before `--yes` or beside an unknown number to keep."""
     program.made("deleted", *script_of_uploads())
     listed, _ = program.does("list", "deleted")
     out, said = program.does("delete", "deleted", "--incomplete")
     same("what would be deleted", out.decode(), "would delete 2\nwould delete 3\n")
     same("what is said then", said, "nothing was deleted: --yes deletes them\n")
     same("the uploads then", program.does("list", "deleted")[0], listed)
-    out, said = program.does("delete", "deleted", "--incomplete", "--but", 7, 3, 2, "--yes")
+    advice = "there is no upload 7 to keep, so nothing is deleted"
+    gave = program.refuses(2, "refused: 8 NoSuch", advice, "delete", "deleted", "--incomplete", "--yes", "--but", 3, 7)
+    same("where one to keep isn't there", (gave, program.does("list", "deleted")[0]), (b"", listed))
+    out, said = program.does("delete", "deleted", "--incomplete", "--but", 3, 2, "--yes")
     same("where all are kept", (out, said), (b"", "nothing to delete\n"))
+    kept = "1 is complete, and kept anyhow\n"
     out, said = program.does("delete", "deleted", "--incomplete", "--but", 3, 1)
-    same("what would be deleted but one", (out.decode(), said.count("\n")), ("would delete 2\n", 1))
+    same("what would be deleted but one", out.decode(), "would delete 2\n")
+    same("what is said of a complete one", said, kept + "nothing was deleted: --yes deletes them\n")
     same("the uploads still", program.does("list", "deleted")[0], listed)
     out, _ = program.does("delete", "deleted", "--incomplete", "--but=3", "--yes")
     same("what was deleted but one", out.decode(), "deleted 2\n")
@@ -388,9 +393,9 @@ def try_deletions(program):
     same("what was deleted", out.decode(), "deleted 3\n")
     left = [line for line in listed.decode().splitlines(keepends=True) if line[0] not in "23"]
     same("what is left", program.does("list", "deleted")[0].decode(), "".join(left))
-    for words in [], ["--yes"], ["--but", 1]:
+    for words, more in ([], ""), (["--yes"], ""), (["--but", 1], kept):
         gave = program.does("delete", "deleted", "--incomplete", *words)
-        same("nothing more", gave, (b"", "nothing to delete\n"))
+        same("nothing more", gave, (b"", more + "nothing to delete\n"))
     full = ["open 1", *(line for _ in range(512) for line in post(1, 9, "utf-8"))]
     program.made("full", *full)
     program.does("delete", "full", "--incomplete", "--yes")

@@ -1,4 +1,1 @@
-pub mod Addresses
 pub mod Labelling
-pub mod Scripts
-pub mod Serving

@@ -1,11 +1,12 @@
 //! The labels that standard input may have, by the index files of a folder.
 ghost use Rattle.std.specs.Prelude.{◌≡◌};
-ghost use Rattle.gateway_files.specs.Failures.{fault_in};
+ghost use Rattle.gateway_outside.specs.Failures.{fault_in};
 ghost use Rattle.gateway.specs.Labelling.{fault_of};
 
 use common::Stop;
-use gateway_files::{Failure, Fault, IndexFiles, Task, read_indexes, report_others};
+use gateway_indexes::{IndexFiles, read_indexes, report_others};
 use gateway_labels::{FIRST, Unread, labels_on, write_json, write_lines, write_notes};
+use gateway_outside::{Failure, Fault, Task};
 use std::alloc::Global;
 use std::io::{self, BufWriter, Write};
 

@@ -2,24 +2,21 @@
 #![tactic(auto)]
 
 mod labelling;
-mod scripting;
-mod serving;
-mod standard;
-mod watched;
 
 use clap::Error;
 use clap::error::ErrorKind;
 use common::Stop;
-use gateway_files::{
-    Failure, Fault, Task, delete_file, delete_incomplete_file, ended, export_file, format_file,
-    json_file, list_file, report_formatted, report_longer, report_read, report_upgraded, text_file,
-    upgrade_file,
-};
+use gateway_delete::{delete_file, delete_incomplete_file};
+use gateway_export::export_file;
+use gateway_format::{format_file, report_formatted, report_longer, report_upgraded, upgrade_file};
+use gateway_indexes::report_read;
+use gateway_list::{json_file, list_file};
 use gateway_orders::{Order, USAGE, read_order, report_usage};
+use gateway_outside::{Closed, Failure, Fault, Task, ended};
+use gateway_run::run_script;
+use gateway_text::text_file;
+use gateway_up::{Reporting, serve_file, serve_up};
 use labelling::labels_file;
-use scripting::run_script;
-use serving::{Reporting, serve_file, serve_up};
-use standard::Closed;
 use std::alloc::Global;
 use std::process::ExitCode;
 use std::{env, io};

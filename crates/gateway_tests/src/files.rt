@@ -3,10 +3,12 @@
 use crate::spools::ran;
 use crate::steps::Step::{self, Added, Deferred, Made, Open};
 use crate::talks::Talk;
-use gateway_files::{
-    Failure, delete_incomplete_file, export_file, format_file, json_file, list_file, list_on,
-    open_spool, report_formatted, report_read, upgrade_file,
-};
+use gateway_delete::delete_incomplete_file;
+use gateway_export::export_file;
+use gateway_format::{format_file, report_formatted, upgrade_file};
+use gateway_indexes::report_read;
+use gateway_list::{json_file, list_file, list_on};
+use gateway_outside::{Failure, open_spool};
 use spool_disk::{Disk, FileDisk};
 use std::alloc::Global;
 use std::fs;

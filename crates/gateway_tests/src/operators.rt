@@ -5,11 +5,15 @@ use crate::steps::Step::{self, Added, Deferred, Made, Open};
 use crate::talks::{Talk, fresh};
 use enc_index::{Index, IndexSet, Kind};
 use enc_model::{Encoding, Mode};
-use gateway_files::{
-    Conversion, Fault, Found, Tally, Used, conversion_of, delete_on, digest_of, entries_of,
-    found_in, incomplete_on, is_standard, list_on, report_indexes, standard_digest,
-    standard_entries, text_on, used_of,
+use gateway_delete::{delete_on, incomplete_on};
+use gateway_indexes::{
+    Found, Used, digest_of, entries_of, found_in, is_standard, report_indexes, standard_digest,
+    standard_entries, used_of,
 };
+use gateway_list::list_on;
+use gateway_outside::Fault;
+use gateway_text::{Conversion, conversion_of, text_on};
+use gateway_texts::Tally;
 use spool_disk::MemoryDisk;
 use std::alloc::Global;
 use std::io::{self, Write};
@@ -72,16 +76,15 @@ fn uploads_are_deleted_by_their_numbers(rt: HostRuntime) {
 #[test]
 fn uploads_that_are_not_complete(rt: HostRuntime) {
     let alloc = rt.alloc();
-    let (disk, numbers) = incomplete_on(alloc, spool_with_three(&rt, alloc), &[]);
-    assert_eq!(rt;
-        numbers.expect(&rt, "numbers").as_slice(),
-        [1u64, 3].as_slice()
-    );
-    let (_, numbers) = incomplete_on(alloc, disk, &[2, 3, 9]);
-    assert_eq!(rt;
-        numbers.expect(&rt, "numbers").as_slice(),
-        [1u64].as_slice()
-    );
+    let (disk, found) = incomplete_on(alloc, spool_with_three(&rt, alloc), &[]);
+    let found = found.expect(&rt, "uploads");
+    assert_eq!(rt; found.numbers.as_slice(), [1u64, 3].as_slice());
+    assert_eq!(rt; (found.unknown, found.complete.len()), (None, 0));
+    let (_, found) = incomplete_on(alloc, disk, &[2, 3, 9, 2, 8]);
+    let found = found.expect(&rt, "uploads");
+    assert_eq!(rt; found.numbers.as_slice(), [1u64].as_slice());
+    assert_eq!(rt; found.unknown, Some(9));
+    assert_eq!(rt; found.complete.as_slice(), [2u64, 2].as_slice());
 }
 
 #[test]

@@ -12,7 +12,7 @@ use crate::stories::{FREED, FULL_SPOOL, HELLO, LONG_TEXT, ONE_WINNER};
 use crate::talks::{Files, Talk, fresh, with_files};
 use common::SLOTS;
 use gateway_engine::ScriptFault;
-use gateway_files::list_on;
+use gateway_list::list_on;
 use gateway_rounds::RunFault;
 use std::alloc::Global;
 use std::process::Abort;

@@ -2,7 +2,7 @@
 
 ghost use Rattle.std.specs.Prelude.{true};
 
-use gateway_files::Folder;
+use gateway_export::Folder;
 use std::alloc::Global;
 use std::io::{self, ErrorKind};
 use std::process::Abort;

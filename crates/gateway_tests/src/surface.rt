@@ -2,7 +2,7 @@
 
 use common::Stop;
 use enc_index::ReadError;
-use gateway_files::{Failure, Fault, Noted, ended};
+use gateway_outside::{Failure, Fault, Noted, ended};
 use std::alloc::Global;
 use std::io::{self, ErrorKind, Read, Write};
 use std::process::Abort;

@@ -1,0 +1,3 @@
+mod Deletions
+mod Recorded
+mod Found

@@ -1,0 +1,4 @@
+mod Compared
+mod Planned
+mod Named
+mod Exported

@@ -1,5 +1,0 @@
-use Rattle.gateway_files.proofs.InOrder.{shown_in_order}
-use Rattle.gateway_files.proofs.laws.shown_in_order.Goals as goal
-
-pub returns : goal.returns
-returns c = shown_in_order

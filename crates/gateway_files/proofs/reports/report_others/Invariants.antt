@@ -1,9 +1,0 @@
-use Rattle.std.proofs.Common.{flat_map, take}
-use Rattle.std.specs.Io.KnownBytes.{Appends}
-use Rattle.gateway_files.specs.Reports.{other_line}
-use Rattle.gateway_files.proofs.reports.report_others.Given as goal
-
-abbrev pub invariant-loop-file : goal.invariant-loop-file
-invariant-loop-file g l =
-    Appends (g.W.Write.contents l.fn.writer) (g.W.Write.contents l.writer)
-    (flat_map other_line (take l.file-index l.files))

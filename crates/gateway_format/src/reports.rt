@@ -1,0 +1,30 @@
+//! What is printed of a spool that was made or upgraded.
+ghost use Rattle.std.specs.Prelude.{OnOk};
+ghost use Rattle.std.specs.Io.KnownBytes.{Appends};
+ghost use Rattle.gateway_format.specs.Reports.{formatted_line, longer_line, upgraded_line};
+
+use std::io::{self, Write};
+
+/// Prints what `format` made.
+pub fn report_formatted<W: Write>(writer: &mut W, blocks: u32, pages: u32) -> io::Result<()>
+    ensures { OnOk result (Appends (W.contents writer.old) (W.contents writer.new) (formatted_line blocks pages)) }
+{
+    writeln!(writer, "formatted {blocks} blocks, {pages} pages")
+}
+
+/// Prints that the file of a spool that was made is longer than the spool, since it was so long before.
+pub fn report_longer<W: Write>(writer: &mut W, spool: &str, len: u64) -> io::Result<()>
+    ensures { OnOk result (Appends (W.contents writer.old) (W.contents writer.new) (longer_line spool.now len)) }
+{
+    writeln!(
+        writer,
+        "{spool} has {len} bytes, as before: more than the spool, which is at its start"
+    )
+}
+
+/// Prints that a spool was upgraded.
+pub fn report_upgraded<W: Write>(writer: &mut W) -> io::Result<()>
+    ensures { OnOk result (Appends (W.contents writer.old) (W.contents writer.new) upgraded_line) }
+{
+    writeln!(writer, "upgraded to version 2")
+}

@@ -1,0 +1,3 @@
+mod Entries
+mod Indexing
+mod Digested

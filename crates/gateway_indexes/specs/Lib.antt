@@ -1,0 +1,5 @@
+pub mod IndexFiles
+pub mod Reports
+pub mod Surveying
+pub mod Digests
+pub mod Found

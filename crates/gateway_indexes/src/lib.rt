@@ -1,0 +1,21 @@
+//! The operator's index files, told from the standard's, and what a spool has: of indexes and of free room.
+#![tactic(auto)]
+
+mod digests;
+mod found;
+mod index_files;
+mod reports;
+mod spool_indexes;
+mod surveying;
+mod tables;
+
+pub use digests::{digest_of, is_standard, standard_digest};
+pub use found::Found;
+pub use index_files::{
+    IndexFile, IndexFiles, Readable, read_indexes, read_indexes_from, refuse_others,
+    standard_entries,
+};
+pub use reports::{report_free, report_others, report_read};
+pub use spool_indexes::{Doubtful, InSpool, doubtful_of, found_in, report_indexes};
+pub use surveying::{Survey, Used, open_surveyed, used_of};
+pub use tables::{Kept, Table, entries_of};

@@ -1,0 +1,16 @@
+pub mod Faults
+pub mod Failures
+pub mod Streams
+pub mod Listing
+pub mod Changing
+pub mod Leaving
+pub mod SpoolFiles
+pub mod InOrder
+pub mod Files
+pub mod Bools
+pub mod Writing
+pub mod Above
+pub mod Refusals
+pub mod Lasting
+pub mod Held
+pub mod Counted

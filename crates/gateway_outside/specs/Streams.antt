@@ -1,0 +1,11 @@
+-- Readers and writers that store something of what their calls gave.
+use Rattle.std.specs.Prelude.{Option}
+use Rattle.std.specs.declared.io.Error.{Error}
+use Rattle.gateway_outside.specs.declared.streams.Noted.{Noted}
+
+-- the stream under one that stores why its latest call failed, and that reason
+abbrev pub noted_stream : {S : Type 0} → Noted S → S
+noted_stream noted = noted.stream
+
+abbrev pub latest_error_of : {S : Type 0} → Noted S → Option Error
+latest_error_of noted = noted.error

@@ -1,0 +1,23 @@
+//! The outside of the program: files that spools are in, streams, why it ends before its work is done, and what it says
+//! then.
+#![tactic(auto)]
+
+mod advice;
+mod failures;
+mod faults;
+mod finding;
+mod laws;
+mod spool_files;
+mod standard;
+mod streams;
+
+pub use advice::{Advice, Task, TextAdvice};
+pub use failures::{Failure, ended};
+pub use faults::Fault;
+pub use finding::find_folder;
+pub use laws::shown_in_order;
+pub use spool_files::{
+    SpoolFiles, SystemFiles, open_in, open_spool, refused_by, refused_in, refused_spool,
+};
+pub use standard::{Closed, files_to_open};
+pub use streams::Noted;

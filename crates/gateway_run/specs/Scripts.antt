@@ -1,0 +1,56 @@
+-- What a run of a script over the spool in a file comes to.
+use Rattle.std.specs.Prelude.{◌≡◌, ℕ, List, Option, Some, Result, Ok, Err, OnErr}
+use Rattle.spool_disk.specs.Disk.{Counts}
+use Rattle.spool_disk.specs.declared.disk.Disk.{Ghosts}
+use Rattle.upload_rules.specs.Store.{Store}
+use Rattle.spool_image.specs.LeftOnly.{IsSpool}
+use Rattle.spool_image.specs.Opening.{OpensExactly, ReadsSame, Unwritten, open_refusal_of}
+use Rattle.tus_session.specs.History.{beginning}
+use Rattle.gateway_script.specs.Script.{IsScript}
+use Rattle.gateway_script.specs.declared.faults.ScriptFault.TheVariants as scripts
+use Rattle.gateway_engine.specs.RanFrom.{HasFailedOn, HasRunFrom, RunsBy, WritesOpened, WritesOver, disk_back}
+use Rattle.gateway_engine.specs.RanFrom.{opening_in}
+use Rattle.gateway_engine.specs.declared.faults.RunFault.{RunFault}
+use Rattle.gateway_engine.specs.declared.faults.RunFault.TheVariants as runs
+use Rattle.gateway_outside.specs.Failures.{fault_in}
+use Rattle.gateway_outside.specs.Faults.{open_fault}
+use Rattle.gateway_outside.specs.SpoolFiles.{OnlyRead}
+use Rattle.gateway_outside.specs.declared.failures.Failure.{Failure}
+use Rattle.gateway_outside.specs.declared.faults.Fault.{Fault}
+use Rattle.gateway_outside.specs.declared.faults.Fault.TheVariants as faults
+
+-- A RUN THAT ENDED EARLY, as the program's fault
+abbrev pub run_fault : RunFault → Fault
+run_fault (runs.Open fault) = open_fault fault
+run_fault (runs.Script (scripts.Stop stop)) = faults.Stop stop
+run_fault (runs.Script (scripts.Script line)) = faults.Script line
+run_fault (runs.Script scripts.Io) = faults.Io
+
+-- what is answered for a run
+abbrev pub AnswersRun : {T D : Type 0} → Result D (D × RunFault) → Result T Failure → Type 0
+AnswersRun (Ok d) (Ok t) = Unit {0}
+AnswersRun (Err (d, fault)) (Err failure) = fault_in failure ≡ run_fault fault
+AnswersRun (Ok d) (Err failure) = ⊥
+AnswersRun (Err e) (Ok t) = ⊥
+
+-- A RUN OVER A DISK, of the script that the reader had and with what was written before and after: what
+-- `gateway_engine::run` promises of it. If the disk isn't opened, `none` holds
+pub record Runs {D : Type 0} (disk : Ghosts D) (d : D) (run : Result D (D × RunFault))
+    (input before after : Option (List ℕ)) (none : Type 0) : Type 0 where
+  pub runs : (n : ℕ) (m : Store) → IsSpool disk d n m → (script : List ℕ) × IsScript input script
+      × HasRunFrom disk d run after before n (beginning m (Some n)) script
+  pub writes : WritesOpened run input after before
+  pub given : RunsBy disk d run (WritesOver run input after before)
+  pub exact : disk.honest d → OpensExactly (disk.size d) (disk.current d) (open_refusal_of (opening_in run))
+  pub unopened : OnErr (opening_in run) none
+  pub unwritten : disk.honest d → OnErr (opening_in run) (Unwritten disk d (disk_back run))
+  pub same : disk.honest d → OnErr (opening_in run) (ReadsSame disk d (disk_back run) (HasFailedOn run))
+  pub counts : Counts (HasFailedOn run) (disk.failures d) (disk.failures (disk_back run))
+
+-- A SCRIPT RAN OVER THE SPOOL IN A FILE, which then was at most looked at
+pub record RanIn {T D : Type 0} (disk : Ghosts D) (d : D) (result : Result T Failure)
+    (input before after : Option (List ℕ)) (none : Type 0) (d' : D) : Type 0 where
+  pub run : Result D (D × RunFault)
+  pub runs : Runs disk d run input before after none
+  pub answers : AnswersRun run result
+  pub reads : OnlyRead disk (disk_back run) d'

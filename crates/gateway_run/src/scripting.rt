@@ -1,0 +1,122 @@
+//! Running standard input as a script over a spool.
+ghost use Rattle.std.specs.Prelude.{◌≡◌, ◌⊎◌, Some, IsErrAnd};
+ghost use Rattle.gateway_outside.specs.Failures.{fault_in};
+ghost use Rattle.gateway_outside.specs.SpoolFiles.{Disks, Leaves, NotOpened};
+ghost use Rattle.gateway_run.specs.Scripts.{RanIn, run_fault};
+
+use enc_index::IndexSet;
+use gateway_engine::{Counted, CountedRead, CountedWrite, RunFault, ScriptFault, run};
+use gateway_outside::{Failure, Fault, Noted, SpoolFiles, SystemFiles, open_in, refused_in};
+use spool_disk::MemoryDisk;
+use spool_image::{format, pages_of};
+use spool_journal::PAGE;
+use std::alloc::Global;
+use std::io;
+
+// How many text blocks a spool in memory has.
+const MEMORY_BLOCKS: u32 = 64;
+
+/// Runs standard input as a script over the spool in a file, or over a fresh one in memory for `-`.
+pub fn run_script<'a>(rt: &HostRuntime, alloc: Global, spool: &'a str) -> Result<(), Failure<'a>> {
+    let mut input = Noted::new(rt.reader());
+    let mut output = Noted::new(rt.stdout());
+    let mut reader = Counted::new(&mut input);
+    let mut writer = Counted::new(&mut output);
+    match run_at(rt, alloc, spool, &mut reader, &mut writer) {
+        Ok(()) => Ok(()),
+        Err(failure) => Err(by_streams(failure, input.error(), output.error())),
+    }
+}
+
+// A failure of a run, with the reason of the stream that failed where it was for one.
+fn by_streams<'a>(
+    failure: Failure<'a>,
+    input: Option<io::Error>,
+    output: Option<io::Error>,
+) -> Failure<'a>
+    ensures { fault_in result ≡ fault_in failure.entry }
+{
+    match failure.fault() {
+        Fault::Io => Failure::on_streams(Fault::Io, input, output),
+        _ => failure,
+    }
+}
+
+// Runs a script over the spool at this path, or in memory for `-`.
+fn run_at<'a, R: CountedRead, W: CountedWrite>(
+    rt: &HostRuntime,
+    alloc: Global,
+    spool: &'a str,
+    reader: &mut R,
+    writer: &mut W,
+) -> Result<(), Failure<'a>> {
+    if spool == "-" {
+        return run_in_memory(alloc, reader, writer);
+    }
+    run_in(alloc, &mut SystemFiles::new(rt), spool, reader, writer)
+}
+
+// Runs a script over a fresh spool in memory.
+fn run_in_memory<'a, R: CountedRead, W: CountedWrite>(
+    alloc: Global,
+    reader: &mut R,
+    writer: &mut W,
+) -> Result<(), Failure<'a>> {
+    let disk = spool_in_memory(alloc)?;
+    match run(alloc, reader, writer, disk) {
+        Ok(_disk) => Ok(()),
+        Err((_disk, fault)) => Err(Failure::from(fault_of(fault))),
+    }
+}
+
+// Runs a script over the spool in the file at this path.
+fn run_in<'a, F: SpoolFiles, R: CountedRead, W: CountedWrite>(
+    alloc: Global,
+    files: &mut F,
+    path: &'a str,
+    reader: &mut R,
+    writer: &mut W,
+) -> Result<(), Failure<'a>>
+    // Where the file can be opened the script is run over its spool, with what `gateway_engine::run` promises, and the
+    // failure is the run's. Where it can't, neither the reader nor the writer was called. The other files stay.
+    ensures runs { (disks : Disks F.File) (d : F.File) → F.holds files.old disks → disks path.now ≡ Some d
+        → Leaves (F.holds files.new) disks path.now (λ d'.
+        IsErrAnd result (λ failure. NotOpened d failure d' × (reader.new ≡ reader.old) × (writer.new ≡ writer.old))
+        ⊎ RanIn F.File.Disk d result (R.remaining reader.old) (W.contents writer.old) (W.contents writer.new)
+        ((reader.new ≡ reader.old) × (writer.new ≡ writer.old)) d') }
+{
+    let disk = match open_in(files, path) {
+        Ok(disk) => disk,
+        Err(failure) => return Err(failure),
+    };
+    match run(alloc, reader, writer, disk) {
+        Ok(disk) => {
+            files.close(path, disk);
+            Ok(())
+        }
+        Err((disk, fault)) => Err(refused_in(files, fault_of(fault), path, disk)),
+    }
+}
+
+// The program's error for a run that ended early.
+fn fault_of(fault: RunFault) -> Fault
+    ensures { result ≡ run_fault fault }
+{
+    match fault {
+        RunFault::Open(fault) => Fault::from(fault),
+        RunFault::Script(ScriptFault::Stop(stop)) => Fault::Stop(stop),
+        RunFault::Script(ScriptFault::Script(line)) => Fault::Script(line),
+        RunFault::Script(ScriptFault::Io) => Fault::Io,
+    }
+}
+
+// A spool in memory, without uploads and without index files.
+fn spool_in_memory(alloc: Global) -> Result<MemoryDisk, Fault> {
+    let indexes = IndexSet::new(alloc)?;
+    let Some(pages) = pages_of(MEMORY_BLOCKS) else {
+        return Err(Fault::Size);
+    };
+    let mut disk = MemoryDisk::new(alloc, PAGE * pages as usize)?;
+    format(&mut disk, MEMORY_BLOCKS, &indexes)?;
+    Ok(disk)
+}

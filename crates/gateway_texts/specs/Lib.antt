@@ -1,0 +1,4 @@
+pub mod Naming
+pub mod Copies
+pub mod Losses
+pub mod Pieces

@@ -1,0 +1,4 @@
+pub mod Addresses
+pub mod Serving
+pub mod Reports
+pub mod Watched

@@ -1,0 +1,24 @@
+-- What is printed of serving.
+use Rattle.std.specs.Prelude.{ℕ, List, [], ◌∷◌, ◌++◌, codes, decimal}
+use Rattle.gateway_indexes.specs.declared.surveying.Survey.{Survey}
+
+abbrev pub served_line : ℕ → List ℕ
+served_line connections = codes "served " ++ (decimal connections ++ codes " connections\n")
+
+-- what is served, and where
+abbrev pub up_line : List ℕ → Survey → List ℕ → List ℕ
+up_line spool survey address =
+    spool ++ (codes ": version " ++ (decimal survey.version ++ (codes ", " ++ (decimal survey.free_blocks
+    ++ (codes " of " ++ (decimal survey.blocks ++ (codes " blocks free, " ++ (decimal survey.free_slots
+    ++ (codes " of " ++ (decimal 512 ++ (codes " slots free; listening " ++ (address ++ (10 ∷ [])))))))))))))
+
+-- a warning of an address that other machines may reach
+abbrev pub open_line : List ℕ → List ℕ
+open_line address =
+    codes "warning: " ++ (address ++ codes " is open to other machines, and there are no passwords\n")
+
+-- what is printed where so many connections at most can be open
+abbrev pub few_line : ℕ → List ℕ
+few_line connections =
+    codes "warning: as few files may be open (ulimit -n), "
+    ++ (decimal connections ++ codes " of 16 connections can be served at once\n")

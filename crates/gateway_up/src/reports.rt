@@ -1,0 +1,52 @@
+//! What is printed of serving.
+ghost use Rattle.std.specs.Prelude.{OnOk};
+ghost use Rattle.std.specs.Io.KnownBytes.{Appends};
+ghost use Rattle.gateway_up.specs.Reports.{few_line, open_line, served_line, up_line};
+
+use common::SLOTS;
+use gateway_indexes::Survey;
+use std::io::{self, Write};
+
+/// Prints how many connections were served.
+pub fn report_served<W: Write>(writer: &mut W, connections: u64) -> io::Result<()>
+    ensures { OnOk result (Appends (W.contents writer.old) (W.contents writer.new) (served_line connections)) }
+{
+    writeln!(writer, "served {connections} connections")
+}
+
+/// Prints what is served, and where.
+pub fn report_up<W: Write>(
+    writer: &mut W,
+    spool: &str,
+    survey: &Survey,
+    address: &str,
+) -> io::Result<()>
+    ensures { OnOk result (Appends (W.contents writer.old) (W.contents writer.new)
+        (up_line spool.now survey.now address.now)) }
+{
+    writeln!(
+        writer,
+        "{spool}: version {}, {} of {} blocks free, {} of {SLOTS} slots free; listening {address}",
+        survey.version, survey.free_blocks, survey.blocks, survey.free_slots
+    )
+}
+
+/// Warns of an address that other machines may reach.
+pub fn report_open<W: Write>(writer: &mut W, address: &str) -> io::Result<()>
+    ensures { OnOk result (Appends (W.contents writer.old) (W.contents writer.new) (open_line address.now)) }
+{
+    writeln!(
+        writer,
+        "warning: {address} is open to other machines, and there are no passwords"
+    )
+}
+
+/// Warns that so many connections at most can be open at once, since no more files may be open.
+pub fn report_few<W: Write>(writer: &mut W, connections: usize) -> io::Result<()>
+    ensures { OnOk result (Appends (W.contents writer.old) (W.contents writer.new) (few_line connections)) }
+{
+    writeln!(
+        writer,
+        "warning: as few files may be open (ulimit -n), {connections} of 16 connections can be served at once"
+    )
+}
