@@ -364,11 +364,11 @@ def try_used(program, folder):
     same("another spool's lines", lines[:2], ["differs 1 1-letter.txt", "exported 2 2.txt"])
     same("the file that was there", it.files("out")["1-letter.txt"], b"letter one, A")
     (folder / "two").mkdir()
-    odd = (b"-", "-rf", 1), (b"*", "*", 1), (b".", "x\u202ey", 1)
+    odd = (b"-", "-rf", 1), (b"*", "*", 1), (b".", "x\u202ey", 1), (b":", "x\u2028exported 1 y", 1)
     it.spool("twice", (b"half", "a.txt", 9), (b"whole", "a.txt", 5), *odd)
     it.does("export", "twice", "two")
     it.does("export", "twice", "two", "--all")
-    wanted = {"1-a.txt": b"half", "2-a.txt": b"whole", "3.txt": b"-", "4.txt": b"*", "5.txt": b"."}
+    wanted = {"1-a.txt": b"half", "2-a.txt": b"whole", "3.txt": b"-", "4.txt": b"*", "5.txt": b".", "6.txt": b":"}
     same("two of one name, and names that aren't safe", it.files("two"), wanted)
     return 7
 

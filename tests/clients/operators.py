@@ -337,7 +337,19 @@ def try_lists(program):
         same("a line of JSON", {key: got[key] for key in wanted}, wanted)
         same("its encoding", got["from"].lower(), given[2])
         holds("its metadata", got["metadata"].startswith("from "))
+    try_hidden(program)
     return len(records)
+
+
+def try_hidden(program):
+    """What a terminal wouldn't show as it is stands in no line of `list`, and escaped in JSON."""
+    hidden = "\x9b\x7f\u061c\u200b\u200e\u2028\u202e\u2066\ufeff"
+    name = f"a{hidden}z"
+    program.made("hidden", "open 1", *post(1, 0, "utf-8", name))
+    out, _ = program.does("list", "hidden", "--json")
+    same("hidden characters in JSON", set(out.decode()) & set(hidden), set())
+    same("the name", json.loads(out.decode().splitlines()[0])["filename"], name)
+    holds("no name", b"filename:" not in program.does("list", "hidden", "--long")[0])
 
 
 def reads(status, *words):

@@ -5,10 +5,11 @@ use common::{SLOTS, Stop};
 use enc_labels::name_of;
 use gateway_indexes::{Doubtful, doubtful_of};
 use gateway_outside::{Failure, Fault, Noted, open_spool, refused_spool};
-use gateway_texts::{given_name, losses_of};
+use gateway_texts::{given_name, is_hidden, losses_of};
 use serde::Serialize;
 use spool_image::Spool;
 use std::alloc::Global;
+use std::fmt;
 use std::io::{self, Write};
 use upload_rules::{Record, Uploads, is_length};
 
@@ -113,6 +114,23 @@ fn write_json<W: Write, T: Serialize>(
     let Ok(line) = serde_json::to_string(alloc, line) else {
         return Err(Fault::Stop(Stop::NoMemory));
     };
-    writeln!(writer, "{line}")?;
+    writeln!(writer, "{}", Shown(&line))?;
     Ok(())
+}
+
+// A line of JSON. What a terminal wouldn't show as it is stands in its texts alone, and is escaped.
+#[derive(Drop)]
+struct Shown<'a>(&'a str);
+
+impl fmt::Display for Shown<'_> {
+    fn fmt<W: fmt::Write>(&self, f: &mut fmt::Formatter<W>) -> fmt::Result {
+        for c in self.0.chars() {
+            if is_hidden(c as u32) {
+                write!(f, "\\u{:04x}", c as u32)?;
+            } else {
+                f.write_char(c)?;
+            }
+        }
+        Ok(())
+    }
 }

@@ -29,11 +29,16 @@ name_in (Some part) = text_in (value_of (before 32 (rest_after 32 (pair part))))
 abbrev pub given_name : List ℕ → Option (List ℕ)
 given_name metadata = name_in (find is_named (parts metadata))
 
--- a control character, a path separator, `/` or `\`, or one that turns the text after it round
+-- a control character, a mark of direction (061C, 200E, 200F, 202A to 202E, 2066 to 2069), an end of a line (2028,
+-- 2029), or one without width (200B, FEFF)
+abbrev pub is_hidden : ℕ → Bool
+is_hidden c =
+    nat_lt c 32 || nat_le 127 c && nat_le c 159 || c == 0x61C || c == 0x200B || nat_le 0x200E c && nat_le c 0x200F
+    || nat_le 0x2028 c && nat_le c 0x202E || nat_le 0x2066 c && nat_le c 0x2069 || c == 0xFEFF
+
+-- it is hidden, or a path separator, `/` or `\`
 abbrev pub is_barred : ℕ → Bool
-is_barred c =
-    nat_lt c 32 || nat_le 127 c && nat_le c 159 || c == 47 || c == 92 || nat_le 0x202A c && nat_le c 0x202E
-    || nat_le 0x2066 c && nat_le c 0x2069
+is_barred c = is_hidden c || c == 47 || c == 92
 
 -- no character of a text is
 abbrev pub is_clean : List ℕ → Bool

@@ -1,7 +1,8 @@
 //! Signs of lost bytes in texts: U+FFFD, which is in the place of bytes that aren't of the encoding that was named.
-ghost use Rattle.std.specs.Prelude.{IfErr, IsErrOf, OnOk, true};
+ghost use Rattle.std.specs.Prelude.{Bool, IfErr, IsErrOf, OnOk};
 ghost use Rattle.std.specs.Io.KnownBytes.{Appends};
 ghost use Rattle.common.specs.declared.stop.Stop.{Stop};
+ghost use Rattle.common.specs.Given.{MoreReads};
 ghost use Rattle.upload_rules.specs.Answers.{Counts, Quiet};
 ghost use Rattle.upload_rules.specs.World.{World};
 ghost use Rattle.gateway_outside.specs.declared.faults.Fault.{Fault};
@@ -105,12 +106,14 @@ impl<W: Write> Write for Tally<W> {
 
 /// How many signs of lost bytes the text of an upload has, which is in this encoding. It is read for that.
 pub fn losses_of<U: Uploads>(uploads: &mut U, number: u64, to: Encoding) -> Result<u64, Fault>
-    ensures represents { (w : World) → U.represents uploads.old true w → OnOk result (U.represents uploads.new true w) }
+    ensures represents { (sure : Bool) (w : World) → U.represents uploads.old sure w
+        → OnOk result (U.represents uploads.new sure w) }
     ensures crash { Quiet (U.moment uploads.old) (U.moment uploads.new) (U.left_only uploads.old)
         (U.left_only uploads.new) }
     ensures refused { IfErr result IsChangeFault }
     ensures counts { Counts (IsErrOf result (Fault.Stop Stop.DiskFault)) (U.failures uploads.old)
         (U.failures uploads.new) }
+    ensures reads { MoreReads (U.reads uploads.old) (U.reads uploads.new) }
 {
     let mut tally = Tally::new(io::sink(), to);
     copy_text(&mut tally, uploads, number)?;

@@ -3,8 +3,8 @@ ghost use Rattle.std.specs.Prelude.{◌≡◌, IfOk, Some, option_map, string_by
 ghost use Rattle.std.specs.List.{find, list_all};
 ghost use Rattle.tus_request.specs.Texts.{parts};
 ghost use Rattle.tus_request.specs.Value.{value_of};
-ghost use Rattle.gateway_texts.specs.Naming.{begins_with_sign, given_name, is_barred, is_clean, is_filler, is_named};
-ghost use Rattle.gateway_texts.specs.Naming.{is_safe_name, pair, text_in};
+ghost use Rattle.gateway_texts.specs.Naming.{begins_with_sign, given_name, is_barred, is_clean, is_filler};
+ghost use Rattle.gateway_texts.specs.Naming.{is_hidden, is_named, is_safe_name, pair, text_in};
 
 use base64::DecodeAllocError;
 use base64::engine::general_purpose::STANDARD;
@@ -70,8 +70,8 @@ fn text_of(bytes: Vec<u8>) -> Option<String>
     }
 }
 
-/// Whether a file's name may end so, after its upload's number: it has no control character, no path separator and no
-/// character that turns text round, doesn't begin with a dot or a hyphen, and has more than blanks and `*`.
+/// Whether a file's name may end so, after its upload's number: it has no path separator and no character that is
+/// hidden, doesn't begin with a dot or a hyphen, and has more than blanks and `*`.
 pub fn is_safe_name(name: &str) -> bool
     ensures { result ≡ is_safe_name name.now }
 {
@@ -108,14 +108,24 @@ pub fn is_clean(name: &str) -> bool
     name.chars().all(|c| !is_barred(c as u32))
 }
 
-// Whether a character is a control character, a path separator, or one that turns the text after it round.
-fn is_barred(c: u32) -> bool
-    ensures { result ≡ is_barred c }
+// Whether a character is a path separator, or is hidden.
+fn is_barred(code: u32) -> bool
+    ensures { result ≡ is_barred code }
 {
-    c < 0x20
-        || c >= 0x7F && c <= 0x9F
-        || c == 0x2F
-        || c == 0x5C
-        || c >= 0x202A && c <= 0x202E
-        || c >= 0x2066 && c <= 0x2069
+    is_hidden(code) || code == 0x2F || code == 0x5C
+}
+
+/// Whether the character of this code point shows something else than itself: it is a control character, ends a line,
+/// turns text round, or has neither width nor an effect on letters.
+pub fn is_hidden(code: u32) -> bool
+    ensures { result ≡ is_hidden code }
+{
+    code < 0x20
+        || code >= 0x7F && code <= 0x9F
+        || code == 0x61C
+        || code == 0x200B
+        || code >= 0x200E && code <= 0x200F
+        || code >= 0x2028 && code <= 0x202E
+        || code >= 0x2066 && code <= 0x2069
+        || code == 0xFEFF
 }
