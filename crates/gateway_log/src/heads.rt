@@ -62,9 +62,9 @@ impl RequestHead {
         self.line.split(|byte| *byte == b' ').nth(place)
     }
 
-    /// The number of the upload that the path names, if it is one of an upload.
+    /// The number of the upload that the path names, if it is one of an upload. A query doesn't count.
     pub(crate) fn upload(&self) -> Option<u64> {
-        number(self.word(1)?.strip_prefix(b"/files/")?)
+        number(prefix(self.word(1)?, b'?').strip_prefix(b"/files/")?)
     }
 
     /// The method that counts in place of the first line's, if a field gives one.

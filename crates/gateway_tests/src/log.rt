@@ -295,16 +295,17 @@ const ROWS: [Row; 18] = [
         1 127.0.0.1:7 - /files/2 by=GET status=412 refusal=22:TusVersion in=52 out=137 ms=0\n\
         minute connections=1 requests=2 2xx=1 4xx=1 5xx=0 in=162 out=211 bodies=0\n",
     },
-    // a body that is cut, whose upload has what came; and a reply of which nothing could be sent
+    // a body that is cut, whose upload has what came, also where its path has a query; and a reply of which nothing
+    // could be sent
     Row {
         sends: &[
-            b"PATCH /files/1 HTTP/1.1\r\nTus-Resumable: 1.0.0\r\n\
+            b"PATCH /files/1?tok=1 HTTP/1.1\r\nTus-Resumable: 1.0.0\r\n\
             Content-Type: application/offset+octet-stream\r\nUpload-Offset: 3\r\nContent-Length: 3\r\n\r\n\
             ab",
         ],
         room: 9999,
-        lines: "1 127.0.0.1:7 PATCH /files/1 offset=3 body=3 status=none in=135 out=0 ms=1 now=5/6\n\
-        minute connections=1 requests=1 2xx=0 4xx=0 5xx=0 in=135 out=0 bodies=0\n",
+        lines: "1 127.0.0.1:7 PATCH /files/1?tok=1 offset=3 body=3 status=none in=141 out=0 ms=1 now=5/6\n\
+        minute connections=1 requests=1 2xx=0 4xx=0 5xx=0 in=141 out=0 bodies=0\n",
     },
     Row {
         sends: &[b"DELETE /files/1 HTTP/1.1\r\nTus-Resumable: 1.0.0\r\n\r\n"],
