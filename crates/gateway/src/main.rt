@@ -1,23 +1,28 @@
 //! The program: a gateway for resumable uploads of text in old and new encodings.
 #![tactic(auto)]
 
+ghost use Rattle.gateway.specs.Obeys.{Obeys};
+
 mod labelling;
 
 use clap::Error;
 use clap::error::ErrorKind;
 use common::Stop;
-use gateway_delete::{delete_file, delete_incomplete_file};
+use gateway_delete::{delete_in, incomplete_in};
 use gateway_export::export_file;
-use gateway_format::{format_file, report_formatted, report_longer, report_upgraded, upgrade_file};
+use gateway_format::{format_file, report_formatted, report_longer, upgrade_in};
 use gateway_indexes::report_read;
 use gateway_list::{json_file, list_file};
-use gateway_orders::{Order, USAGE, read_order, report_usage};
-use gateway_outside::{Closed, Failure, Fault, Task, ended};
+use gateway_orders::{Order, Service, USAGE, read_order, report_usage};
+use gateway_outside::{
+    Closed, Failure, Fault, Noted, Output, SpoolFiles, SystemFiles, Task, ended,
+};
 use gateway_run::run_script;
 use gateway_text::text_file;
 use gateway_up::{Reporting, serve_file, serve_up};
 use labelling::labels_file;
 use std::alloc::Global;
+use std::net::SocketAddr;
 use std::process::ExitCode;
 use std::{env, io};
 
@@ -35,14 +40,35 @@ fn main(rt: HostRuntime) -> ExitCode {
 // Does what the command line asks for, and returns the exit status.
 fn run(rt: &HostRuntime, words: &[String]) -> u8 {
     match read_order(rt.alloc(), words) {
-        Ok(Some(order)) => ended(&mut rt.stderr(), obey(rt, order)),
+        Ok(Some(order)) => ended(&mut rt.stderr(), obey_system(rt, order)),
         Ok(None) => USAGE,
         Err(error) => ended(&mut rt.stderr(), refuse(rt, error)),
     }
 }
 
-// Does an order.
-fn obey<'a>(rt: &'a HostRuntime, order: Order<'a>) -> Result<u8, Failure<'a>> {
+// Does an order, over the system's files and streams: 0.
+fn obey_system<'a>(rt: &'a HostRuntime, order: Order<'a>) -> Result<u8, Failure<'a>> {
+    let mut files = SystemFiles::new(rt);
+    let mut output = Noted::new(io::writer(rt));
+    let mut errors = Noted::new(rt.stderr());
+    match obey(rt, &mut files, &mut output, &mut errors, order) {
+        Ok(()) => Ok(0),
+        Err(failure) => Err(failure),
+    }
+}
+
+// Does an order, over these files and streams.
+fn obey<'a, F: SpoolFiles, W: Output, E: Output>(
+    rt: &'a HostRuntime,
+    files: &mut F,
+    output: &mut W,
+    errors: &mut E,
+    order: Order<'a>,
+) -> Result<(), Failure<'a>>
+    ensures { Obeys F.File.Disk (F.holds files.old) (F.holds files.new) (F.unopened files.old) (F.unopened files.new)
+        (W.contents output.old) (W.contents output.new) (W.refusals output.old) (W.refusals output.new) result
+        order.entry }
+{
     let alloc = rt.alloc();
     match order {
         Order::Format {
@@ -51,44 +77,66 @@ fn obey<'a>(rt: &'a HostRuntime, order: Order<'a>) -> Result<u8, Failure<'a>> {
             indexes,
             overwrite,
             standard,
-        } => {
-            let made = format_file(rt, alloc, spool, blocks, indexes, overwrite, standard)?;
-            // First what warns, since it has to be seen whatever becomes of the rest. If standard error can't be
-            // written, neither the index files nor the file's length are reported.
-            drop(report_read(&mut rt.stderr(), made.files.as_slice()));
-            if let Some(len) = made.longer {
-                drop(report_longer(&mut rt.stderr(), spool, len));
-            }
-            report_formatted(&mut io::writer(rt), blocks, made.pages)?;
-        }
-        Order::Script { spool } => run_script(rt, alloc, spool)?,
-        Order::Serve(service) => serve_file(rt, alloc, service)?.ended?,
+        } => format_at(rt, spool, blocks, indexes, overwrite, standard),
+        Order::Script { spool } => run_script(rt, alloc, spool),
+        Order::Serve(service) => serve(rt, service),
         Order::Up {
             spool,
             listen,
             quiet,
             log,
-        } => serve_up(rt, alloc, spool, listen, Reporting { quiet, log })?.ended?,
-        Order::List { spool, long } => list_file(rt, alloc, spool, long)?,
-        Order::Json { spool } => json_file(rt, alloc, spool)?,
-        Order::Delete { spool, numbers } => delete_file(rt, alloc, spool, &numbers)?,
+        } => up(rt, spool, listen, Reporting { quiet, log }),
+        Order::List { spool, long } => list_file(rt, alloc, spool, long),
+        Order::Json { spool } => json_file(rt, alloc, spool),
+        Order::Delete { spool, numbers } => delete_in(alloc, files, output, spool, &numbers),
         Order::DeleteIncomplete { spool, but, yes } => {
-            delete_incomplete_file(rt, alloc, spool, &but, yes)?
+            incomplete_in(alloc, files, output, errors, spool, &but, yes)
         }
-        Order::Export { spool, folder, all } => export_file(rt, alloc, spool, folder, all)?,
-        Order::Labels { indexes, all, json } => labels_file(rt, alloc, indexes, all, json)?,
+        Order::Export { spool, folder, all } => export_file(rt, alloc, spool, folder, all),
+        Order::Labels { indexes, all, json } => labels_file(rt, alloc, indexes, all, json),
         Order::Text {
             from,
             to,
             mode,
             indexes,
-        } => text_file(rt, alloc, from, to, mode, indexes)?,
-        Order::Upgrade { spool } => {
-            upgrade_file(rt, alloc, spool)?;
-            report_upgraded(&mut io::writer(rt))?;
-        }
+        } => text_file(rt, alloc, from, to, mode, indexes),
+        Order::Upgrade { spool } => upgrade_in(alloc, files, output, spool),
     }
-    Ok(0)
+}
+
+// Makes a spool, and prints what was made.
+fn format_at<'a>(
+    rt: &HostRuntime,
+    spool: &'a str,
+    blocks: u32,
+    indexes: &'a str,
+    overwrite: bool,
+    standard: bool,
+) -> Result<(), Failure<'a>> {
+    let made = format_file(rt, rt.alloc(), spool, blocks, indexes, overwrite, standard)?;
+    // First what warns, since it has to be seen whatever becomes of the rest. If standard error can't be written,
+    // neither the index files nor the file's length are reported.
+    drop(report_read(&mut rt.stderr(), made.files.as_slice()));
+    if let Some(len) = made.longer {
+        drop(report_longer(&mut rt.stderr(), spool, len));
+    }
+    report_formatted(&mut io::writer(rt), blocks, made.pages)?;
+    Ok(())
+}
+
+// Serves a spool to the end.
+fn serve<'a>(rt: &HostRuntime, service: Service<'a>) -> Result<(), Failure<'a>> {
+    serve_file(rt, rt.alloc(), service)?.ended
+}
+
+// Serves a spool until the program is ended.
+fn up<'a>(
+    rt: &HostRuntime,
+    spool: &'a str,
+    listen: SocketAddr,
+    reporting: Reporting,
+) -> Result<(), Failure<'a>> {
+    serve_up(rt, rt.alloc(), spool, listen, reporting)?.ended
 }
 
 // The words of the command line.

@@ -1,3 +1,4 @@
 mod Deletions
 mod Recorded
 mod Found
+mod Does

@@ -1,1 +1,2 @@
 pub mod Deleting
+pub mod Deleted

@@ -1,5 +1,6 @@
 //! Uploads of a spool, deleted by their numbers.
-ghost use Rattle.std.specs.Prelude.{◌≡◌, ℕ, Bool, Err, IfErr, IfOk, IsErrOf, IsOk, OnOk, true};
+ghost use Rattle.std.specs.Prelude.{◌≡◌, ℕ, Bool, Err, IfErr, IfOk, IsErr, IsErrAnd, IsErrOf, IsOk, None, Ok, OnOk};
+ghost use Rattle.std.specs.Prelude.{true};
 ghost use Rattle.std.specs.Io.KnownBytes.{Appends};
 ghost use Rattle.common.specs.declared.stop.Stop.{Stop};
 ghost use Rattle.upload_rules.specs.Answers.{Counts, Limits};
@@ -11,49 +12,83 @@ ghost use Rattle.spool_image.specs.LeftOnly.{AllShow, IsSpool};
 ghost use Rattle.spool_image.specs.Opening.{ReadsBy};
 ghost use Rattle.gateway_outside.specs.declared.faults.Fault.{Fault};
 ghost use Rattle.gateway_outside.specs.Changing.{IsChangeResult, IsChangeFault, LimitsToAll};
+ghost use Rattle.gateway_outside.specs.Failures.{fault_in};
 ghost use Rattle.gateway_outside.specs.Leaving.{LeavesOne};
 ghost use Rattle.gateway_outside.specs.Listing.{AnswersAs, ListRefusedFor, RefusesListAs};
+ghost use Rattle.gateway_outside.specs.SpoolFiles.{Disks, Leaves, with_disk};
+ghost use Rattle.gateway_delete.specs.Deleted.{AnswersDeletion, DeletedIn, DeletesAt};
 ghost use Rattle.gateway_delete.specs.Deleting.{all_there, deletion_line, deletion_lines, left, stages};
 
-use gateway_outside::{Advice, Failure, Fault, Noted, open_spool, refused_spool};
-use spool_disk::{Disk, FileDisk};
+use gateway_outside::{Advice, Failure, Fault, Output, Refused, SpoolFiles, open_in, refused_by};
+use spool_disk::Disk;
 use spool_image::Spool;
 use std::alloc::Global;
-use std::io::{self, Write};
 use upload_rules::{UploadError, Uploads};
 
-/// Deletes the uploads of these numbers from the spool in a file, and prints a line for each number. Where one has no
-/// upload, the others are deleted all the same, and it is refused at the end.
-pub fn delete_file<'a>(
-    rt: &HostRuntime,
+/// Deletes the uploads of these numbers from the spool in the file at this path, and prints a line for each number.
+/// Where one has no upload, the others are deleted all the same, and it is refused at the end with `NoSuch`.
+pub fn delete_in<'a, F: SpoolFiles, W: Output>(
     alloc: Global,
-    spool: &'a str,
+    files: &mut F,
+    output: &mut W,
+    path: &'a str,
     numbers: &[u64],
-) -> Result<(), Failure<'a>> {
-    delete_numbers(rt, alloc, spool, open_spool(rt, spool)?, numbers)
+) -> Result<(), Failure<'a>>
+    // The file was opened, and its uploads deleted with what `delete_on` promises; or the one call that was to open it
+    // failed, and nothing was printed. The other files stay.
+    ensures deletes { DeletesAt F.File.Disk (F.holds files.old) (F.holds files.new) (F.unopened files.old)
+        (F.unopened files.new) path.now (W.contents output.old) (W.contents output.new) result numbers.now }
+
+    // `Io` is answered exactly where the output refused.
+    ensures io { Counts (IsErrAnd result (λ failure. fault_in failure ≡ Fault.Io)) (W.refusals output.old)
+        (W.refusals output.new) }
+{
+    let disk = match open_in(files, path) {
+        Ok(disk) => disk,
+        Err(failure) => return Err(failure),
+    };
+    delete_at(alloc, files, output, path, disk, numbers)
 }
 
-/// Deletes the uploads of these numbers from the spool at this path, which is open, as `delete_file` does.
-pub(crate) fn delete_numbers<'a>(
-    rt: &HostRuntime,
+/// Deletes the uploads of these numbers from the spool at this path, which is open, as `delete_in` does. It is closed.
+pub(crate) fn delete_at<'a, F: SpoolFiles, W: Output>(
     alloc: Global,
-    spool: &'a str,
-    disk: FileDisk,
+    files: &mut F,
+    output: &mut W,
+    path: &'a str,
+    disk: F::File,
     numbers: &[u64],
-) -> Result<(), Failure<'a>> {
-    let mut output = Noted::new(io::writer(rt));
-    let (disk, deleted) = delete_on(alloc, &mut output, disk, numbers);
+) -> Result<(), Failure<'a>>
+    ensures deletes { (disks : Disks F.File) → F.holds files.old (with_disk disks path.now None)
+        → Leaves (F.holds files.new) disks path.now
+        (DeletedIn F.File.Disk disk numbers.now (W.contents output.old) (W.contents output.new) result) }
+    ensures io { Counts (IsErrAnd result (λ failure. fault_in failure ≡ Fault.Io)) (W.refusals output.old)
+        (W.refusals output.new) }
+{
+    let (disk, deleted) = delete_on(alloc, output, disk, numbers);
     match deleted {
-        Ok(true) => Ok(()),
-        Ok(false) => Err(Failure::advised(Fault::NoSuch, Advice::Undeleted)),
-        Err(Fault::Io) => Err(Failure::on_streams(Fault::Io, None, output.error())),
-        Err(fault) => Err(refused_spool(fault, spool, disk)),
+        Ok(all) => {
+            files.close(path, disk);
+            return ended(all);
+        }
+        Err(fault) => return Err(refused_by(files, fault, output.error(), path, disk)),
     }
+}
+
+// How a deletion ends that was done: whether all numbers had an upload.
+fn ended<'a>(all: bool) -> Result<(), Failure<'a>>
+    ensures answers { AnswersDeletion (Ok all) result }
+    ensures never_io { IfErr result (λ failure. fault_in failure ≡ Fault.Io → ⊥) }
+{
+    if all {
+        return Ok(());
+    }
+    Err(Failure::advised(Fault::NoSuch, Advice::Undeleted))
 }
 
 /// Deletes the uploads of these numbers from the spool on a disk, one commit each, and writes a line for each number:
 /// whether each had an upload when it was its turn. The disk is handed back.
-pub fn delete_on<D: Disk + Drop, W: Write>(
+pub fn delete_on<D: Disk + Drop, W: Output>(
     alloc: Global,
     writer: &mut W,
     disk: D,
@@ -87,6 +122,9 @@ pub fn delete_on<D: Disk + Drop, W: Write>(
         → RefusesListAs result.1 Fault.Version }
     ensures damaged { D.honest disk → IsDamaged (D.size disk) (D.current disk) → RefusesListAs result.1 Fault.Damaged }
     ensures counts { Counts (result.1 ≡ Err (Fault.Stop Stop.DiskFault)) (D.failures disk) (D.failures result.0) }
+
+    // `Io` is answered exactly where the writer refused.
+    ensures io { Counts (IsErrOf result.1 Fault.Io) (W.refusals writer.old) (W.refusals writer.new) }
 {
     match Spool::open(alloc, disk) {
         Ok(mut spool) => {
@@ -100,7 +138,7 @@ pub fn delete_on<D: Disk + Drop, W: Write>(
 /// Deletes the uploads of these numbers, one after the other, and writes a line for each: whether each had one.
 ///
 /// Refused with `Stop` or `Io` at one of them: the others before it are deleted.
-pub fn delete_uploads<W: Write, U: Uploads>(
+pub fn delete_uploads<W: Output, U: Uploads>(
     writer: &mut W,
     uploads: &mut U,
     numbers: &[u64],
@@ -121,6 +159,7 @@ pub fn delete_uploads<W: Write, U: Uploads>(
     ensures counts { Counts (IsErrOf result (Fault.Stop Stop.DiskFault)) (U.failures uploads.old)
         (U.failures uploads.new) }
     ensures reads { U.reads uploads.new ≡ U.reads uploads.old }
+    ensures io { Counts (IsErrOf result Fault.Io) (W.refusals writer.old) (W.refusals writer.new) }
 {
     let mut all = true;
     for number in numbers {
@@ -131,7 +170,7 @@ pub fn delete_uploads<W: Write, U: Uploads>(
 }
 
 // Deletes the upload of a number, and writes a line: whether there was one.
-fn delete_one<W: Write, U: Uploads>(
+fn delete_one<W: Output, U: Uploads>(
     writer: &mut W,
     uploads: &mut U,
     number: u64,
@@ -149,6 +188,7 @@ fn delete_one<W: Write, U: Uploads>(
     ensures counts { Counts (IsErrOf result (Fault.Stop Stop.DiskFault)) (U.failures uploads.old)
         (U.failures uploads.new) }
     ensures reads { U.reads uploads.new ≡ U.reads uploads.old }
+    ensures io { Counts (IsErrOf result Fault.Io) (W.refusals writer.old) (W.refusals writer.new) }
 {
     let there = terminate(uploads, number)?;
     report_deleted(writer, number, there)?;
@@ -165,6 +205,7 @@ fn terminate<U: Uploads>(uploads: &mut U, number: u64) -> Result<bool, Fault>
         → Limits (U.moment uploads.old) (U.moment uploads.new) (U.left_only uploads.old) (U.left_only uploads.new)
         w.store (deleted_store w.store number) }
     ensures refused { IfErr result IsChangeFault }
+    ensures never_io { IfErr result (λ fault. fault ≡ Fault.Io → ⊥) }
     ensures counts { Counts (IsErrOf result (Fault.Stop Stop.DiskFault)) (U.failures uploads.old)
         (U.failures uploads.new) }
     ensures reads { U.reads uploads.new ≡ U.reads uploads.old }
@@ -177,8 +218,9 @@ fn terminate<U: Uploads>(uploads: &mut U, number: u64) -> Result<bool, Fault>
 }
 
 // Prints whether an upload was there, and so is deleted.
-fn report_deleted<W: Write>(writer: &mut W, number: u64, there: bool) -> io::Result<()>
-    ensures { OnOk result (Appends (W.contents writer.old) (W.contents writer.new) (deletion_line there number)) }
+fn report_deleted<W: Output>(writer: &mut W, number: u64, there: bool) -> Result<(), Refused>
+    ensures line { OnOk result (Appends (W.contents writer.old) (W.contents writer.new) (deletion_line there number)) }
+    ensures counts { Counts (IsErr result) (W.refusals writer.old) (W.refusals writer.new) }
 {
     if there {
         writeln!(writer, "deleted {number}")

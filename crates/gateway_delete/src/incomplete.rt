@@ -1,6 +1,6 @@
 //! The uploads of a spool that aren't complete.
-ghost use Rattle.std.specs.Prelude.{◌≡◌, ◌++◌, ℕ, Err, IfErr, IfOk, IsOk, OnOk, filter, flat_map, not, option_copied};
-ghost use Rattle.std.specs.Prelude.{Bool};
+ghost use Rattle.std.specs.Prelude.{◌≡◌, ◌++◌, ℕ, Bool, Err, IfErr, IfOk, IsErr, IsErrAnd, IsOk, None, OnOk, filter};
+ghost use Rattle.std.specs.Prelude.{flat_map, not, option_copied};
 ghost use Rattle.std.specs.Io.KnownBytes.{Appends};
 ghost use Rattle.spool_disk.specs.Disk.{Counts, IsImage};
 ghost use Rattle.spool_disk.specs.Views.{Lasts};
@@ -11,18 +11,21 @@ ghost use Rattle.spool_load.specs.Refusals.{HasOtherVersion, IsDamaged, IsNoSpoo
 ghost use Rattle.spool_image.specs.LeftOnly.{AllShow, IsSpool, LeftOrShows};
 ghost use Rattle.spool_image.specs.Opening.{ReadsBy};
 ghost use Rattle.gateway_outside.specs.declared.faults.Fault.{Fault};
+ghost use Rattle.gateway_outside.specs.Failures.{fault_in};
 ghost use Rattle.gateway_outside.specs.InOrder.{IsInOrder};
 ghost use Rattle.gateway_outside.specs.Listing.{AnswersAs, ListRefusedFor, IsListResult, RefusesListAs};
+ghost use Rattle.gateway_outside.specs.Openings.{EndsWellBut};
+ghost use Rattle.gateway_outside.specs.SpoolFiles.{Disks, Leaves, with_disk};
+ghost use Rattle.gateway_delete.specs.Deleted.{DoesBut, DoesWith, FindsAt};
 ghost use Rattle.gateway_delete.specs.Deleting.{Finds, complete_among, doomed_line, first_unknown, incomplete_but};
 ghost use Rattle.gateway_delete.specs.Deleting.{has_all, incomplete_of, incomplete_record, is_among, kept_line};
 
-use crate::deleting::delete_numbers;
+use crate::deleting::delete_at;
 use common::Stop;
-use gateway_outside::{Advice, Failure, Fault, open_spool, refused_spool};
+use gateway_outside::{Advice, Failure, Fault, Output, Refused, SpoolFiles, open_in, refused_in};
 use spool_disk::Disk;
 use spool_image::Spool;
 use std::alloc::{AllocError, Global};
-use std::io::{self, Write};
 use upload_rules::{Record, Uploads, is_length};
 
 /// What is found of the uploads of a spool that aren't complete, where those of some numbers are to be kept.
@@ -36,44 +39,127 @@ pub struct Incomplete {
     pub complete: Vec<u64>,
 }
 
-/// Deletes the uploads that aren't complete from the spool in a file, but those with some numbers, and prints a line
-/// for each. Without `yes` it deletes none, and prints which it would delete. Where a number to be kept has no upload,
-/// it is refused with `NoSuch`, and nothing is deleted.
-pub fn delete_incomplete_file<'a>(
-    rt: &HostRuntime,
+/// Deletes the uploads that aren't complete from the spool in the file at this path, but those with some numbers, and
+/// prints a line for each. Without `yes` it deletes none, and prints which it would delete. Where a number to be kept
+/// has no upload, it is refused with `NoSuch`, and nothing is deleted.
+pub fn incomplete_in<'a, F: SpoolFiles, W: Output, E: Output>(
     alloc: Global,
-    spool: &'a str,
+    files: &mut F,
+    output: &mut W,
+    errors: &mut E,
+    path: &'a str,
     but: &[u64],
     yes: bool,
-) -> Result<(), Failure<'a>> {
-    let (disk, found) = incomplete_on(alloc, open_spool(rt, spool)?, but);
-    let Incomplete {
-        numbers,
-        unknown,
-        complete,
-    } = match found {
-        Ok(found) => found,
-        Err(fault) => return Err(refused_spool(fault, spool, disk)),
+) -> Result<(), Failure<'a>>
+    // The file was opened and searched, as `incomplete_on` promises, and what was found is deleted only with `yes`; or
+    // the one call that was to open it failed, and nothing was printed. The other files stay.
+    ensures deletes { FindsAt F.File.Disk (F.holds files.old) (F.holds files.new) (F.unopened files.old)
+        (F.unopened files.new) path.now (W.contents output.old) (W.contents output.new) result but.now yes }
+
+    // `Io` is answered exactly where the output refused.
+    ensures io { Counts (IsErrAnd result (λ failure. fault_in failure ≡ Fault.Io)) (W.refusals output.old)
+        (W.refusals output.new) }
+{
+    let disk = match open_in(files, path) {
+        Ok(disk) => disk,
+        Err(failure) => return Err(failure),
     };
-    if let Some(number) = unknown {
-        return Err(Failure::advised(Fault::NoSuch, Advice::NoneToKeep(number)));
+    let (disk, found) = incomplete_on(alloc, disk, but);
+    match found {
+        Ok(found) => delete_unless(alloc, files, output, errors, path, disk, &found, yes),
+        Err(fault) => Err(refused_in(files, fault, path, disk)),
     }
-    // If standard error can't be written, this is left out.
-    drop(report_complete(&mut rt.stderr(), &complete));
+}
+
+// As `delete_found`, unless a number to be kept has no upload.
+fn delete_unless<'a, F: SpoolFiles, W: Output, E: Output>(
+    alloc: Global,
+    files: &mut F,
+    output: &mut W,
+    errors: &mut E,
+    path: &'a str,
+    disk: F::File,
+    found: &Incomplete,
+    yes: bool,
+) -> Result<(), Failure<'a>>
+    ensures does { (disks : Disks F.File) → F.holds files.old (with_disk disks path.now None)
+        → Leaves (F.holds files.new) disks path.now (DoesBut F.File.Disk disk yes found.now.unknown
+        found.now.numbers.items (W.contents output.old) (W.contents output.new) result) }
+    ensures io { Counts (IsErrAnd result (λ failure. fault_in failure ≡ Fault.Io)) (W.refusals output.old)
+        (W.refusals output.new) }
+{
+    match found.unknown {
+        Some(number) => {
+            files.close(path, disk);
+            return Err(Failure::advised(Fault::NoSuch, Advice::NoneToKeep(number)));
+        }
+        None => {
+            // If standard error can't be written, this is left out.
+            drop(report_complete(errors, &found.complete));
+            return delete_found(
+                alloc,
+                files,
+                output,
+                errors,
+                path,
+                disk,
+                &found.numbers,
+                yes,
+            );
+        }
+    }
+}
+
+// Deletes the uploads of these numbers from the spool at this path, which is open, or prints that it would, without
+// `yes`. It is closed.
+fn delete_found<'a, F: SpoolFiles, W: Output, E: Output>(
+    alloc: Global,
+    files: &mut F,
+    output: &mut W,
+    errors: &mut E,
+    path: &'a str,
+    disk: F::File,
+    numbers: &[u64],
+    yes: bool,
+) -> Result<(), Failure<'a>>
+    ensures does { (disks : Disks F.File) → F.holds files.old (with_disk disks path.now None)
+        → Leaves (F.holds files.new) disks path.now
+        (DoesWith F.File.Disk disk yes numbers.now (W.contents output.old) (W.contents output.new) result) }
+    ensures io { Counts (IsErrAnd result (λ failure. fault_in failure ≡ Fault.Io)) (W.refusals output.old)
+        (W.refusals output.new) }
+{
     if numbers.is_empty() {
+        files.close(path, disk);
         // If standard error can't be written, this is left out.
-        let reported = eprintln!(rt; "nothing to delete");
-        drop(reported);
+        drop(writeln!(errors, "nothing to delete"));
         return Ok(());
     }
     if yes {
-        return delete_numbers(rt, alloc, spool, disk, &numbers);
+        return delete_at(alloc, files, output, path, disk, numbers);
     }
-    report_doomed(&mut io::writer(rt), &numbers)?;
-    // If standard error can't be written, this is left out.
-    let reported = eprintln!(rt; "nothing was deleted: --yes deletes them");
-    drop(reported);
-    Ok(())
+    files.close(path, disk);
+    show_doomed(output, errors, numbers)
+}
+
+// Prints which uploads would be deleted.
+fn show_doomed<'a, W: Output, E: Output>(
+    output: &mut W,
+    errors: &mut E,
+    numbers: &[u64],
+) -> Result<(), Failure<'a>>
+    ensures lines { OnOk result (Appends (W.contents output.old) (W.contents output.new)
+        (flat_map doomed_line numbers.now)) }
+    ensures refused { EndsWellBut result Fault.Io }
+    ensures io { Counts (IsErr result) (W.refusals output.old) (W.refusals output.new) }
+{
+    match report_doomed(output, numbers) {
+        Ok(()) => {
+            // If standard error can't be written, this is left out.
+            drop(writeln!(errors, "nothing was deleted: --yes deletes them"));
+            Ok(())
+        }
+        Err(_) => Err(Failure::on_streams(Fault::Io, None, output.error())),
+    }
 }
 
 /// The uploads on a disk that aren't complete, but these: their length isn't known yet, or fewer bytes came. The disk
@@ -106,6 +192,7 @@ pub fn incomplete_on<D: Disk + Drop>(
         → RefusesListAs result.1 Fault.Version }
     ensures damaged { D.honest disk → IsDamaged (D.size disk) (D.current disk) → RefusesListAs result.1 Fault.Damaged }
     ensures counts { Counts (result.1 ≡ Err (Fault.Stop Stop.DiskFault)) (D.failures disk) (D.failures result.0) }
+    ensures never_io { IfErr result.1 (λ fault. fault ≡ Fault.Io → ⊥) }
 {
     match Spool::open(alloc, disk) {
         Ok(spool) => {
@@ -225,7 +312,7 @@ fn push_incomplete(numbers: &mut Vec<u64>, record: &Record) -> Result<(), AllocE
 }
 
 // Prints of each of these uploads, which were to be kept, that it is complete.
-fn report_complete<W: Write>(writer: &mut W, numbers: &[u64]) -> io::Result<()>
+fn report_complete<W: Output>(writer: &mut W, numbers: &[u64]) -> Result<(), Refused>
     ensures { OnOk result (Appends (W.contents writer.old) (W.contents writer.new) (flat_map kept_line numbers.now)) }
 {
     for number in numbers {
@@ -235,8 +322,10 @@ fn report_complete<W: Write>(writer: &mut W, numbers: &[u64]) -> io::Result<()>
 }
 
 // Prints of each of these uploads that it would be deleted.
-fn report_doomed<W: Write>(writer: &mut W, numbers: &[u64]) -> io::Result<()>
-    ensures { OnOk result (Appends (W.contents writer.old) (W.contents writer.new) (flat_map doomed_line numbers.now)) }
+fn report_doomed<W: Output>(writer: &mut W, numbers: &[u64]) -> Result<(), Refused>
+    ensures lines { OnOk result (Appends (W.contents writer.old) (W.contents writer.new)
+        (flat_map doomed_line numbers.now)) }
+    ensures counts { Counts (IsErr result) (W.refusals writer.old) (W.refusals writer.new) }
 {
     for number in numbers {
         writeln!(writer, "would delete {number}")?;

@@ -4,5 +4,5 @@
 mod deleting;
 mod incomplete;
 
-pub use deleting::{delete_file, delete_on, delete_uploads};
-pub use incomplete::{Incomplete, delete_incomplete_file, incomplete_numbers, incomplete_on};
+pub use deleting::{delete_in, delete_on, delete_uploads};
+pub use incomplete::{Incomplete, incomplete_in, incomplete_numbers, incomplete_on};

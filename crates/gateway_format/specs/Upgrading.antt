@@ -1,5 +1,6 @@
 -- What `upgrade` makes of the spool in a file.
-use Rattle.std.specs.Prelude.{◌≡◌, ◌⊎◌, ◌↔◌, ◌≤◌, ◌*◌, ℕ, Result, Ok, Err, IfErr, OnOk}
+use Rattle.std.specs.Prelude.{◌≡◌, ◌⊎◌, ◌↔◌, ◌≤◌, ◌*◌, ℕ, List, Option, Result, Ok, Err, IfErr, IsErrAnd, OnOk}
+use Rattle.std.specs.Io.KnownBytes.{Appends}
 use Rattle.common.specs.declared.stop.Stop.TheVariants.{DiskFault}
 use Rattle.spool_disk.specs.Disk.{Counts, IsImage, Preserves}
 use Rattle.spool_disk.specs.Views.{Lasts}
@@ -21,8 +22,12 @@ use Rattle.spool_image.specs.declared.error.UpgradeError.{UpgradeError}
 use Rattle.spool_image.specs.declared.error.UpgradeError.TheVariants.{Open, AlreadyNew}
 use Rattle.gateway_outside.specs.Failures.{fault_in}
 use Rattle.gateway_outside.specs.Faults.{upgrade_fault}
-use Rattle.gateway_outside.specs.SpoolFiles.{OnlyRead}
+use Rattle.gateway_outside.specs.Openings.{EndsWellBut, OpensOr}
+use Rattle.gateway_outside.specs.SpoolFiles.{Disks, OnlyRead}
 use Rattle.gateway_outside.specs.declared.failures.Failure.{Failure}
+use Rattle.gateway_outside.specs.declared.faults.Fault.TheVariants.{Io}
+use Rattle.gateway_outside.specs.declared.openings.Unopened.{Unopened}
+use Rattle.gateway_format.specs.Reports.{upgraded_line}
 
 -- AN UPGRADE OF A DISK and its answer: what `spool_image::upgrade` promises of them
 pub record Upgrades {T D : Type 0} (disk : Ghosts D) (d d' : D) (result : Result T UpgradeError) : Type 0 where
@@ -54,17 +59,25 @@ pub record Upgrades {T D : Type 0} (disk : Ghosts D) (d d' : D) (result : Result
   pub shows : (n : ℕ) (m : Store) → IsSpool disk d n m → (result ≡ Err (Open (Stop DiskFault)) → ⊥)
       → AllShow disk d' n m
 
--- what is answered for that
-abbrev pub FailsAs : {T : Type 0} → Result T UpgradeError → Result T Failure → Type 0
-FailsAs (Ok t) (Ok u) = Unit {0}
-FailsAs (Err e) (Err failure) = fault_in failure ≡ upgrade_fault e
-FailsAs (Ok t) (Err failure) = ⊥
-FailsAs (Err e) (Ok u) = ⊥
+-- what is answered and printed for that
+abbrev pub AnswersUpgrade : {T U : Type 0} → Result T UpgradeError → Option (List ℕ) → Option (List ℕ)
+    → Result U Failure → Type 0
+AnswersUpgrade (Ok t) before after result = EndsWellBut result Io × OnOk result (Appends before after upgraded_line)
+AnswersUpgrade (Err e) before after result =
+    IsErrAnd result (λ failure. fault_in failure ≡ upgrade_fault e) × (after ≡ before)
 
 -- THE SPOOL IN A FILE WAS UPGRADED, and then at most looked at
-pub record UpgradedIn {T D : Type 0} (disk : Ghosts D) (d : D) (result : Result T Failure) (d' : D) : Type 0 where
-  pub now : D
-  pub answer : Result T UpgradeError
-  pub upgrades : Upgrades disk d now answer
-  pub fails_as : FailsAs answer result
-  pub reads : OnlyRead disk now d'
+pub record UpgradedIn {T D : Type 0} (disk : Ghosts D) (d : D) (before after : Option (List ℕ))
+    (result : Result T Failure) (d' : D) : Type 0
+  where
+    pub now : D
+    pub answer : Result (Unit {0}) UpgradeError
+    pub upgrades : Upgrades disk d now answer
+    pub answers : AnswersUpgrade answer before after result
+    pub reads : OnlyRead disk now d'
+
+-- WHAT THE COMMAND PROMISES of the file at a path
+abbrev pub UpgradesAt : {T D : Type 0} → Ghosts D → (Disks D → Type 0) → (Disks D → Type 0) → List Unopened
+    → List Unopened → List ℕ → Option (List ℕ) → Option (List ℕ) → Result T Failure → Type 0
+UpgradesAt disk holds holds' shut shut' path before after result =
+    OpensOr holds holds' shut shut' path before after result (λ d d'. UpgradedIn disk d before after result d')

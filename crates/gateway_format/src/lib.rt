@@ -8,5 +8,5 @@ mod upgrading;
 
 pub use blanks::is_blank;
 pub use formatting::{Formatted, Made, format_file, format_in, format_on};
-pub use reports::{report_formatted, report_longer, report_upgraded};
-pub use upgrading::{upgrade_file, upgrade_in};
+pub use reports::{report_formatted, report_longer};
+pub use upgrading::upgrade_in;

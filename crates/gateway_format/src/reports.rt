@@ -1,7 +1,7 @@
-//! What is printed of a spool that was made or upgraded.
+//! What is printed of a spool that was made.
 ghost use Rattle.std.specs.Prelude.{OnOk};
 ghost use Rattle.std.specs.Io.KnownBytes.{Appends};
-ghost use Rattle.gateway_format.specs.Reports.{formatted_line, longer_line, upgraded_line};
+ghost use Rattle.gateway_format.specs.Reports.{formatted_line, longer_line};
 
 use std::io::{self, Write};
 
@@ -20,11 +20,4 @@ pub fn report_longer<W: Write>(writer: &mut W, spool: &str, len: u64) -> io::Res
         writer,
         "{spool} has {len} bytes, as before: more than the spool, which is at its start"
     )
-}
-
-/// Prints that a spool was upgraded.
-pub fn report_upgraded<W: Write>(writer: &mut W) -> io::Result<()>
-    ensures { OnOk result (Appends (W.contents writer.old) (W.contents writer.new) upgraded_line) }
-{
-    writeln!(writer, "upgraded to version 2")
 }

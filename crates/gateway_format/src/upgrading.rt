@@ -1,31 +1,32 @@
 //! A spool in a file, brought to version 2.
-ghost use Rattle.std.specs.Prelude.{◌≡◌, ◌⊎◌, IsErrAnd, Some};
-ghost use Rattle.gateway_outside.specs.SpoolFiles.{Disks, Leaves, NotOpened};
-ghost use Rattle.gateway_format.specs.Upgrading.{UpgradedIn};
+ghost use Rattle.std.specs.Prelude.{◌≡◌, IsErr, IsErrAnd, None, OnOk};
+ghost use Rattle.std.specs.Io.KnownBytes.{Appends};
+ghost use Rattle.spool_disk.specs.Disk.{Counts};
+ghost use Rattle.gateway_outside.specs.declared.faults.Fault.{Fault};
+ghost use Rattle.gateway_outside.specs.Failures.{fault_in};
+ghost use Rattle.gateway_outside.specs.Openings.{EndsWellBut};
+ghost use Rattle.gateway_format.specs.Reports.{upgraded_line};
+ghost use Rattle.gateway_format.specs.Upgrading.{UpgradesAt};
 
-use gateway_outside::{Failure, Fault, SpoolFiles, SystemFiles, open_in, refused_in};
+use gateway_outside::{Failure, Fault, Output, SpoolFiles, open_in, refused_in};
 use spool_image::upgrade;
 use std::alloc::Global;
 
-/// Brings the spool in a file to version 2.
-pub fn upgrade_file<'a>(
-    rt: &HostRuntime,
-    alloc: Global,
-    spool: &'a str,
-) -> Result<(), Failure<'a>> {
-    upgrade_in(alloc, &mut SystemFiles::new(rt), spool)
-}
-
-/// Brings the spool in the file at this path to version 2.
-pub fn upgrade_in<'a, F: SpoolFiles>(
+/// Brings the spool in the file at this path to version 2, and prints that.
+pub fn upgrade_in<'a, F: SpoolFiles, W: Output>(
     alloc: Global,
     files: &mut F,
+    output: &mut W,
     path: &'a str,
 ) -> Result<(), Failure<'a>>
-    // Where it can be opened it is upgraded, with what `spool_image::upgrade` promises. The other files stay.
-    ensures { (disks : Disks F.File) (d : F.File) → F.holds files.old disks → disks path.now ≡ Some d
-        → Leaves (F.holds files.new) disks path.now
-        (λ d'. IsErrAnd result (λ failure. NotOpened d failure d') ⊎ UpgradedIn F.File.Disk d result d') }
+    // The file was opened and upgraded, with what `spool_image::upgrade` promises; or the one call that was to open it
+    // failed, and nothing was printed. The other files stay.
+    ensures upgrades { UpgradesAt F.File.Disk (F.holds files.old) (F.holds files.new) (F.unopened files.old)
+        (F.unopened files.new) path.now (W.contents output.old) (W.contents output.new) result }
+
+    // `Io` is answered exactly where the output refused: then it was upgraded.
+    ensures io { Counts (IsErrAnd result (λ failure. fault_in failure ≡ Fault.Io)) (W.refusals output.old)
+        (W.refusals output.new) }
 {
     let mut disk = match open_in(files, path) {
         Ok(disk) => disk,
@@ -34,8 +35,20 @@ pub fn upgrade_in<'a, F: SpoolFiles>(
     match upgrade(alloc, &mut disk) {
         Ok(()) => {
             files.close(path, disk);
-            Ok(())
+            return tell_upgraded(output);
         }
-        Err(error) => Err(refused_in(files, Fault::from(error), path, disk)),
+        Err(error) => return Err(refused_in(files, Fault::from(error), path, disk)),
+    }
+}
+
+// Prints that a spool was upgraded.
+fn tell_upgraded<'a, W: Output>(output: &mut W) -> Result<(), Failure<'a>>
+    ensures line { OnOk result (Appends (W.contents output.old) (W.contents output.new) upgraded_line) }
+    ensures refused { EndsWellBut result Fault.Io }
+    ensures io { Counts (IsErr result) (W.refusals output.old) (W.refusals output.new) }
+{
+    match writeln!(output, "upgraded to version 2") {
+        Ok(()) => Ok(()),
+        Err(_) => Err(Failure::on_streams(Fault::Io, None, output.error())),
     }
 }

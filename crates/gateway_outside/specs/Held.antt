@@ -80,3 +80,8 @@ module _ {D : Type 0} (holds : Disks D → Type 0) (disks : Disks D) (path : Lis
   pub leaves_again : (x : Option D) (P Q : D → Type 0) → Leaves holds (with_disk disks path x) path P
       → ((d : D) → P d → Q d) → Leaves holds disks path Q
   leaves_again x P Q left so = leaves_put x Q left.disk left.held (so left.disk left.is)
+
+  -- what is so of the disk, said otherwise
+  pub leaves_more : (P Q : D → Type 0) → Leaves holds disks path P → ((d : D) → P d → Q d)
+      → Leaves holds disks path Q
+  leaves_more P Q left so = record { disk = left.disk; held = left.held; is = so left.disk left.is }

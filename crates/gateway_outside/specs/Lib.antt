@@ -14,3 +14,6 @@ pub mod Refusals
 pub mod Lasting
 pub mod Held
 pub mod Counted
+pub mod Openings
+pub mod System
+pub mod Memory

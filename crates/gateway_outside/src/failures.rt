@@ -30,6 +30,8 @@ pub struct Failure<'a> {
 }
 
 impl<'a> Failure<'a> {
+    ghost use Rattle.gateway_outside.specs.declared.faults.Fault.{Fault};
+
     /// The system failed at a task.
     pub fn new(fault: Fault, task: Task<'a>, error: io::Error) -> Self
         ensures { fault_in result ≡ fault }
@@ -52,7 +54,8 @@ impl<'a> Failure<'a> {
 
     /// The system didn't open or make the spool at this path.
     pub fn on_opening(task: Task<'a>, path: &'a str, error: io::Error) -> Self
-        ensures { fault_in result ≡ opening_fault (error_kind error) }
+        ensures fault { fault_in result ≡ opening_fault (error_kind error) }
+        ensures never_io { fault_in result ≡ Fault.Io → ⊥ }
     {
         match Fault::of_opening(error.kind()) {
             Fault::InUse => Failure::advised(Fault::InUse, Advice::InUse(path)),

@@ -4,6 +4,7 @@ ghost use Rattle.gateway_outside.specs.Faults.{failure_line, lengthening_fault, 
 ghost use Rattle.gateway_outside.specs.Faults.{row};
 ghost use Rattle.gateway_outside.specs.Faults.{exit_status_of};
 
+use crate::streams::Refused;
 use common::Stop;
 use enc_index::ReadError;
 use enc_stream::TranscodeError;
@@ -76,9 +77,12 @@ impl fmt::Display for Fault {
 }
 
 impl Fault {
+    ghost use Rattle.gateway_outside.specs.declared.faults.Fault.{Fault};
+
     /// Why a file isn't opened or made as a spool, by the system's error.
     pub fn of_opening(kind: ErrorKind) -> Self
-        ensures { result ≡ opening_fault kind }
+        ensures fault { result ≡ opening_fault kind }
+        ensures never_io { result ≡ Fault.Io → ⊥ }
     {
         match kind {
             ErrorKind::ResourceBusy => Fault::InUse,
@@ -161,6 +165,16 @@ impl From<io::Error> for Fault {
             ErrorKind::OutOfMemory => Fault::Stop(Stop::NoMemory),
             _ => Fault::Io,
         }
+    }
+}
+
+impl From<Refused> for Fault {
+    ghost use Rattle.gateway_outside.specs.declared.faults.Fault.{Fault};
+
+    ghost from_gives = { λ _ fault. fault ≡ Fault.Io };
+
+    fn from(_refused: Refused) -> Self {
+        Fault::Io
     }
 }
 

@@ -7,6 +7,8 @@ mod failures;
 mod faults;
 mod finding;
 mod laws;
+mod memory;
+mod openings;
 mod spool_files;
 mod standard;
 mod streams;
@@ -16,8 +18,10 @@ pub use failures::{Failure, ended};
 pub use faults::Fault;
 pub use finding::find_folder;
 pub use laws::shown_in_order;
+pub use memory::MemoryFile;
+pub use openings::Unopened;
 pub use spool_files::{
     SpoolFiles, SystemFiles, open_in, open_spool, refused_by, refused_in, refused_spool,
 };
 pub use standard::{Closed, files_to_open};
-pub use streams::Noted;
+pub use streams::{Noted, Output, Refused};

@@ -1,25 +1,34 @@
 //! Spools in files.
-ghost use Rattle.std.specs.Prelude.{◌≡◌, Err, IfErr, IfOk, None, OnErr, Some};
+ghost use Rattle.std.specs.Prelude.{◌≡◌, ◌∷◌, [], Err, IfErr, IfOk, List, None, OnErr, OnOk, Some};
 ghost use Rattle.std.specs.IoError.{error_kind};
 ghost use Rattle.std.specs.declared.io.ErrorKind.{ErrorKind};
+ghost use Rattle.gateway_outside.specs.declared.faults.Fault.{Fault};
 ghost use Rattle.gateway_outside.specs.Failures.{fault_in};
+ghost use Rattle.gateway_outside.specs.Openings.{FailedToOpen, failed_opening};
 ghost use Rattle.gateway_outside.specs.SpoolFiles.{Disks, IsJustOpened, IsNotOpened, Leaves, LeavesOthers, OnlyRead};
 ghost use Rattle.gateway_outside.specs.SpoolFiles.{with_disk};
 
 use crate::advice::{Advice, Task};
 use crate::failures::Failure;
 use crate::faults::Fault;
+use crate::openings::Unopened;
+use common::Trace;
 use spool_disk::{CreateError, Disk, FileDisk};
 use spool_image::is_spool;
 use std::{fs, io};
 
 /// Files that spools are in, opened by their paths. One that is open is out until it is closed.
 pub trait SpoolFiles {
+    ghost use Rattle.gateway_outside.specs.declared.openings.Unopened.{Unopened};
+
     /// A file that is open, as a disk.
     type File: Disk + Drop;
 
     /// They hold these disks.
     ghost holds: { Self → Disks Self.File → Type 0 };
+
+    /// Which openings failed, the latest first.
+    ghost unopened: { Self → List Unopened };
 
     /// Opens the file at this path. Where it fails they hold what they held.
     fn open(&mut self, path: &str) -> io::Result<Self::File>
@@ -27,7 +36,10 @@ pub trait SpoolFiles {
             → IfOk result (λ disk. (disks path.now ≡ Some disk) × holds self.new (with_disk disks path.now None)) }
         ensures failed { (disks : Disks Self.File) → holds self.old disks → OnErr result (holds self.new disks) }
         ensures missing { (disks : Disks Self.File) → holds self.old disks
-            → IfErr result (λ error. error_kind error ≡ ErrorKind.NotFound → disks path.now ≡ None) };
+            → IfErr result (λ error. error_kind error ≡ ErrorKind.NotFound → disks path.now ≡ None) }
+        ensures noted { IfErr result (λ error. unopened self.new
+            ≡ failed_opening path.now (error_kind error) ∷ unopened self.old) }
+        ensures unnoted { OnOk result (unopened self.new ≡ unopened self.old) };
 
     /// Opens the file at this path, or makes it, as a disk of so many bytes. Where it fails the others stay.
     fn create(&mut self, path: &str, len: u64) -> Result<Self::File, CreateError>
@@ -40,7 +52,8 @@ pub trait SpoolFiles {
     /// Closes a file, which is at this path then.
     fn close(&mut self, path: &str, disk: Self::File)
         ensures closed { (disks : Disks Self.File) → holds self.old disks
-            → holds self.new (with_disk disks path.now (Some disk)) };
+            → holds self.new (with_disk disks path.now (Some disk)) }
+        ensures unnoted { unopened self.new ≡ unopened self.old };
 
     /// Removes the file at this path, and no link to it. The others stay.
     fn remove(&mut self, path: &str) -> io::Result<()>
@@ -58,23 +71,41 @@ pub trait SpoolFiles {
 #[derive(Drop)]
 pub struct SystemFiles<'a> {
     rt: &'a HostRuntime,
+    log: Trace<Unopened>,
 }
 
 impl<'a> SystemFiles<'a> {
-    /// The files that this runtime reaches.
-    pub fn new(rt: &'a HostRuntime) -> Self {
-        SystemFiles { rt }
+    ghost use Rattle.gateway_outside.specs.System.{unopened_of};
+
+    /// The files that this runtime reaches. No opening failed so far.
+    pub fn new(rt: &'a HostRuntime) -> Self
+        ensures { unopened_of result ≡ [] }
+    {
+        SystemFiles {
+            rt,
+            log: Trace::new(),
+        }
     }
 }
 
 impl SpoolFiles for SystemFiles<'_> {
+    ghost use Rattle.gateway_outside.specs.System.{unopened_of};
+
     type File = FileDisk;
 
     // of no disks it is known
     ghost holds = { λ files disks. ⊥ };
 
+    ghost unopened = { unopened_of };
+
     fn open(&mut self, path: &str) -> io::Result<FileDisk> {
-        FileDisk::try_open(self.rt, path)
+        match FileDisk::try_open(self.rt, path) {
+            Ok(disk) => Ok(disk),
+            Err(error) => {
+                self.log = self.log.and(&Unopened::new(path, error.kind()));
+                Err(error)
+            }
+        }
     }
 
     fn create(&mut self, path: &str, len: u64) -> Result<FileDisk, CreateError> {
@@ -112,6 +143,10 @@ pub fn open_in<'a, F: SpoolFiles>(files: &mut F, path: &'a str) -> Result<F::Fil
         → IfOk result (λ disk. (disks path.now ≡ Some disk) × F.holds files.new (with_disk disks path.now None)) }
     ensures failed { (disks : Disks F.File) → F.holds files.old disks → OnErr result (F.holds files.new disks) }
     ensures refused { IfErr result IsNotOpened }
+
+    // A failure is that of the one call, and never told as a stream's.
+    ensures noted { IfErr result (FailedToOpen (F.unopened files.old) (F.unopened files.new) path.now) }
+    ensures never_io { IfErr result (λ failure. fault_in failure ≡ Fault.Io → ⊥) }
 {
     match files.open(path) {
         Ok(disk) => Ok(disk),

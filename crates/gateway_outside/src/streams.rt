@@ -1,27 +1,76 @@
-//! Readers and writers that store why they failed.
-ghost use Rattle.std.specs.Prelude.{◌≡◌, None};
+//! Readers and writers that store why they failed, and output that counts what it refused.
+ghost use Rattle.std.specs.Prelude.{◌≡◌, ℕ, List, None, Option, IfSome, IsErr, OnOk};
+ghost use Rattle.std.specs.Fmt.{with_newline};
+ghost use Rattle.std.specs.Io.KnownBytes.{Appends};
+ghost use Rattle.common.specs.Counts.{Counts};
 
+use std::fmt::Display;
 use std::io::{self, ErrorKind, Read, Write};
 
-/// A reader or a writer that stores why its latest call failed.
+/// Output was refused.
+#[derive(Clone, Copy, Debug, PartialEq, Eq, Drop)]
+pub struct Refused;
+
+/// Output that counts what it refuses.
+pub trait Output {
+    /// The bytes that it holds, where they are known.
+    ghost contents: { Self → Option (List ℕ) };
+
+    /// How many calls it refused, up to 2^64 - 1.
+    ghost refusals: { Self → ℕ };
+
+    /// Writes all of the bytes, or refuses.
+    fn put(&mut self, bytes: &[u8]) -> Result<(), Refused>
+        ensures bytes { OnOk result (Appends (contents self.old) (contents self.new) bytes.now) }
+        ensures counts { Counts (IsErr result) (refusals self.old) (refusals self.new) };
+
+    /// Writes all of a text, as `write!` does, or refuses.
+    fn write_fmt<D: Display + Drop>(&mut self, text: D) -> Result<(), Refused>
+        ensures bytes { OnOk result (IfSome (D.output text) (Appends (contents self.old) (contents self.new))) }
+        ensures counts { Counts (IsErr result) (refusals self.old) (refusals self.new) };
+
+    /// Writes all of a text and LF, as `writeln!` does, or refuses.
+    fn writeln<D: Display + Drop>(&mut self, text: D) -> Result<(), Refused>
+        ensures bytes { OnOk result (IfSome (with_newline (D.output text))
+            (Appends (contents self.old) (contents self.new))) }
+        ensures counts { Counts (IsErr result) (refusals self.old) (refusals self.new) };
+
+    /// Why a call was refused last. `None` where none was.
+    fn error(&self) -> Option<io::Error>;
+}
+
+/// A reader or a writer that stores why its latest call failed. As output it counts the calls that it refused.
 #[derive(Drop)]
 pub struct Noted<S> {
     stream: S,
     error: Option<io::Error>,
+    refusals: u64,
 }
 
 impl<S> Noted<S> {
-    ghost use Rattle.gateway_outside.specs.Streams.{latest_error_of, noted_stream};
+    ghost use Rattle.gateway_outside.specs.Streams.{latest_error_of, noted_stream, refusals_of};
 
     /// No call failed so far.
     pub fn new(stream: S) -> Self
         ensures stream { noted_stream result ≡ stream }
         ensures none { latest_error_of result ≡ None }
+        ensures unrefused { refusals_of result ≡ 0 }
     {
         Noted {
             stream,
             error: None,
+            refusals: 0,
         }
+    }
+
+    // Counts a call that failed, and stores why.
+    fn refuse(&mut self, error: io::Error) -> Refused
+        ensures stream { noted_stream self.new ≡ noted_stream self.old }
+        ensures counts { Counts (Unit {0}) (refusals_of self.old) (refusals_of self.new) }
+    {
+        self.error = Some(error);
+        self.refusals = self.refusals.saturating_add(1);
+        Refused
     }
 
     /// The stream under it.
@@ -70,5 +119,38 @@ impl<W: Write> Write for Noted<W> {
         let outcome = self.stream.flush();
         self.error = outcome.err();
         outcome
+    }
+}
+
+impl<W: Write> Output for Noted<W> {
+    ghost use Rattle.gateway_outside.specs.Streams.{noted_stream, refusals_of};
+
+    ghost contents = { λ noted. W.contents (noted_stream noted) };
+
+    ghost refusals = { refusals_of };
+
+    fn put(&mut self, bytes: &[u8]) -> Result<(), Refused> {
+        match self.stream.write_all(bytes) {
+            Ok(()) => Ok(()),
+            Err(error) => Err(self.refuse(error)),
+        }
+    }
+
+    fn write_fmt<D: Display + Drop>(&mut self, text: D) -> Result<(), Refused> {
+        match self.stream.write_fmt(text) {
+            Ok(()) => Ok(()),
+            Err(error) => Err(self.refuse(error)),
+        }
+    }
+
+    fn writeln<D: Display + Drop>(&mut self, text: D) -> Result<(), Refused> {
+        match self.stream.writeln(text) {
+            Ok(()) => Ok(()),
+            Err(error) => Err(self.refuse(error)),
+        }
+    }
+
+    fn error(&self) -> Option<io::Error> {
+        self.error
     }
 }

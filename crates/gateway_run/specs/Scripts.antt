@@ -1,5 +1,5 @@
 -- What a run of a script over the spool in a file comes to.
-use Rattle.std.specs.Prelude.{◌≡◌, ℕ, List, Option, Some, Result, Ok, Err, OnErr}
+use Rattle.std.specs.Prelude.{◌≡◌, ◌⊎◌, ℕ, List, Option, Some, Result, Ok, Err, IsErrAnd, OnErr}
 use Rattle.spool_disk.specs.Disk.{Counts}
 use Rattle.spool_disk.specs.declared.disk.Disk.{Ghosts}
 use Rattle.upload_rules.specs.Store.{Store}
@@ -14,10 +14,12 @@ use Rattle.gateway_engine.specs.declared.faults.RunFault.{RunFault}
 use Rattle.gateway_engine.specs.declared.faults.RunFault.TheVariants as runs
 use Rattle.gateway_outside.specs.Failures.{fault_in}
 use Rattle.gateway_outside.specs.Faults.{open_fault}
-use Rattle.gateway_outside.specs.SpoolFiles.{OnlyRead}
+use Rattle.gateway_outside.specs.Openings.{StaysShut}
+use Rattle.gateway_outside.specs.SpoolFiles.{Disks, Leaves, OnlyRead}
 use Rattle.gateway_outside.specs.declared.failures.Failure.{Failure}
 use Rattle.gateway_outside.specs.declared.faults.Fault.{Fault}
 use Rattle.gateway_outside.specs.declared.faults.Fault.TheVariants as faults
+use Rattle.gateway_outside.specs.declared.openings.Unopened.{Unopened}
 
 -- A RUN THAT ENDED EARLY, as the program's fault
 abbrev pub run_fault : RunFault → Fault
@@ -54,3 +56,12 @@ pub record RanIn {T D : Type 0} (disk : Ghosts D) (d : D) (result : Result T Fai
   pub runs : Runs disk d run input before after none
   pub answers : AnswersRun run result
   pub reads : OnlyRead disk (disk_back run) d'
+
+-- WHAT THE COMMAND PROMISES of the file at a path: a script ran over its spool, or the one call that was to open it
+-- failed, and `none` holds. The other files stay
+module _ {T D : Type 0} (disk : Ghosts D) (holds holds' : Disks D → Type 0) (shut shut' : List Unopened)
+    (path : List ℕ) (result : Result T Failure) (input before after : Option (List ℕ)) (none : Type 0) where
+  abbrev pub RunsAt : Type 0
+  RunsAt = (disks : Disks D) (d : D) → holds disks → disks path ≡ Some d → Leaves holds' disks path (λ d'.
+      IsErrAnd result (λ failure. StaysShut shut shut' path d failure d' × none)
+      ⊎ RanIn disk d result input before after none d')

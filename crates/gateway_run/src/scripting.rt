@@ -1,8 +1,7 @@
 //! Running standard input as a script over a spool.
-ghost use Rattle.std.specs.Prelude.{◌≡◌, ◌⊎◌, Some, IsErrAnd};
+ghost use Rattle.std.specs.Prelude.{◌≡◌, bytes_eq, codes, false};
 ghost use Rattle.gateway_outside.specs.Failures.{fault_in};
-ghost use Rattle.gateway_outside.specs.SpoolFiles.{Disks, Leaves, NotOpened};
-ghost use Rattle.gateway_run.specs.Scripts.{RanIn, run_fault};
+ghost use Rattle.gateway_run.specs.Scripts.{RunsAt, run_fault};
 
 use enc_index::IndexSet;
 use gateway_engine::{Counted, CountedRead, CountedWrite, RunFault, ScriptFault, run};
@@ -22,7 +21,13 @@ pub fn run_script<'a>(rt: &HostRuntime, alloc: Global, spool: &'a str) -> Result
     let mut output = Noted::new(rt.stdout());
     let mut reader = Counted::new(&mut input);
     let mut writer = Counted::new(&mut output);
-    match run_at(rt, alloc, spool, &mut reader, &mut writer) {
+    match run_at(
+        alloc,
+        &mut SystemFiles::new(rt),
+        spool,
+        &mut reader,
+        &mut writer,
+    ) {
         Ok(()) => Ok(()),
         Err(failure) => Err(by_streams(failure, input.error(), output.error())),
     }
@@ -43,17 +48,21 @@ fn by_streams<'a>(
 }
 
 // Runs a script over the spool at this path, or in memory for `-`.
-fn run_at<'a, R: CountedRead, W: CountedWrite>(
-    rt: &HostRuntime,
+fn run_at<'a, F: SpoolFiles, R: CountedRead, W: CountedWrite>(
     alloc: Global,
+    files: &mut F,
     spool: &'a str,
     reader: &mut R,
     writer: &mut W,
-) -> Result<(), Failure<'a>> {
+) -> Result<(), Failure<'a>>
+    ensures file { bytes_eq spool.now (codes "-") ≡ false → RunsAt F.File.Disk (F.holds files.old) (F.holds files.new)
+        (F.unopened files.old) (F.unopened files.new) spool.now result (R.remaining reader.old) (W.contents writer.old)
+        (W.contents writer.new) ((reader.new ≡ reader.old) × (writer.new ≡ writer.old)) }
+{
     if spool == "-" {
         return run_in_memory(alloc, reader, writer);
     }
-    run_in(alloc, &mut SystemFiles::new(rt), spool, reader, writer)
+    run_in(alloc, files, spool, reader, writer)
 }
 
 // Runs a script over a fresh spool in memory.
@@ -78,12 +87,11 @@ fn run_in<'a, F: SpoolFiles, R: CountedRead, W: CountedWrite>(
     writer: &mut W,
 ) -> Result<(), Failure<'a>>
     // Where the file can be opened the script is run over its spool, with what `gateway_engine::run` promises, and the
-    // failure is the run's. Where it can't, neither the reader nor the writer was called. The other files stay.
-    ensures runs { (disks : Disks F.File) (d : F.File) → F.holds files.old disks → disks path.now ≡ Some d
-        → Leaves (F.holds files.new) disks path.now (λ d'.
-        IsErrAnd result (λ failure. NotOpened d failure d' × (reader.new ≡ reader.old) × (writer.new ≡ writer.old))
-        ⊎ RanIn F.File.Disk d result (R.remaining reader.old) (W.contents writer.old) (W.contents writer.new)
-        ((reader.new ≡ reader.old) × (writer.new ≡ writer.old)) d') }
+    // failure is the run's. Where the one call that was to open it failed, neither the reader nor the writer was
+    // called. The other files stay.
+    ensures runs { RunsAt F.File.Disk (F.holds files.old) (F.holds files.new) (F.unopened files.old)
+        (F.unopened files.new) path.now result (R.remaining reader.old) (W.contents writer.old) (W.contents writer.new)
+        ((reader.new ≡ reader.old) × (writer.new ≡ writer.old)) }
 {
     let disk = match open_in(files, path) {
         Ok(disk) => disk,

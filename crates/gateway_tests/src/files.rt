@@ -3,12 +3,12 @@
 use crate::spools::ran;
 use crate::steps::Step::{self, Added, Deferred, Made, Open};
 use crate::talks::Talk;
-use gateway_delete::delete_incomplete_file;
+use gateway_delete::incomplete_in;
 use gateway_export::export_file;
-use gateway_format::{format_file, report_formatted, upgrade_file};
+use gateway_format::{format_file, report_formatted, upgrade_in};
 use gateway_indexes::report_read;
 use gateway_list::{json_file, list_file, list_on};
-use gateway_outside::{Failure, open_spool};
+use gateway_outside::{Failure, Noted, SystemFiles, open_spool};
 use spool_disk::{Disk, FileDisk};
 use std::alloc::Global;
 use std::fs;
@@ -108,10 +108,10 @@ fn spool_is_made_used_listed_and_upgraded(rt: HostRuntime) {
     let mut disk = lists(&rt, alloc, disk);
     make_old(&rt, &mut disk);
     drop(lists(&rt, alloc, disk));
-    upgrade_file(&rt, alloc, SPOOL).expect(&rt, "an old spool");
+    upgraded(&rt, alloc, SPOOL).expect(&rt, "an old spool");
     let disk = open_spool(&rt, SPOOL).expect(&rt, "an upgraded spool");
     drop(lists(&rt, alloc, disk));
-    let again = upgrade_file(&rt, alloc, SPOOL);
+    let again = upgraded(&rt, alloc, SPOOL);
     let last_line =
         "refused: 35 AlreadyNew\ngateway_file_test/spool is of version 2: there is nothing to do";
     fails(&rt, alloc, again, 2, last_line);
@@ -119,6 +119,12 @@ fn spool_is_made_used_listed_and_upgraded(rt: HostRuntime) {
     fails(&rt, alloc, other, 2, OTHERS);
     assert!(rt; !fs::exists(&rt, OTHER).expect(&rt, "a folder"));
     fs::remove_dir_all(&rt, FOLDER).expect(&rt, "a folder");
+}
+
+/// Upgrades the spool in a file.
+fn upgraded<'a>(rt: &HostRuntime, alloc: Global, path: &'a str) -> Result<(), Failure<'a>> {
+    let mut output = Noted::new(Vec::new(alloc));
+    upgrade_in(alloc, &mut SystemFiles::new(rt), &mut output, path)
 }
 
 /// Checks that a command fails with this status and this message.
@@ -234,9 +240,17 @@ fn failure_says_what_the_system_said(rt: HostRuntime) {
     for ended in [
         open_spool(&rt, "gateway_used_test").map(drop),
         list_file(&rt, alloc, "gateway_used_test", false),
-        upgrade_file(&rt, alloc, "gateway_used_test"),
+        upgraded(&rt, alloc, "gateway_used_test"),
         export_file(&rt, alloc, "gateway_used_test", ".", false),
-        delete_incomplete_file(&rt, alloc, "gateway_used_test", &[], true),
+        incomplete_in(
+            alloc,
+            &mut SystemFiles::new(&rt),
+            &mut Noted::new(rt.stdout()),
+            &mut Noted::new(rt.stderr()),
+            "gateway_used_test",
+            &[],
+            true,
+        ),
         json_file(&rt, alloc, "gateway_used_test"),
     ] {
         fails(&rt, alloc, ended, 2, last_line);

@@ -11,7 +11,7 @@ use gateway_indexes::{
     standard_entries, used_of,
 };
 use gateway_list::list_on;
-use gateway_outside::Fault;
+use gateway_outside::{Fault, Noted};
 use gateway_text::{Conversion, conversion_of, text_on};
 use gateway_texts::Tally;
 use spool_disk::MemoryDisk;
@@ -48,7 +48,7 @@ static DELETIONS: [(&[u64], bool, &[u8], &[u8]); 3] = [
 ];
 
 /// A spool with three uploads.
-fn spool_with_three(rt: &impl Abort, alloc: Global) -> MemoryDisk {
+pub(crate) fn spool_with_three(rt: &impl Abort, alloc: Global) -> MemoryDisk {
     let talk = Talk::new(rt, alloc, STEPS);
     let (disk, fault, written) = ran(alloc, &talk, fresh(rt, alloc, 16, None));
     assert_eq!(rt; fault, None);
@@ -61,10 +61,10 @@ fn uploads_are_deleted_by_their_numbers(rt: HostRuntime) {
     let alloc = rt.alloc();
     let mut disk = spool_with_three(&rt, alloc);
     for (numbers, all, printed, left) in DELETIONS.iter() {
-        let mut lines = Vec::new(alloc);
+        let mut lines = Noted::new(Vec::new(alloc));
         let (after, deleted) = delete_on(alloc, &mut lines, disk, numbers);
         assert!(rt; deleted == Ok(*all));
-        assert_eq!(rt; lines.as_slice(), *printed);
+        assert_eq!(rt; lines.into_stream().as_slice(), *printed);
         let mut lines = Vec::new(alloc);
         let (after, listed) = list_on(alloc, &mut lines, after, false);
         assert!(rt; listed.is_ok());

@@ -10,7 +10,8 @@ pub loop-number-init : goal.loop-number-init
 loop-number-init g c = (
   refl,
   λ sure w represents. begun g.U.Uploads sure w c.args.numbers.now c.args.uploads.now
-      (g.W.Write.contents c.args.writer.now) represents,
+      (g.W.Output.contents c.args.writer.now) represents,
+  refl,
   refl,
 )
 
@@ -32,10 +33,11 @@ loop-number-preserved g c =
           c.delete_one.new.uploads (get_or numbers i 0) (drop (i + 1) numbers) _ _ c.loop-number.all is
           (λ e. c.in_ok-there.ensures.crash at
           (subst (λ b. g.U.Uploads.represents c.loop-number.uploads b at) e is.represents))
-          (g.W.Write.contents c.delete_one.new.writer)
+          (g.W.Output.contents c.delete_one.new.writer)
           c.in_ok-there.there (c.in_ok-there.ensures.represents sure at is.represents)
           (c.in_ok-there.ensures.there sure at is.represents) c.in_ok-there.ensures.line),
       c.in_ok-there.ensures.reads ∙ c.loop-number.invariant.2,
+      unfailed _ _ _ (λ f. absurd (cc)) c.in_ok-there.ensures.io ∙ c.loop-number.invariant.3,
     )
 
 pub returns-in_err-there-clause-crash : goal.returns-in_err-there-clause-crash

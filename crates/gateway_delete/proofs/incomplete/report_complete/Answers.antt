@@ -7,8 +7,8 @@ use Rattle.gateway_delete.proofs.incomplete.report_complete.Goals as goal
 pub loop-number-preserved : goal.loop-number-preserved
 loop-number-preserved g c =
     wrote_item kept_line [] c.args.numbers.now c.loop-number.number-index 0
-    (g.W.Write.contents c.args.writer.now) (g.W.Write.contents c.loop-number.writer)
-    (g.W.Write.contents c.writeln.new.self) c.loop-number-test.true c.loop-number.invariant
+    (g.W.Output.contents c.args.writer.now) (g.W.Output.contents c.loop-number.writer)
+    (g.W.Output.contents c.writeln.new.self) c.loop-number-test.true c.loop-number.invariant
     c.in_ok-writeln.ensures.bytes
 
 pub returns : goal.returns

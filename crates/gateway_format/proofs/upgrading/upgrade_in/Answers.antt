@@ -1,42 +1,70 @@
-use Rattle.std.proofs.Common.{◌∙◌, ◌⊎◌, None, Ok, Err, inl, inr, refl}
-use Rattle.gateway_outside.specs.SpoolFiles.{NotOpened}
+use Rattle.std.proofs.Common.{◌≡◌, ◌∙◌, ◌⊎◌, None, Ok, Err, inl, inr, refl}
+use Rattle.std.specs.Prelude.{IsErrAnd}
+use Rattle.gateway_outside.specs.Counted.{counts_as, counts_none}
 use Rattle.gateway_outside.specs.Held.{leaves_again, leaves_as, leaves_put, leaves_same, unread}
+use Rattle.gateway_outside.specs.Openings.{StaysShut}
 use Rattle.gateway_format.specs.Upgrading.{UpgradedIn}
+use Rattle.gateway_format.proofs.Upgraded.{io_by, never_io}
 use Rattle.gateway_format.proofs.upgrading.upgrade_in.Goals as goal
 
-pub returns-in-Err : goal.returns-in-Err
-returns-in-Err g c disks d held is =
+pub returns-in-Err-clause-upgrades : goal.returns-in-Err-clause-upgrades
+returns-in-Err-clause-upgrades g c disks d held is =
     leaves_same (g.F.SpoolFiles.holds c.open_in.new.files) disks c.args.path.now d _ is
-    (c.in-Err.ensures.failed disks held) (inl (record { same = refl; why = c.in-Err.ensures.refused }))
+    (c.in-Err.ensures.failed disks held) (inl (record { same = refl; why = c.in-Err.ensures.noted }, refl))
 
-pub returns-in-Ok-upgrade : goal.returns-in-Ok-upgrade
-returns-in-Ok-upgrade g c disks d held is =
+pub returns-in-Err-clause-io : goal.returns-in-Err-clause-io
+returns-in-Err-clause-io g c = counts_none _ _ c.in-Err.ensures.never_io
+
+pub returns-in-Ok-upgrade-clause-upgrades : goal.returns-in-Ok-upgrade-clause-upgrades
+returns-in-Ok-upgrade-clause-upgrades g c disks d held is =
     let opened = c.in-Ok.ensures.opened disks held in
-    let holds = g.F.SpoolFiles.holds c.close.new.self in
+    let files = g.F.SpoolFiles in
+    let holds = files.holds c.close.new.self in
+    let path = c.args.path.now in
+    let before = g.W.Output.contents c.args.output.now in
+    let after = g.W.Output.contents c.tell_upgraded.new.output in
+    let shut = files.unopened c.args.files.now in
+    let shut' = files.unopened c.close.new.self in
+    let result = c.tell_upgraded.result in
     let now = c.upgrade.new.disk in
     let disk = g.F.File.Disk in
-    leaves_as holds disks c.args.path.now c.in-Ok.disk d
-    (λ x d'. ⊥ ⊎ UpgradedIn {T = Unit {0}} disk x (Ok (tt {0})) d') opened.0 is
-    (leaves_put holds disks c.args.path.now None _ now (c.close.ensures.closed _ opened.1) (inr (record {
+    leaves_as holds disks path c.in-Ok.disk d
+    (λ x d'. IsErrAnd result (λ failure. StaysShut shut shut' path x failure d' × (after ≡ before))
+    ⊎ UpgradedIn disk x before after result d') opened.0 is
+    (leaves_put holds disks path None _ now (c.close.ensures.closed _ opened.1) (inr (record {
       now = now;
       answer = Ok (tt {0});
       upgrades = assumption c.in-Ok-upgrade.ensures;
-      fails_as = tt {0};
+      answers = (c.tell_upgraded.ensures.refused, c.tell_upgraded.ensures.line);
       reads = unread disk now;
     })))
 
-pub returns-in-Err-upgrade : goal.returns-in-Err-upgrade
-returns-in-Err-upgrade g c disks d held is =
+pub returns-in-Ok-upgrade-clause-io : goal.returns-in-Ok-upgrade-clause-io
+returns-in-Ok-upgrade-clause-io g c =
+    io_by c.tell_upgraded.result _ _ c.tell_upgraded.ensures.refused c.tell_upgraded.ensures.io
+
+pub returns-in-Err-upgrade-clause-upgrades : goal.returns-in-Err-upgrade-clause-upgrades
+returns-in-Err-upgrade-clause-upgrades g c disks d held is =
     let opened = c.in-Ok.ensures.opened disks held in
-    let holds = g.F.SpoolFiles.holds c.refused_in.new.files in
+    let files = g.F.SpoolFiles in
+    let holds = files.holds c.refused_in.new.files in
+    let path = c.args.path.now in
+    let before = g.W.Output.contents c.args.output.now in
+    let shut = files.unopened c.args.files.now in
+    let shut' = files.unopened c.refused_in.new.files in
+    let failure = c.refused_in.result in
     let disk = g.F.File.Disk in
-    leaves_as holds disks c.args.path.now c.in-Ok.disk d
-    (λ x d'. NotOpened x c.refused_in.result d'
-    ⊎ UpgradedIn {T = Unit {0}} disk x (Err c.refused_in.result) d') opened.0 is
-    (leaves_again holds disks c.args.path.now None _ _ (c.refused_in.ensures.left _ opened.1) (λ d' reads. inr (record {
+    leaves_as holds disks path c.in-Ok.disk d
+    (λ x d'. (StaysShut shut shut' path x failure d' × (before ≡ before))
+    ⊎ UpgradedIn {T = Unit {0}} disk x before before (Err failure) d') opened.0 is
+    (leaves_again holds disks path None _ _ (c.refused_in.ensures.left _ opened.1) (λ d' reads. inr (record {
       now = c.upgrade.new.disk;
       answer = Err c.in-Err-upgrade.error;
       upgrades = assumption c.in-Err-upgrade.ensures;
-      fails_as = c.refused_in.ensures.fault ∙ c.from.ensures;
+      answers = (c.refused_in.ensures.fault ∙ c.from.ensures, refl);
       reads = reads;
     })))
+
+pub returns-in-Err-upgrade-clause-io : goal.returns-in-Err-upgrade-clause-io
+returns-in-Err-upgrade-clause-io g c =
+    counts_none _ _ (never_io c.in-Err-upgrade.error _ (c.refused_in.ensures.fault ∙ c.from.ensures))

@@ -1,6 +1,6 @@
 use Rattle.std.proofs.Common.{◌≡◌, ◌∙◌, ◌⊎◌, None, Ok, Err, inl, inr, refl}
-use Rattle.gateway_outside.specs.SpoolFiles.{NotOpened}
 use Rattle.gateway_outside.specs.Held.{leaves_again, leaves_as, leaves_put, leaves_same, unread}
+use Rattle.gateway_outside.specs.Openings.{StaysShut}
 use Rattle.gateway_run.specs.Scripts.{RanIn}
 use Rattle.gateway_run.proofs.scripting.run_in.Goals as goal
 
@@ -9,7 +9,7 @@ returns-in-Err g c = record {
   runs = λ disks d held is.
       leaves_same (g.F.SpoolFiles.holds c.open_in.new.files) disks c.args.path.now d _ is
       (c.in-Err.ensures.failed disks held)
-      (inl (record { same = refl; why = c.in-Err.ensures.refused }, refl, refl));
+      (inl (record { same = refl; why = c.in-Err.ensures.noted }, (refl, refl)));
 }
 
 pub returns-in-Ok-run : goal.returns-in-Ok-run
@@ -53,9 +53,10 @@ returns-in-Err-run g c = record {
       let before = g.W.CountedWrite.contents c.args.writer.now in
       let after = g.W.CountedWrite.contents c.run.new.writer in
       let none = (c.run.new.reader ≡ c.args.reader.now) × (c.run.new.writer ≡ c.args.writer.now) in
+      let shut = g.F.SpoolFiles.unopened c.args.files.now in
+      let shut' = g.F.SpoolFiles.unopened c.refused_in.new.files in
       leaves_as holds disks c.args.path.now c.in-Ok.disk d
-      (λ x d'. (NotOpened x c.refused_in.result d' × (c.run.new.reader ≡ c.args.reader.now)
-      × (c.run.new.writer ≡ c.args.writer.now))
+      (λ x d'. (StaysShut shut shut' c.args.path.now x c.refused_in.result d' × none)
       ⊎ RanIn {T = Unit {0}} disk x (Err c.refused_in.result) input before after none d') opened.0 is
       (leaves_again holds disks c.args.path.now None _ _
       (c.refused_in.ensures.left _ opened.1) (λ d' reads. inr (record {

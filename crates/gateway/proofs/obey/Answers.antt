@@ -1,0 +1,14 @@
+use Rattle.gateway.proofs.obey.Goals as goal
+
+pub returns-in-Delete : goal.returns-in-Delete
+returns-in-Delete g c =
+    let deletes = rw c.deref.ensures.value at c.delete_in.ensures.deletes in
+    rw c.in-Delete.is (deletes, c.delete_in.ensures.io)
+
+pub returns-in-DeleteIncomplete : goal.returns-in-DeleteIncomplete
+returns-in-DeleteIncomplete g c =
+    let deletes = rw c.deref-in-DeleteIncomplete.ensures.value at c.incomplete_in.ensures.deletes in
+    rw c.in-DeleteIncomplete.is (deletes, c.incomplete_in.ensures.io)
+
+pub returns-in-Upgrade : goal.returns-in-Upgrade
+returns-in-Upgrade g c = rw c.in-Upgrade.is (c.upgrade_in.ensures.upgrades, c.upgrade_in.ensures.io)
