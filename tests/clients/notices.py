@@ -79,6 +79,9 @@ WANTED = [
     ("other indexes taken as the standard's", "operators.py", "the status of other files"),
     ("uploads deleted that were kept", "operators.py", "where all are kept"),
     ("a spool's indexes not told", "operators.py", "what `list` says of it"),
+    ("an unknown number to keep passed over", "operators.py", "the refusal of"),
+    ("hidden characters shown", "operators.py", "hidden characters in JSON"),
+    ("an export that ends at an unread file", "exports.py", "the lines where|the files beside"),
 ]
 
 

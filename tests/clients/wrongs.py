@@ -233,6 +233,34 @@ def deletes_what_is_kept(program):
     program.go()
 
 
+def passes_over_unknown(program):
+    """A number to be kept that has no upload is passed over."""
+    ran = program.ran()
+    if "--but" in program.words and b"NoSuch" in ran.stderr:
+        at = program.words.index("--but")
+        program.words = program.words[:at]
+        program.go()
+    end(ran.returncode, ran.stdout, ran.stderr)
+
+
+def shows_hidden(program):
+    """In JSON controls and marks of direction stand as they are."""
+    ran = program.ran()
+    shown = re.sub(rb"\\u([0-9a-f]{4})", lambda it: chr(int(it[1], 16)).encode(), ran.stdout)
+    end(ran.returncode, shown if "--json" in program.words else ran.stdout, ran.stderr)
+
+
+def ends_at_unread(program):
+    """An export ends at a file that can't be read: nothing behind it is written."""
+    ran = program.ran()
+    lines = ran.stdout.splitlines(keepends=True)
+    at = next((number for number, line in enumerate(lines) if line.startswith(b"unread ")), len(lines))
+    for line in lines[at + 1:]:
+        if line.startswith(b"exported ") and b" of " not in line:
+            os.remove(os.path.join(program.words[2].encode(), line.split(b" ", 2)[2].rstrip(b"\n")))
+    end(ran.returncode, b"".join(lines[: at + 1]), ran.stderr)
+
+
 def tells_no_indexes(program):
     """What a spool has of indexes isn't told."""
     ran = program.ran()
@@ -463,6 +491,9 @@ DEEDS = {
     "any file overwritten": (overwrites_files, "format"),
     "other indexes taken as the standard's": (takes_other_indexes, "format"),
     "uploads deleted that were kept": (deletes_what_is_kept, "delete"),
+    "an unknown number to keep passed over": (passes_over_unknown, "delete"),
+    "hidden characters shown": (shows_hidden, "list"),
+    "an export that ends at an unread file": (ends_at_unread, "export"),
     "a spool's indexes not told": (tells_no_indexes, "list"),
     "no library reaches it": (is_out_of_reach, "format serve script list upgrade"),
     "a server that ends by itself": (ends_by_itself, "serve"),
