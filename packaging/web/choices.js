@@ -83,7 +83,7 @@ export class Choices {
         if (choice.names.includes("UTF-8") && /^[\t\n\r\x20-\x7e]*$/.test(choice.text)) {
             return `${texts.plain} ${lost}`;
         }
-        return others.length === 0 ? lost : `${texts.also(others)}; ${lost}`;
+        return [others.length === 0 ? "" : texts.also(others), lost].filter((it) => it !== "").join("; ");
     }
 
     noteOf() {

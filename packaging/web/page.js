@@ -2,16 +2,22 @@
 
 import { Card } from "./card.js";
 import { fill } from "./dom.js";
-import { hasChanged, isFileOf, remembered } from "./store.js";
+import { Queue } from "./queue.js";
+import { Store, hasChanged, isFileOf } from "./store.js";
 import { texts } from "./texts.js";
 
+// How many files are sent at once: more would share a slow line until no piece comes through.
+const AT_ONCE = 2;
 const cards = [];
 const files = document.getElementById("files");
 const list = document.getElementById("cards");
 const says = document.getElementById("says");
+const endpoint = new URL(document.querySelector("meta[name=endpoint]").content, location.href).href;
 
 const page = {
-    endpoint: new URL(document.querySelector("meta[name=endpoint]").content, location.href).href,
+    endpoint,
+    store: new Store(endpoint),
+    queue: new Queue(AT_ONCE),
 
     /** Says something to a screen reader. */
     says(what) {
@@ -23,11 +29,20 @@ const page = {
         files.click();
     },
 
+    /** A card has another state. */
+    turned() {},
+
+    /** All of a card's file is on the server. */
+    sent() {},
+
     leaves(card) {
-        cards.splice(cards.indexOf(card), 1);
-        card.element.remove();
-        showTitle();
-        files.focus();
+        const place = cards.indexOf(card);
+        if (place >= 0) {
+            cards.splice(place, 1);
+            card.element.remove();
+            showTitle();
+            files.focus();
+        }
     },
 
     cannotRemember() {
@@ -49,7 +64,10 @@ function showTitle() {
 function take(file) {
     const known = cards.find((it) => it.has(file));
     if (known) {
-        return known.file ? known : (known.take(file), known);
+        if (!known.file) {
+            known.take(file);
+        }
+        return known;
     }
     const card = new Card(page, file, null);
     const notice = noticeOf(file);
@@ -60,10 +78,9 @@ function take(file) {
 
 /** What is to be known of a file that was sent before, or changed since a part of it was. */
 function noticeOf(file) {
-    const uploads = cards.map((it) => it.upload).filter((it) => it);
-    const done = uploads.find((it) => it.done && isFileOf(it, file));
-    const old = uploads.find((it) => !it.done && hasChanged(it, file));
-    return done ? texts.already(done.begun) : old ? texts.changed(old.begun) : "";
+    const done = cards.find((it) => it.end.isReached && isFileOf(it.upload, file));
+    const old = cards.find((it) => it.upload && !it.end.isReached && hasChanged(it.upload, file));
+    return done ? texts.already(done.upload.begun) : old ? texts.changed(old.upload.begun) : "";
 }
 
 function takeAll(chosen) {
@@ -91,11 +108,16 @@ document.addEventListener("drop", (event) => {
     document.body.classList.remove("over");
     takeAll(event.dataTransfer.files);
 });
+addEventListener("beforeunload", (event) => {
+    if (cards.some((it) => it.isSending)) {
+        event.preventDefault();
+    }
+});
 
 document.documentElement.lang = texts.language;
 document.title = texts.title;
 fill(document);
-for (const upload of remembered()) {
+for (const upload of page.store.uploads()) {
     const card = new Card(page, null, upload);
     add(card, false);
     card.ask();

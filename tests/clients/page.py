@@ -1,6 +1,6 @@
 """The page that uploads (packaging/web), by a headless chromium through nginx with the sample for browsers.
 
-usage: page.py [--program PATH] [--indexes DIR] [--seed N] [--pictures DIR]
+usage: page.py [--program PATH] [--indexes DIR] [--seed N] [--pictures DIR] [--cases NAME..]
 
 It needs chromium and nginx, and the ports 8081 and 8088. A text in each of the 21 encodings is sent under the label
 that is chosen by its lines, and the stored text compared byte for byte; so is every other one. In between: a piece that
@@ -41,21 +41,22 @@ window.statuses = [];
 window.left = Infinity;
 window.waiting = [];
 const asked = fetch;
-const turn = async signal => {
-    while (left <= 0) {
-        await new Promise((go, stop) => {
-            waiting.push(go);
-            signal?.addEventListener("abort", () => stop(signal.reason));
-        });
-    }
-    left -= 1;
-};
 window.fetch = async (url, words) => {
-    if (words?.method === "PATCH") await turn(words.signal);
     const reply = await asked(url, words);
     statuses.push(reply.status);
     return reply;
 };
+const {send, abort} = XMLHttpRequest.prototype;
+const goes = it => { left -= 1; send.call(it.request, it.body); };
+XMLHttpRequest.prototype.send = function (body) {
+    this.addEventListener("load", () => statuses.push(this.status));
+    left > 0 ? goes({request: this, body}) : waiting.push({request: this, body});
+};
+XMLHttpRequest.prototype.abort = function () {
+    const place = waiting.findIndex(it => it.request === this);
+    place < 0 ? abort.call(this) : waiting.splice(place, 1) && this.dispatchEvent(new Event("abort"));
+};
+window.lets = count => { left = count; waiting.splice(0, left).forEach(goes); };
 addEventListener("securitypolicyviolation", it => faults.push(it.violatedDirective + " " + it.blockedURI));
 addEventListener("error", it => faults.push(it.message));
 addEventListener("unhandledrejection", it => faults.push(String(it.reason)));
@@ -159,7 +160,7 @@ class Shown(browser.Browser):
 
     def pieces(self, count="Infinity"):
         """Lets this document send so many pieces more. Each other waits, until more are let out or it is given up."""
-        self.value(f"left = {count}, waiting.splice(0).forEach(it => it())")
+        self.value(f"lets({count})")
 
     def sent(self, name):
         """How far the progress bar is, of 1."""
@@ -173,8 +174,13 @@ class Shown(browser.Browser):
         self.says(name, "verdict", "^Uploaded")
         return self.value(f"part({json.dumps(name)}, 'link').pathname")
 
-    def leave(self, name):
-        self.value(f"part({json.dumps(name)}, 'leave-end').click()")
+    def remove(self, name):
+        self.value(f"part({json.dumps(name)}, 'remove').click()")
+
+    def delete(self, name, what):
+        """Deletes by a button, which asks whether it is meant."""
+        self.press(name, what)
+        self.press(name, "delete")
 
     def picture(self, state):
         """Looks at a state in a wide and a narrow window: nothing is wider than the window."""
@@ -213,7 +219,7 @@ class Place:
         holds(f"the stored text of {name}", self.client.text(path) == text)
         self.texts += 1
         self.client.delete(path)
-        self.shown.leave(name)
+        self.shown.remove(name)
         self.faultless()
 
     def faultless(self):
@@ -227,7 +233,8 @@ class Place:
 
     def upload(self, name):
         """The path of the upload that is remembered for a file."""
-        script = "Object.values(localStorage).map(JSON.parse).find(it => it.file === %s && !it.done).url"
+        begun = "Object.values(localStorage).map(JSON.parse).filter(it => it.last !== 'acknowledged')"
+        script = begun + ".find(it => it.file === %s).url"
         return "/files/" + self.shown.value(script % json.dumps(name)).rpartition("/")[2]
 
     def uploads(self):
@@ -294,12 +301,12 @@ def seen_beforehand(place):
     holds("what is lost is marked", shown.value("document.querySelectorAll('mark.lost').length") > 0)
     shown.press("letter.txt", "send")
     time.sleep(0.5)
-    same("uploads without a choice", (place.uploads(), shown.shows("letter.txt", "state")), (0, ""))
+    same("uploads without a choice", (place.uploads(), shown.shows("letter.txt", "state-text")), (0, ""))
     shown.pick("letter.txt", "windows-1251")
     shown.press("letter.txt", "send")
     path = shown.finished("letter.txt")
     same("the wrong text", place.client.text(path), data.decode("cp1251").encode())
-    shown.press("letter.txt", "wrong")
+    shown.delete("letter.txt", "wrong")
     shown.pick("letter.txt", "koi8-r")
     holds("the wrong one is gone", place.client.is_gone(path))
     shown.press("letter.txt", "send")
@@ -320,7 +327,7 @@ def lossy(place):
     shown.says("lossy.txt", "lacks", "lacks 3 characters")
     shown.picture("settings")
     shown.press("lossy.txt", "send")
-    shown.says("lossy.txt", "counts", "2 of them U\\+FFFD.*3 references")
+    shown.says("lossy.txt", "counts", "2 of them are U\\+FFFD.*3 references")
     shown.picture("lost")
     place.stored("lossy.txt", encoded("iso-8859-15", text + "\ufffd\ufffd\n"))
     shown.choose(place.folder / "lossy.txt")
@@ -331,7 +338,7 @@ def lossy(place):
     shown.says("lossy.txt", "alert", "encoding of the stored text lacks")
     shown.picture("refused")
     path = place.upload("lossy.txt")
-    shown.press("lossy.txt", "anew")
+    shown.press("lossy.txt", "give-up")
     shown.pick("lossy.txt", "utf-8")
     holds("it is deleted", place.client.is_gone(path))
     shown.press("lossy.txt", "leave")
@@ -345,7 +352,7 @@ def killed(place):
     shown.until_sent("killed.txt", 0.25)
     place.gateway.kill()
     shown.pieces()
-    shown.says("killed.txt", "state", "Trying again in")
+    shown.says("killed.txt", "state-text", "Trying again in")
     shown.picture("waiting")
     place.gateway.start()
     place.client.close()
@@ -360,7 +367,7 @@ def line_lost(place):
     shown.until_sent("line.txt", 0.25)
     shown.line(False)
     shown.pieces()
-    shown.says("line.txt", "state", "Trying again in")
+    shown.says("line.txt", "state-text", "Trying again in")
     shown.line(True)
     place.stored("line.txt", sample.text)
 
@@ -373,7 +380,7 @@ def reloaded(place):
     shown.until_sent("reloaded.txt", 0.25)
     shown.picture("sending")
     shown.load()
-    shown.says("reloaded.txt", "state", "Not finished: 1")
+    shown.says("reloaded.txt", "state-text", "Not finished: 1")
     shown.picture("remembered")
     shown.choose(place.folder / "reloaded.txt")
     holds("its lines are shown", len(shown.says("reloaded.txt", "looked", "\n")) > 100)
@@ -382,7 +389,7 @@ def reloaded(place):
     shown.press("reloaded.txt", "go-on")
     shown.until_sent("reloaded.txt", 0.5)
     shown.press("reloaded.txt", "pause")
-    shown.says("reloaded.txt", "state", "^Paused")
+    shown.says("reloaded.txt", "state-text", "^Paused")
     shown.picture("paused")
     stored = place.client.offset(place.upload("reloaded.txt"))
     same("bytes that are stored", stored, 2 * PIECE)
@@ -390,14 +397,14 @@ def reloaded(place):
     states = shown.states
     place.shown = shown = Shown(place.folder, shown.pictures)
     shown.states = states
-    shown.says("reloaded.txt", "state", "Not finished")
+    shown.says("reloaded.txt", "state-text", "Not finished")
     shown.choose(place.folder / "reloaded.txt")
     shown.press("reloaded.txt", "go-on")
     shown.value("part('reloaded.txt', 'go-on').click()")
     shown.finished("reloaded.txt")
     same("refusals, where “Go on” was pressed twice", [it for it in shown.value("statuses") if it > 299], [])
     shown.load()
-    shown.says("reloaded.txt", "counts", "characters, and no U")
+    shown.says("reloaded.txt", "counts", "characters, none of them U")
     place.stored("reloaded.txt", sample.text)
 
 
@@ -439,7 +446,7 @@ def overtaken(place):
     place.begin("gone.txt", sample.data, "shift_jis")
     shown.until_sent("gone.txt", 0.25)
     shown.press("gone.txt", "pause")
-    shown.says("gone.txt", "state", "^Paused")
+    shown.says("gone.txt", "state-text", "^Paused")
     place.client.delete(place.upload("gone.txt"))
     shown.press("gone.txt", "go-on")
     shown.says("gone.txt", "alert", "The upload is gone")
@@ -451,18 +458,26 @@ def overtaken(place):
 
 
 def taken_out(place):
-    """The last byte was sent, its reply is lost, and the text was taken out: it is done, and nothing is sent again."""
+    """404 behind the last byte: nobody can tell here whether it arrived, acknowledged or not. It is sent once more."""
     shown = place.shown
-    place.begin("taken.txt", RUSSIAN.encode("cp1251"), "windows-1251")
-    path = shown.finished("taken.txt")
-    lost = "Object.keys(localStorage).forEach(key => { const it = JSON.parse(localStorage[key]); delete it.done;"
-    shown.value(lost + "it.last = true; localStorage[key] = JSON.stringify(it); })")
-    place.client.delete(path)
-    shown.load()
-    shown.says("taken.txt", "verdict", "gone from the server")
-    shown.picture("taken")
-    shown.leave("taken.txt")
-    same("what is remembered", place.uploads(), 0)
+    for last, told in (("acknowledged", "had all of it, and it is gone"), ("sent", "last byte was sent.* gone from")):
+        place.begin("taken.txt", RUSSIAN.encode("cp1251"), "windows-1251")
+        path = shown.finished("taken.txt")
+        shown.value("Object.keys(localStorage).forEach(key => { const it = JSON.parse(localStorage[key]);"
+                    f"it.last = '{last}'; localStorage[key] = JSON.stringify(it); }})")
+        place.client.delete(path)
+        shown.load()
+        shown.says("taken.txt", "alert", f"{told}.*Nobody can tell here whether it arrived")
+        shown.picture(f"perhaps-{last}")
+        same("what else it says", shown.shows("taken.txt", "verdict"), "")
+        if last == "sent":
+            shown.choose(place.folder / "taken.txt")
+            shown.pick("taken.txt", "windows-1251")
+            shown.press("taken.txt", "send")
+            place.stored("taken.txt", RUSSIAN.encode())
+        else:
+            shown.remove("taken.txt")
+        same("what is remembered", place.uploads(), 0)
 
 
 def renumbered(place):
@@ -472,7 +487,7 @@ def renumbered(place):
     place.begin("number.txt", sample.data, "shift_jis")
     shown.until_sent("number.txt", 0.25)
     shown.press("number.txt", "pause")
-    shown.says("number.txt", "state", "^Paused")
+    shown.says("number.txt", "state-text", "^Paused")
     old, other = place.upload("number.txt"), place.client.create(sample)
     words = f"(([key, value]) => (localStorage[key.replace('{old}', '{other}')] = value.replace('{old}', '{other}'),"
     shown.value(words + " localStorage.removeItem(key)))(Object.entries(localStorage)[0])")
@@ -519,7 +534,7 @@ def changed(place):
     place.begin("changed.txt", sample.data, "shift_jis")
     shown.until_sent("changed.txt", 0.25)
     shown.load()
-    shown.says("changed.txt", "state", "Not finished")
+    shown.says("changed.txt", "state-text", "Not finished")
     path = place.upload("changed.txt")
     shown.press("changed.txt", "again")
     shown.choose(place.file("changed.txt", b"other " + sample.data))
@@ -529,7 +544,7 @@ def changed(place):
     shown.pick("changed.txt", "shift_jis")
     shown.press("changed.txt", "send")
     place.stored("changed.txt", b"other " + sample.text)
-    shown.press("changed.txt", "anew")
+    shown.delete("changed.txt", "give-up")
     shown.until("no card", "document.querySelectorAll('article').length === 0")
     holds("the old one is deleted", place.client.is_gone(path))
     shown.pieces(1)
@@ -539,7 +554,7 @@ def changed(place):
     place.file("moved.txt", b"other")
     shown.pieces()
     shown.says("moved.txt", "alert", "has changed or can’t be read")
-    shown.press("moved.txt", "anew")
+    shown.delete("moved.txt", "give-up")
     shown.until("no card", "document.querySelectorAll('article').length === 0")
     holds("what was stored is deleted", place.client.is_gone(path))
 
@@ -587,9 +602,9 @@ def forbidden(place, nginx):
     same("the link", shown.shows("forbidden.txt", "link"), "")
     path = "/files/" + shown.value("Object.values(localStorage).map(JSON.parse)[0].url").rpartition("/")[2]
     same("the text", place.client.text(path), RUSSIAN.encode())
-    shown.press("forbidden.txt", "wrong")
+    shown.delete("forbidden.txt", "wrong")
     shown.says("forbidden.txt", "alert", "couldn’t be deleted")
-    shown.press("forbidden.txt", "leave")
+    shown.press("forbidden.txt", "remove")
     place.texts += 1
 
 
@@ -597,11 +612,11 @@ CASES = [each_encoding, few_choices, beyond_the_sample, seen_beforehand, lossy, 
 CASES += [at_once, overtaken, taken_out, renumbered, full, changed, by_keyboard, refusals]
 
 
-def run(place, nginx):
+def run(place, nginx, names):
     place.shown.picture("empty")
     headers = place.shown.value("fetch(location.href).then(it => it.headers.get('content-security-policy'))")
     holds(f"the policy: {headers}", "default-src 'self'" in headers)
-    for case in CASES:
+    for case in (it for it in CASES if not names or it.__name__ in names):
         began = time.monotonic()
         case(place)
         place.faultless()
@@ -612,6 +627,7 @@ def run(place, nginx):
 def main():
     words = parser_of(__doc__)
     words.add_argument("--pictures", type=Path, help="a folder for pictures of the states")
+    words.add_argument("--cases", nargs="+", help="the cases to try, by the names of their functions; else all")
     words = words.parse_args()
     if not browser.program() or not has("nginx"):
         print("page.py: chromium or nginx isn't there, nothing was tried")
@@ -627,7 +643,7 @@ def main():
         gateway = Instance(words.program, folder / "spool", PORTS["a"])
         try:
             place = Place(Shown(folder, words.pictures), gateway, folder, rng)
-            run(place, nginx)
+            run(place, nginx, words.cases)
         finally:
             if place:
                 place.shown.close()
