@@ -26,8 +26,8 @@ from proxies import FRONT, NGINX, PORTS, Instance, Nginx, has
 
 URL = f"http://127.0.0.1:{FRONT}/page/"
 INSTALLED = "/usr/share/wovelatsa/web/"
-# Where the sample is changed to forbid reading.
-SIZE, FORBIDS = "        client_max_body_size    8m;", "        limit_except POST PATCH HEAD OPTIONS { deny all; }\n"
+# The two lines of the sample that let users read and delete each other's texts.
+READS, DELETES = "    # GET    0;\n", "    # DELETE 0;\n"
 PIECE, BLOCKS, SLOTS = 1_000_000, 2048, 512
 WIDE, NARROW = (860, 900), (360, 740)
 # How long things may take, in seconds.
@@ -591,9 +591,25 @@ def refusals(place):
     same("texts that aren't there", names, [])
 
 
+def texts_that_do_nothing(place):
+    """A text that is a script isn't run by the page, and as a page of its own it may do nothing."""
+    shown, data = place.shown, b"window.ran = true;\n"
+    place.begin("script.txt", data, "utf-8")
+    path = shown.finished("script.txt")
+    runs = "new Promise(done => { const it = document.createElement('script'); it.src = '%s';"
+    runs += " it.onload = it.onerror = () => done(Boolean(window.ran)); document.head.append(it); })"
+    same("whether it runs", shown.value(runs % path), False)
+    same("what forbids it", shown.value("faults.splice(0).map(it => it.split(' ')[0])"), ["script-src-elem"])
+    names = ["x-content-type-options", "content-security-policy"]
+    asked = f"fetch('{path}').then(it => {json.dumps(names)}.map(name => it.headers.get(name)))"
+    same("the headers of a text", shown.value(asked), ["nosniff", "sandbox"])
+    place.stored("script.txt", data)
+
+
 def forbidden(place, nginx):
-    """Behind a proxy that forbids reading it says so, and shows what was chosen."""
-    nginx.change("lines.conf", SIZE, FORBIDS + SIZE)
+    """Behind the sample as it stands, which forbids reading and deleting, it says so, and shows what was chosen."""
+    for line in (READS, DELETES):
+        nginx.change("lines.conf", line.replace("# ", ""), line)
     shown = place.shown
     place.begin("forbidden.txt", RUSSIAN.encode("koi8-r"), "koi8-r")
     shown.says("forbidden.txt", "counts", "forbidden")
@@ -609,7 +625,7 @@ def forbidden(place, nginx):
 
 
 CASES = [each_encoding, few_choices, beyond_the_sample, seen_beforehand, lossy, killed, line_lost, reloaded]
-CASES += [at_once, overtaken, taken_out, renumbered, full, changed, by_keyboard, refusals]
+CASES += [at_once, overtaken, taken_out, renumbered, full, changed, by_keyboard, refusals, texts_that_do_nothing]
 
 
 def run(place, nginx, names):
@@ -638,6 +654,9 @@ def main():
         format_spool(words.program, folder / "spool", BLOCKS, indexes_in(folder, words.indexes))
         lines = (NGINX / "wovelatsa-browsers.conf").read_text()
         same("where the page is installed", lines.count(INSTALLED), 1)
+        for line in (READS, DELETES):
+            same(f"how often the sample has {line!r}", lines.count(line), 1)
+            lines = lines.replace(line, line.replace("# ", ""))
         nginx = Nginx(folder / "nginx", lines.replace(INSTALLED, f"{ROOT}/packaging/web/"))
         place = None
         gateway = Instance(words.program, folder / "spool", PORTS["a"])
