@@ -44,7 +44,7 @@ export class Course {
         const { signal } = this.running;
         const from = card.upload?.from ?? card.made.from;
         put(card.parts["course-label"], texts.begun(from, card.upload?.to ?? card.made.to));
-        card.moves(this.share(0));
+        card.view.moves(this.share(0));
         let outcome = null;
         try {
             const waits = (before) => card.turn("queued", { text: texts.queued(before) });
@@ -69,7 +69,7 @@ export class Course {
         return alone(card.upload.url, () => send(card.upload, card.file, signal, {
             stored: (offset, sent) => this.stored(offset, sent),
             changed: () => card.keep(),
-            moves: (bytes) => card.moves(this.share(bytes)),
+            moves: (bytes) => card.view.moves(this.share(bytes)),
             waits: (time, error, failures) => this.waits(time, error, failures, signal),
         }));
     }
@@ -107,7 +107,7 @@ export class Course {
         upload.offset = offset;
         this.card.keep();
         this.card.turn("sending", { text: texts.sending(offset, upload.size) });
-        this.card.moves(this.share(0));
+        this.card.view.moves(this.share(0));
         this.saysQuarter();
     }
 
@@ -150,7 +150,7 @@ export class Course {
         const { card } = this;
         const { upload } = card;
         const text = upload ? texts.stopped(upload.offset, upload.size) : "";
-        card.moves(this.share(0));
+        card.view.moves(this.share(0));
         if (paused) {
             const told = upload ? texts.paused(upload.offset, upload.size) : texts.pausedEarly;
             card.turn("paused", { text: told });

@@ -38,7 +38,7 @@ export class End {
         this.lines = card.made?.lines ?? this.lines;
         card.page.sent(card);
         if (card.upload.size > LARGE) {
-            card.moves(1);
+            card.view.moves(1);
             card.turn("offered", { text: texts.offered(card.upload.size) });
             return card.says(texts.complete);
         }
@@ -51,7 +51,7 @@ export class End {
         const { upload } = card;
         this.reading = new AbortController();
         const { signal } = this.reading;
-        card.moves(null);
+        card.view.moves(null);
         card.turn("checking", { text: texts.reads(0, 0) });
         try {
             const { reply, parts } = await textOf(upload.url, signal);
@@ -71,7 +71,7 @@ export class End {
     }
 
     moves(bytes, size) {
-        this.card.moves(size > 0 ? Math.min(1, bytes / size) : null);
+        this.card.view.moves(size > 0 ? Math.min(1, bytes / size) : null);
         put(this.card.parts["state-text"], texts.reads(bytes, size));
     }
 
@@ -94,7 +94,7 @@ export class End {
         put(parts["end-note"], upload.counts ? texts.noCount : "");
         put(parts["stored-title"], lines ? (this.stored ? texts.stored : texts.previewed) : "");
         parts.stored.hidden = !lines;
-        showLines(parts.stored, lines ?? []);
+        showLines(parts.stored, lines ?? [], upload.from);
         put(parts.link, isForbidden(upload.unread) ? "" : texts.link(card.name));
         parts.link.href = upload.url;
         card.turn("done");

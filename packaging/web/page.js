@@ -1,16 +1,20 @@
 // The page: files that are chosen or dropped, and the uploads that were begun here before. Each has a card.
 
 import { Card } from "./card.js";
-import { fill } from "./dom.js";
+import { fill, partsOf } from "./dom.js";
+import { List } from "./list.js";
+import { onFailure } from "./looks.js";
 import { Queue } from "./queue.js";
 import { Store, hasChanged, isFileOf } from "./store.js";
 import { texts } from "./texts.js";
 
 // How many files are sent at once: more would share a slow line until no piece comes through.
 const AT_ONCE = 2;
+// Of more files than so many that are chosen together few lines are shown at first.
+const UNFOLDED = 4;
 const cards = [];
 const files = document.getElementById("files");
-const list = document.getElementById("cards");
+const parts = partsOf(document.getElementById("list"));
 const says = document.getElementById("says");
 const endpoint = new URL(document.querySelector("meta[name=endpoint]").content, location.href).href;
 
@@ -30,7 +34,9 @@ const page = {
     },
 
     /** A card has another state. */
-    turned() {},
+    turned() {
+        list.changed();
+    },
 
     /** All of a card's file is on the server. */
     sent() {},
@@ -39,9 +45,12 @@ const page = {
         const place = cards.indexOf(card);
         if (place >= 0) {
             cards.splice(place, 1);
-            card.element.remove();
-            showTitle();
-            files.focus();
+            const had = card.view.element.contains(document.activeElement);
+            card.view.element.remove();
+            list.changed();
+            if (had) {
+                files.focus();
+            }
         }
     },
 
@@ -50,18 +59,15 @@ const page = {
     },
 };
 
+const list = new List(parts, cards, page.store);
+
 function add(card, isFirst) {
     cards.push(card);
-    list[isFirst ? "prepend" : "append"](card.element);
-    showTitle();
-}
-
-function showTitle() {
-    document.getElementById("list-title").hidden = cards.length === 0;
+    parts.cards[isFirst ? "prepend" : "append"](card.view.element);
 }
 
 /** Takes a file: to the card that has it or waits for it, or to one of its own. */
-function take(file) {
+function take(file, isFolded) {
     const known = cards.find((it) => it.has(file));
     if (known) {
         if (!known.file) {
@@ -72,6 +78,7 @@ function take(file) {
     const card = new Card(page, file, null);
     const notice = noticeOf(file);
     add(card, true);
+    card.view.isFolded = isFolded;
     card.look(notice);
     return card;
 }
@@ -85,8 +92,8 @@ function noticeOf(file) {
 
 function takeAll(chosen) {
     // Each new card goes to the top, and so the last file first.
-    const taken = Array.from(chosen).reverse().map(take);
-    taken.at(-1)?.focus();
+    const taken = Array.from(chosen).reverse().map((file) => take(file, chosen.length > UNFOLDED));
+    taken.at(-1)?.view.focus();
 }
 
 files.addEventListener("change", () => {
@@ -114,7 +121,11 @@ addEventListener("beforeunload", (event) => {
     }
 });
 
+onFailure(() => {
+    document.getElementById("not-begun").hidden = false;
+});
 document.documentElement.lang = texts.language;
+document.documentElement.dir = texts.direction;
 document.title = texts.title;
 fill(document);
 for (const upload of page.store.uploads()) {
@@ -122,3 +133,4 @@ for (const upload of page.store.uploads()) {
     add(card, false);
     card.ask();
 }
+document.getElementById("not-begun").hidden = true;

@@ -10,7 +10,7 @@ const quits = ({ upload }) => (upload ? "give-up" : "anew");
 export const STATES = {
     // Its file is looked at, its label is chosen, or it can't be sent at all.
     reading: { part: "course", buttons: () => ["remove"], moves: true },
-    choosing: { part: "form", buttons: () => [] },
+    choosing: { part: "form", buttons: () => ["fold", "remove"] },
     unsendable: { part: "course", buttons: () => ["remove"] },
     // It is sent, or goes on by itself.
     queued: { part: "course", buttons: () => ["pause"], moves: true, sends: true },
@@ -36,5 +36,5 @@ export const STATES = {
     // It is sent: whether to read it back, reading, the end.
     offered: { part: "course", buttons: () => ["read-back", "skip"], moves: true },
     checking: { part: "course", buttons: () => ["skip"], moves: true },
-    done: { part: "end", buttons: ({ end }) => [...(end.canRead ? ["read-back"] : []), "wrong", "remove"] },
+    done: { part: "end", buttons: ({ end }) => ["fold", ...(end.canRead ? ["read-back"] : []), "wrong", "remove"] },
 };

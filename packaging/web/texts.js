@@ -47,16 +47,26 @@ export const texts = {
     drop: "or drop them anywhere on this page",
     files: "Files",
     notRemembered: "This browser lets the page remember nothing: after a reload an upload begins anew.",
-    tooOld: "This browser is too old for this page. It needs one of 2023 or newer.",
     remembers: "This browser remembers the names and links of these uploads, also for whoever uses it next. What is " +
         "stored on the server isn’t touched when they are forgotten.",
-    forgetAll: "Forget all that isn’t being sent",
+    forgetAll: (many) => `Forget ${count(many, "upload", "uploads")}`,
+    forget: "Forget them",
+    keepThem: "Keep them",
+
+    // Many files.
+    kinds: "One choice for many files, which you see in each of them before it is sent:",
+    forThese: (name, many) => `${name} for these ${number(many)}`,
+    sendAll: (many) => `Upload all ${number(many)} that are chosen`,
+    removeDone: (many) => `Remove the ${number(many)} that are finished`,
+    likeliest: (name) => `Likeliest: ${name}`,
+    chosen: (name) => `Chosen: ${name}`,
+    fold: "Show less",
+    unfold: "Show all",
 
     // A file, and what it may be.
     about: (size, time) => `${bytes(size)}, changed ${dates.format(time)}`,
     reading: "Reading the file …",
     unreadable: "The file can’t be read. A folder can’t be sent; choose the files in it.",
-    choicesFor: (name) => `Ways to read ${name}`,
     which: "Which one reads right?",
     empty: "(The file is empty.)",
     also: (names) => `the same text as ${names.join(", ")}`,
@@ -68,7 +78,8 @@ export const texts = {
     leftOut: "lines left out",
     fewer: "Fewer ways to read it",
     more: (many) => `Show ${count(many, "other way", "other ways")} to read it`,
-    sampleOnly: "The file is long: one MiB of it was looked at, the first that isn’t plain ASCII.",
+    sampleOnly: "The file is long: 128 KiB of it were looked at for these lines, the first that aren’t plain ASCII. " +
+        "What is told of a choice is counted in one MiB.",
     noCount: "Between encodings of one byte a wrong choice makes other letters and loses nothing that can be " +
         "counted. Only reading shows it.",
     binary: (many) => `It has ${count(many, "control character", "control characters")} (\\x00 and such), so perhaps ` +

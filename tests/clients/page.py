@@ -341,7 +341,7 @@ def lossy(place):
     shown.press("lossy.txt", "give-up")
     shown.pick("lossy.txt", "utf-8")
     holds("it is deleted", place.client.is_gone(path))
-    shown.press("lossy.txt", "leave")
+    shown.press("lossy.txt", "remove")
 
 
 def killed(place):
@@ -423,7 +423,7 @@ def at_once(place):
     shown.value("part('two.txt', 'pause').focus()")
     shown.pieces()
     shown.finished("one.txt")
-    focused = "document.activeElement.closest('article').ariaLabel"
+    focused = "document.activeElement.closest('article').querySelector('h3').textContent"
     same("which card has the focus while the other one ends", shown.value(focused), "two.txt")
     for name, it in samples.items():
         place.stored(name, it.text)
