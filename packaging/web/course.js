@@ -3,12 +3,11 @@
 import { put } from "./dom.js";
 import { isSame, printOf } from "./prints.js";
 import { Elsewhere, Other, isEnding, isGone, whyOf } from "./reasons.js";
+import { patience } from "./requests.js";
 import { texts } from "./texts.js";
 import { Refusal, Unreadable, create, metadataOf, send } from "./tus.js";
 
 const QUARTERS = 4;
-// When it is tried again if there is no room, in milliseconds.
-const ROOM = 60_000;
 // After so many failures it is said that the page's set-up may be wrong.
 const MANY = 3;
 
@@ -157,7 +156,7 @@ export class Course {
             return card.says(told);
         }
         if (error.status === 507) {
-            this.timer = setTimeout(() => this.goOn(), ROOM);
+            this.timer = setTimeout(() => this.goOn(), patience.room);
             return card.turn("full", { text: `${text} ${texts.full}`, alert: whyOf(error) });
         }
         if (upload && isGone(error)) {

@@ -25,10 +25,9 @@ export class End {
         return ["offered", "checking", "done"].includes(this.card.state);
     }
 
-    /** Whether it is worth asking for the text once more. */
-    get canRead() {
-        const { upload } = this.card;
-        return !this.stored && !isForbidden(upload.unread);
+    /** The button that asks for the text once more, where that is worth it. */
+    get reads() {
+        return this.stored || isForbidden(this.card.upload.unread) ? [] : ["read-back"];
     }
 
     /** The last byte was acknowledged. */

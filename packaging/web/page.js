@@ -38,8 +38,10 @@ const page = {
         list.changed();
     },
 
-    /** All of a card's file is on the server. */
-    sent() {},
+    /** All of a card's file is on the server: scripts beside the page's may listen to that. */
+    sent({ upload: { url, file, size, from, to } }) {
+        document.dispatchEvent(new CustomEvent("wovelatsa:done", { detail: { url, file, size, from, to } }));
+    },
 
     leaves(card) {
         const place = cards.indexOf(card);
@@ -79,6 +81,7 @@ function take(file, isFolded) {
     const notice = noticeOf(file);
     add(card, true);
     card.view.isFolded = isFolded;
+    card.view.mayFold = isFolded;
     card.look(notice);
     return card;
 }
@@ -128,9 +131,12 @@ document.documentElement.lang = texts.language;
 document.documentElement.dir = texts.direction;
 document.title = texts.title;
 fill(document);
-for (const upload of page.store.uploads()) {
+const uploads = page.store.uploads();
+for (const upload of uploads) {
     const card = new Card(page, null, upload);
     add(card, false);
+    card.view.mayFold = uploads.length > UNFOLDED;
+    card.view.isFolded = card.view.mayFold;
     card.ask();
 }
 document.getElementById("not-begun").hidden = true;

@@ -1,7 +1,10 @@
 // The requests of the protocol, by `fetch`, and by `XMLHttpRequest` where it is to be seen how far a body is. No DOM.
 
-/** For how many milliseconds a request may stand still: no byte of a body has moved, and no reply came. */
-export const patience = { silence: 60_000 };
+/**
+ * For how many milliseconds a request may stand still, with no byte of a body moving and no reply; and when the page
+ * asks again where there was no room.
+ */
+export const patience = { silence: 60_000, room: 60_000 };
 
 // The statuses that a proxy gives if the gateway is away or the proxy has too much to do: they pass.
 const PASSING = [408, 425, 429, 502, 503, 504];

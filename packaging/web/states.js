@@ -3,6 +3,9 @@
 /** What deletes what is stored, or where nothing is, just begins anew. */
 const quits = ({ upload }) => (upload ? "give-up" : "anew");
 
+/** What shows less of a card, or all: where there are many. */
+const folds = ({ mayFold }) => (mayFold ? ["fold"] : []);
+
 /**
  * Each state: the `part` of the card that is shown, its `buttons`, whether the bar is shown (`moves`), and whether the
  * browser asks before the page is left (`sends`).
@@ -10,7 +13,7 @@ const quits = ({ upload }) => (upload ? "give-up" : "anew");
 export const STATES = {
     // Its file is looked at, its label is chosen, or it can't be sent at all.
     reading: { part: "course", buttons: () => ["remove"], moves: true },
-    choosing: { part: "form", buttons: () => ["fold", "remove"] },
+    choosing: { part: "form", buttons: ({ view }) => [...folds(view), "remove"] },
     unsendable: { part: "course", buttons: () => ["remove"] },
     // It is sent, or goes on by itself.
     queued: { part: "course", buttons: () => ["pause"], moves: true, sends: true },
@@ -36,5 +39,5 @@ export const STATES = {
     // It is sent: whether to read it back, reading, the end.
     offered: { part: "course", buttons: () => ["read-back", "skip"], moves: true },
     checking: { part: "course", buttons: () => ["skip"], moves: true },
-    done: { part: "end", buttons: ({ end }) => ["fold", ...(end.canRead ? ["read-back"] : []), "wrong", "remove"] },
+    done: { part: "end", buttons: ({ view, end }) => [...folds(view), ...end.reads, "wrong", "remove"] },
 };

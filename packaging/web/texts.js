@@ -43,6 +43,7 @@ export const texts = {
     intro: "Send text files in old or new encodings. For each file you see its lines as several encodings read them; " +
         "choose the one that reads right, and only then is it sent.",
     keep: "Keep the original file until you have read the stored text: the server stores only the new text.",
+    whose: "Whoever may use this page may see the names of your files, and perhaps read your texts. Ask who runs it.",
     choose: "Choose files",
     drop: "or drop them anywhere on this page",
     files: "Files",

@@ -11,6 +11,8 @@ export class View {
         this.card = card;
         this.state = null;
         this.isFolded = false;
+        // Whether it is one of many.
+        this.mayFold = false;
         const { element, parts } = made("card");
         this.element = element;
         this.parts = parts;

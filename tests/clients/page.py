@@ -7,249 +7,30 @@ that is chosen by its lines, and the stored text compared byte for byte; so is e
 ends within a character, the gateway killed and started again, a reload, a browser that was ended, two files at once,
 another client that is faster, an upload that is gone, a spool that is full, a character that the encoding lacks, a
 wrong label seen beforehand and seen at the end, a file that has changed, a proxy that forbids reading, the keyboard
-alone. Each state fits a window of 360 pixels and has no fault of the page's policy; `--pictures` keeps a picture of
-each, wide and narrow.
+alone. `edges.py` has what goes wrong elsewhere: a page to sign in, a password, a text that stops coming, a silent
+server, a browser's memory that is broken or full, two files of one name, no digests, two windows, twelve files over a
+slow line, six under kills, clean-ups beside clients, files that are too large. Each state fits a window of 360 pixels
+and has no fault of the page's policy; `--pictures` keeps a picture of each, wide and narrow. Without chromium or nginx
+nothing is tried. What of the page needs no document is tried by `node --test tests/clients/web/`.
 """
 
-import base64
 import json
-import os
 import re
 import tempfile
 import time
 from pathlib import Path
 
 import browser
-from harness import ENCODINGS, OCTETS, ROOT, Client, Sample, encoded, format_spool, holds, indexes_in, memory, parser_of
-from harness import random_sample, repertoire, rng_of, same
-from proxies import FRONT, NGINX, PORTS, Instance, Nginx, has
+from edges import EDGES
+from harness import ENCODINGS, ROOT, Sample, encoded, format_spool, holds, indexes_in, memory, parser_of, random_sample
+from harness import rng_of, same
+from proxies import NGINX, PORTS, Instance, Nginx, has
+from shown import PIECE, RUSSIAN, Place, Shown, japanese
 
-URL = f"http://127.0.0.1:{FRONT}/page/"
 INSTALLED = "/usr/share/wovelatsa/web/"
 # The two lines of the sample that let users read and delete each other's texts.
 READS, DELETES = "    # GET    0;\n", "    # DELETE 0;\n"
-PIECE, BLOCKS, SLOTS = 1_000_000, 2048, 512
-WIDE, NARROW = (860, 900), (360, 740)
-# How long things may take, in seconds.
-PATIENCE = 60
-RUSSIAN = "Съешь ещё этих мягких французских булок, да выпей чаю.\nШирокая электрификация южных губерний.\n"
-# What each document has before its own scripts: its faults, the statuses that it got, how many pieces it may still
-# send, its cards and their parts.
-HELPERS = """
-window.faults = [];
-window.statuses = [];
-window.left = Infinity;
-window.waiting = [];
-const asked = fetch;
-window.fetch = async (url, words) => {
-    const reply = await asked(url, words);
-    statuses.push(reply.status);
-    return reply;
-};
-const {send, abort} = XMLHttpRequest.prototype;
-const goes = it => { left -= 1; send.call(it.request, it.body); };
-XMLHttpRequest.prototype.send = function (body) {
-    this.addEventListener("load", () => statuses.push(this.status));
-    left > 0 ? goes({request: this, body}) : waiting.push({request: this, body});
-};
-XMLHttpRequest.prototype.abort = function () {
-    const place = waiting.findIndex(it => it.request === this);
-    place < 0 ? abort.call(this) : waiting.splice(place, 1) && this.dispatchEvent(new Event("abort"));
-};
-window.lets = count => { left = count; waiting.splice(0, left).forEach(goes); };
-addEventListener("securitypolicyviolation", it => faults.push(it.violatedDirective + " " + it.blockedURI));
-addEventListener("error", it => faults.push(it.message));
-addEventListener("unhandledrejection", it => faults.push(String(it.reason)));
-window.card = name => [...document.querySelectorAll("article")].find(it => it.querySelector("h3").textContent === name);
-window.part = (name, what) => card(name)?.querySelector(`[data-part="${what}"]`);
-window.seen = it => it && it.checkVisibility() ? it.innerText : "";
-window.namesOf = it => [it.querySelector("b").textContent,
-    ...it.querySelector(".note").textContent.replace("the same text as ", "").split(";")[0].split(", ")];
-window.choices = name => [...card(name).querySelectorAll(".choice")];
-window.choiceOf = (name, label) => choices(name).find(it => namesOf(it).some(one => one.toLowerCase() === label));
-"""
-
-
-class Shown(browser.Browser):
-    """The page in a browser of its own, whose profile is in a folder."""
-
-    def __init__(self, folder, pictures=None):
-        super().__init__(folder, URL)
-        self.pictures, self.states = pictures, 0
-        for domain in ("Page", "Network", "DOM"):
-            self.call(f"{domain}.enable")
-        self.call("Page.addScriptToEvaluateOnNewDocument", source=HELPERS)
-        self.call("Emulation.setScrollbarsHidden", hidden=True)
-        self.sized(*WIDE)
-        self.load()
-
-    def load(self):
-        """Loads the page anew."""
-        self.value("window.old = true")
-        self.call("Page.reload")
-        self.until("a new document", "window.old === undefined && document.readyState === 'complete' && window.card")
-
-    def end(self):
-        """Ends the browser in order, as a machine that is switched off does."""
-        self.session, command = {}, {"id": 0, "method": "Browser.close"}
-        os.write(self.commands, json.dumps(command).encode() + b"\0")
-        self.process.wait(PATIENCE)
-        os.close(self.commands)
-        os.close(self.answers)
-
-    def sized(self, width, height):
-        words = {"width": width, "height": height, "deviceScaleFactor": 1, "mobile": False}
-        self.call("Emulation.setDeviceMetricsOverride", **words)
-
-    def until(self, what, script):
-        """Waits until a script is true."""
-        end = time.monotonic() + PATIENCE
-        while not self.value(f"Boolean({script})"):
-            if time.monotonic() > end:
-                holds(f"{what}: not within {PATIENCE} s; {self.value('document.body?.innerText')}", False)
-            time.sleep(0.05)
-
-    def choose(self, *paths):
-        """Chooses files, as by the page's own button."""
-        found = self.call("Runtime.evaluate", expression="document.getElementById('files')")["result"]["objectId"]
-        self.call("DOM.setFileInputFiles", files=[str(it) for it in paths], objectId=found)
-
-    def drop(self, name, data):
-        """Drops a file onto the page."""
-        file = f"new File([Uint8Array.from({json.dumps(list(data))})], {json.dumps(name)})"
-        event = "new DragEvent('drop', {dataTransfer: data, bubbles: true, cancelable: true})"
-        self.value(f"(data => (data.items.add({file}), document.body.dispatchEvent({event})))(new DataTransfer())")
-
-    def says(self, name, what, pattern):
-        """Waits until a part of a file's card shows a text, and returns it."""
-        words = f"seen(part({json.dumps(name)}, '{what}'))"
-        self.until(f"{name}: {what} {pattern}", f"new RegExp({json.dumps(pattern)}).test({words})")
-        return self.value(words)
-
-    def shows(self, name, what):
-        return self.value(f"seen(part({json.dumps(name)}, '{what}'))")
-
-    def press(self, name, what):
-        self.until(f"{name}: {what}", f"part({json.dumps(name)}, '{what}')?.checkVisibility()")
-        self.value(f"part({json.dumps(name)}, '{what}').click()")
-
-    def select(self, name, what, value):
-        words = f"(it => {{ it.value = {json.dumps(value)}; it.onchange?.(); }})"
-        self.value(f"{words}(part({json.dumps(name)}, '{what}'))")
-
-    def select_to(self, name, label):
-        """Selects the encoding of the stored text by its label."""
-        options = f"[...part({json.dumps(name)}, 'to').options].map(it => it.value)"
-        self.select(name, "to", next(it for it in self.value(options) if it.lower() == label))
-
-    def lines(self, name, label):
-        """The lines of a file under a label, as they are shown."""
-        return self.value(f"choiceOf({json.dumps(name)}, '{label}').querySelector('pre').innerText")
-
-    def pick(self, name, label):
-        """Chooses the lines of a label, which have to be shown."""
-        words = json.dumps(name)
-        self.until(f"{name}: choices", f"part({words}, 'form')?.checkVisibility()")
-        self.value(f"choiceOf({words}, '{label}').checkVisibility() || part({words}, 'more').click()")
-        self.value(f"choiceOf({words}, '{label}').querySelector('input').click()")
-
-    def line(self, there):
-        """Whether there is a line."""
-        words = {"offline": not there, "latency": 0, "downloadThroughput": -1, "uploadThroughput": -1}
-        self.call("Network.emulateNetworkConditions", **words)
-
-    def pieces(self, count="Infinity"):
-        """Lets this document send so many pieces more. Each other waits, until more are let out or it is given up."""
-        self.value(f"lets({count})")
-
-    def sent(self, name):
-        """How far the progress bar is, of 1."""
-        return self.value(f"part({json.dumps(name)}, 'progress').value")
-
-    def until_sent(self, name, share):
-        self.until(f"{name}: {share} sent", f"part({json.dumps(name)}, 'progress').value >= {share}")
-
-    def finished(self, name):
-        """Waits until a file is sent and read back: the path of its upload."""
-        self.says(name, "verdict", "^Uploaded")
-        return self.value(f"part({json.dumps(name)}, 'link').pathname")
-
-    def remove(self, name):
-        self.value(f"part({json.dumps(name)}, 'remove').click()")
-
-    def delete(self, name, what):
-        """Deletes by a button, which asks whether it is meant."""
-        self.press(name, what)
-        self.press(name, "delete")
-
-    def picture(self, state):
-        """Looks at a state in a wide and a narrow window: nothing is wider than the window."""
-        self.states += 1
-        for kind, size in (("wide", WIDE), ("narrow", NARROW)):
-            self.sized(*size)
-            width = self.value("document.scrollingElement.scrollWidth")
-            holds(f"{state}: {width} pixels in a window of {size[0]}", width <= size[0])
-            if self.pictures:
-                image = self.call("Page.captureScreenshot", format="png", captureBeyondViewport=True)["data"]
-                (self.pictures / f"{state}-{kind}.png").write_bytes(base64.b64decode(image))
-        self.sized(*WIDE)
-
-    def key(self, name, code, text=""):
-        """Presses a key."""
-        words = {"key": name, "code": name, "windowsVirtualKeyCode": code}
-        self.call("Input.dispatchKeyEvent", type="keyDown", text=text, **words)
-        self.call("Input.dispatchKeyEvent", type="keyUp", **words)
-
-
-class Place:
-    """What the cases share: the page, a client of the gateway itself, and a folder for files."""
-
-    def __init__(self, shown, gateway, folder, rng):
-        self.shown, self.gateway, self.folder, self.rng = shown, gateway, folder, rng
-        self.client, self.texts = Client(PORTS["a"]), 0
-
-    def file(self, name, data):
-        path = self.folder / name
-        path.write_bytes(data)
-        return path
-
-    def stored(self, name, text):
-        """A file was sent: its text is what it has to be. It is taken out, and leaves the page."""
-        path = self.shown.finished(name)
-        holds(f"the stored text of {name}", self.client.text(path) == text)
-        self.texts += 1
-        self.client.delete(path)
-        self.shown.remove(name)
-        self.faultless()
-
-    def faultless(self):
-        same("faults of the page", self.shown.value("faults"), [])
-
-    def begin(self, name, data, label):
-        """Chooses a file and sends it under a label."""
-        self.shown.choose(self.file(name, data))
-        self.shown.pick(name, label)
-        self.shown.press(name, "send")
-
-    def upload(self, name):
-        """The path of the upload that is remembered for a file."""
-        begun = "Object.values(localStorage).map(JSON.parse).filter(it => it.last !== 'acknowledged')"
-        script = begun + ".find(it => it.file === %s).url"
-        return "/files/" + self.shown.value(script % json.dumps(name)).rpartition("/")[2]
-
-    def uploads(self):
-        """How many uploads are remembered."""
-        return self.shown.value("localStorage.length")
-
-
-def japanese(rng, size):
-    """A text of Shift_JIS in lines, of some bytes, whose pieces end within characters."""
-    chars = [it for it in repertoire("shift_jis") if len(it.encode("cp932")) == 2]
-    text = "x" + "\n".join("".join(rng.choices(chars, k=39)) for _ in range(size // 79))
-    data = text.encode("cp932")
-    # A line has 79 bytes, so that a character begins before the first piece ends, and ends behind it.
-    fits = data[:PIECE].decode("cp932", "ignore").encode("cp932")
-    return Sample("shift_jis", data, text.encode()) if len(fits) < PIECE else japanese(rng, size - 1)
+BLOCKS, SLOTS = 2048, 512
 
 
 def each_encoding(place):
@@ -394,9 +175,9 @@ def reloaded(place):
     stored = place.client.offset(place.upload("reloaded.txt"))
     same("bytes that are stored", stored, 2 * PIECE)
     shown.end()
-    states = shown.states
+    seen = shown.seen
     place.shown = shown = Shown(place.folder, shown.pictures)
-    shown.states = states
+    shown.seen = seen
     shown.says("reloaded.txt", "state-text", "Not finished")
     shown.choose(place.folder / "reloaded.txt")
     shown.press("reloaded.txt", "go-on")
@@ -440,6 +221,7 @@ def overtaken(place):
     piece = sample.data[offset : offset + 1000]
     place.client.patch(path, offset, piece)
     shown.pieces()
+    shown.says("overtaken.txt", "state-text", "Somebody else sends the same upload")
     place.stored("overtaken.txt", sample.text)
     holds("it was refused with 409", 409 in shown.value("statuses"))
     shown.pieces(1)
@@ -626,6 +408,7 @@ def forbidden(place, nginx):
 
 CASES = [each_encoding, few_choices, beyond_the_sample, seen_beforehand, lossy, killed, line_lost, reloaded]
 CASES += [at_once, overtaken, taken_out, renumbered, full, changed, by_keyboard, refusals, texts_that_do_nothing]
+CASES += EDGES
 
 
 def run(place, nginx, names):
@@ -668,7 +451,7 @@ def main():
                 place.shown.close()
             nginx.stop()
             gateway.kill()
-    cases, states = len(CASES) + 1, place.shown.states
+    cases, states = len(CASES) + 1, place.shown.seen
     print(f"{place.texts} texts by the page, in 21 encodings: every one right; {cases} cases, {states} states, each in")
     print("a wide and a narrow window, without a fault of the page's policy")
 
