@@ -76,9 +76,9 @@ export class Card {
         return Boolean(STATES[this.state].sends);
     }
 
-    /** Whether a label is chosen, and it isn't sent yet. */
+    /** Whether a label is chosen, it isn't sent yet, and nothing is to be asked before. */
     get isReady() {
-        return this.state === "choosing" && this.form.chosen !== null;
+        return this.state === "choosing" && this.form.chosen !== null && this.form.doubt === "";
     }
 
     /** The likeliest encoding of a file whose label nobody has chosen. */
@@ -135,14 +135,20 @@ export class Card {
         this.page.turned(this);
     }
 
-    /** Sends what was chosen. The browser says itself that a choice is missing. */
+    /** Sends what was chosen, where it is in doubt only if that is meant. The browser says that a choice is missing. */
     send() {
-        const chosen = this.form?.made;
-        if (chosen) {
-            this.made = chosen;
-            this.form = null;
-            this.course.begin();
+        const { form } = this;
+        if (form?.chosen && form.doubt !== "") {
+            this.view.asks(form.doubt, texts.sendIt, texts.dontSend, () => this.sent());
+        } else if (form?.chosen) {
+            this.sent();
         }
+    }
+
+    sent() {
+        this.made = this.form.made;
+        this.form = null;
+        this.course.begin();
     }
 
     // Going on after a reload.
@@ -221,7 +227,9 @@ export class Card {
 
     /** Deletes what is stored once that was answered with yes, and lets a label be chosen anew. */
     deletes() {
-        return this.upload.offset === 0 ? this.deleted() : this.view.asks(texts.sure(this.name), () => this.deleted());
+        const does = () => this.deleted();
+        return this.upload.offset === 0 ? does()
+            : this.view.asks(texts.sure(this.name), texts.delete, texts.keepIt, does);
     }
 
     async deleted() {

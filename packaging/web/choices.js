@@ -93,6 +93,12 @@ export class Choices {
         put(this.parts.note, this.isWhole ? "" : texts.sampleOnly);
     }
 
+    /** Why it is perhaps not to be sent as it is. */
+    get doubt() {
+        const { binary, large } = this.parts;
+        return large.textContent || (this.chosen?.controls > 0 ? binary.textContent : "");
+    }
+
     get isWhole() {
         return this.sample.start && this.sample.end;
     }

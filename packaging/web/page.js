@@ -64,7 +64,7 @@ const page = {
 const list = new List(parts, cards, page.store);
 
 function add(card, isFirst) {
-    cards.push(card);
+    cards[isFirst ? "unshift" : "push"](card);
     parts.cards[isFirst ? "prepend" : "append"](card.view.element);
 }
 

@@ -109,6 +109,8 @@ export const texts = {
                 "&#8364;, or the upload is stopped, as chosen below.";
     },
     send: "Upload",
+    sendIt: "Upload it all the same",
+    dontSend: "Don’t",
     leave: "Remove",
 
     // An upload under way.

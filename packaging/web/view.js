@@ -19,8 +19,9 @@ export class View {
         for (const [part, does] of Object.entries({ ...steps, fold: () => this.fold(!this.isFolded) })) {
             parts[part].onclick = does;
         }
-        parts.keep.onclick = () => {
+        parts.no.onclick = () => {
             parts.sure.hidden = true;
+            this.show();
             this.focus();
         };
     }
@@ -85,12 +86,15 @@ export class View {
         showLines(this.parts["brief-lines"], fewOf(lines), names[0]);
     }
 
-    /** Asks whether what is stored is to be deleted. */
-    asks(question, does) {
+    /** Asks whether a step is meant, which is done only after the answer `yes`. */
+    asks(question, yes, no, does) {
         const { parts } = this;
         parts.question.textContent = question;
-        parts.delete.onclick = does;
+        parts.yes.textContent = yes;
+        parts.no.textContent = no;
+        parts.yes.onclick = does;
         parts.sure.hidden = false;
+        parts.buttons.hidden = true;
         parts.sure.focus();
     }
 

@@ -43,7 +43,7 @@ def each_encoding(place):
         shown.pick(name, sample.label)
         if sample.to != "utf-8":
             shown.select_to(name, label)
-        shown.press(name, "send")
+        shown.send(name)
         place.stored(name, sample.text)
 
 

@@ -194,10 +194,16 @@ class Shown(browser.Browser):
     def remove(self, name):
         self.value(f"part({json.dumps(name)}, 'remove').click()")
 
+    def send(self, name):
+        """Sends a file, also where it asks whether that is meant."""
+        self.press(name, "send")
+        sure = f"part({json.dumps(name)}, 'sure').checkVisibility()"
+        self.value(f"{sure} && part({json.dumps(name)}, 'yes').click()")
+
     def delete(self, name, what):
         """Deletes by a button, which asks whether it is meant."""
         self.press(name, what)
-        self.press(name, "delete")
+        self.press(name, "yes")
 
     def picture(self, state):
         """Looks at a state in a wide and a narrow window: nothing is wider than the window."""
