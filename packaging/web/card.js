@@ -165,9 +165,10 @@ export class Card {
                 throw new Another(upload.url);
             }
             if (offset === size) {
+                const isKnown = upload.last === "acknowledged";
                 upload.last = "acknowledged";
                 this.keep();
-                return upload.counts || isForbidden(upload.unread) ? this.end.show() : this.end.begin();
+                return isKnown ? this.end.show() : this.end.begin();
             }
             upload.offset = offset;
             this.view.moves(offset / size);

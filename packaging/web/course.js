@@ -145,6 +145,18 @@ export class Course {
         });
     }
 
+    /** Tries again where there was no room, unless something else was done since, or is being asked. */
+    waitForRoom() {
+        this.timer = setTimeout(() => {
+            const { state, view } = this.card;
+            if (state === "full" && view.isAsking) {
+                this.waitForRoom();
+            } else if (state === "full") {
+                this.goOn();
+            }
+        }, patience.room);
+    }
+
     stops(error, paused) {
         const { card } = this;
         const { upload } = card;
@@ -156,7 +168,7 @@ export class Course {
             return card.says(told);
         }
         if (error.status === 507) {
-            this.timer = setTimeout(() => this.goOn(), patience.room);
+            this.waitForRoom();
             return card.turn("full", { text: `${text} ${texts.full}`, alert: whyOf(error) });
         }
         if (upload && isGone(error)) {

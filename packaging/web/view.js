@@ -98,6 +98,10 @@ export class View {
         parts.sure.focus();
     }
 
+    get isAsking() {
+        return !this.parts.sure.hidden;
+    }
+
     /** Shows how far it is: of 1, or that it isn't known how far. */
     moves(share) {
         if (share === null) {

@@ -329,6 +329,16 @@ def room_again(place):
     shown.says("room.txt", "alert", "space for texts is used up")
     place.client.delete(path)
     place.stored("room.txt", sample.text)
+    paths = [place.client.create(Sample("utf-8", b"a", b"")) for _ in range(512)]
+    place.begin("no-room.txt", RUSSIAN.encode(), "utf-8")
+    shown.says("no-room.txt", "state-text", "again by itself each minute")
+    shown.press("no-room.txt", "anew")
+    shown.until("its choices", "part('no-room.txt', 'form')?.checkVisibility()")
+    for path in paths:
+        place.client.delete(path)
+    time.sleep(0.6)
+    same("what is given up isn't begun by itself", (shown.states(), place.uploads()), ({"choosing": 1}, 0))
+    shown.remove("no-room.txt")
 
 
 EDGES = [strangers, unknown_user, stalled, silent, memory_of_the_browser, same_name, plain_http, two_windows]
