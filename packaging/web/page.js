@@ -16,7 +16,9 @@ const cards = [];
 const files = document.getElementById("files");
 const parts = partsOf(document.getElementById("list"));
 const says = document.getElementById("says");
-const endpoint = new URL(document.querySelector("meta[name=endpoint]").content, location.href).href;
+// Without a name and a password, which a page's own address may have.
+const here = location.origin + location.pathname;
+const endpoint = new URL(document.querySelector("meta[name=endpoint]").content, here).href;
 
 const page = {
     endpoint,

@@ -14,17 +14,19 @@ and has no fault of the page's policy; `--pictures` keeps a picture of each, wid
 nothing is tried. What of the page needs no document is tried by `node --test tests/clients/web/`.
 """
 
+import crypt
 import json
 import re
 import tempfile
 import time
 from pathlib import Path
+from urllib.parse import quote
 
 import browser
 from edges import EDGES
 from harness import ENCODINGS, ROOT, Sample, encoded, format_spool, holds, indexes_in, memory, parser_of, random_sample
 from harness import rng_of, same
-from proxies import NGINX, PORTS, Instance, Nginx, has
+from proxies import FRONT, NGINX, PORTS, Instance, Nginx, has
 from shown import PIECE, RUSSIAN, Place, Shown, japanese
 
 INSTALLED = "/usr/share/wovelatsa/web/"
@@ -406,6 +408,28 @@ def forbidden(place, nginx):
     place.texts += 1
 
 
+def in_a_group(place, nginx):
+    """The page of a group, behind its password: its uploads are of its own path, and nobody reads them there."""
+    folder = nginx.folder.parent
+    lines = (NGINX / "wovelatsa-groups.conf").read_text().replace("/etc/nginx", str(folder))
+    hashed = crypt.crypt("a word", crypt.METHOD_SHA512)
+    (folder / "wovelatsa-a.users").write_text(f"archive:{hashed}\n")
+    old = (nginx.folder / "lines.conf").read_text()
+    nginx.change("lines.conf", old, lines.replace(INSTALLED, f"{ROOT}/packaging/web/"))
+    shown = place.shown
+    shown.go(f"http://archive:{quote('a word')}@127.0.0.1:{FRONT}/a/page/")
+    shown.drop("group.txt", RUSSIAN.encode("koi8-r"))
+    shown.pick("group.txt", "koi8-r")
+    shown.press("group.txt", "send")
+    shown.says("group.txt", "counts", "forbidden")
+    url = shown.value("Object.values(localStorage).map(JSON.parse)[0].url")
+    holds(f"the path of the group: {url}", f":{FRONT}/a/files/" in url)
+    same("the text", place.client.text(url.partition("/a")[2]), RUSSIAN.encode())
+    shown.remove("group.txt")
+    place.faultless()
+    place.texts += 1
+
+
 CASES = [each_encoding, few_choices, beyond_the_sample, seen_beforehand, lossy, killed, line_lost, reloaded]
 CASES += [at_once, overtaken, taken_out, renumbered, full, changed, by_keyboard, refusals, texts_that_do_nothing]
 CASES += EDGES
@@ -421,6 +445,7 @@ def run(place, nginx, names):
         place.faultless()
         print(f"{case.__name__}: {time.monotonic() - began:.1f} s", flush=True)
     forbidden(place, nginx)
+    in_a_group(place, nginx)
 
 
 def main():
@@ -451,7 +476,7 @@ def main():
                 place.shown.close()
             nginx.stop()
             gateway.kill()
-    cases, states = len(CASES) + 1, place.shown.seen
+    cases, states = len(CASES) + 2, place.shown.seen
     print(f"{place.texts} texts by the page, in 21 encodings: every one right; {cases} cases, {states} states, each in")
     print("a wide and a narrow window, without a fault of the page's policy")
 

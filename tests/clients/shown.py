@@ -76,8 +76,15 @@ class Shown(browser.Browser):
 
     def load(self):
         """Loads the page anew."""
+        self.goes("Page.reload")
+
+    def go(self, url):
+        """Goes to another page of this kind."""
+        self.goes("Page.navigate", url=url)
+
+    def goes(self, method, **words):
         self.value("window.old = true")
-        self.call("Page.reload")
+        self.call(method, **words)
         is_new = "window.old === undefined && document.readyState === 'complete' && window.card"
         while True:
             try:
