@@ -88,7 +88,7 @@ export class End {
         const { parts, upload } = card;
         const lines = this.stored ?? this.lines;
         card.keep();
-        parts.verdict.textContent = texts.complete;
+        parts.verdict.textContent = isForbidden(upload.unread) ? texts.completeUnseen : texts.complete;
         put(parts.counts, this.told());
         put(parts["end-note"], upload.counts ? texts.noCount : "");
         put(parts["stored-title"], lines ? (this.stored ? texts.stored : texts.previewed) : "");

@@ -165,6 +165,7 @@ export const texts = {
     readBack: "Read the stored text",
     skip: "Skip it",
     complete: "Uploaded. Read the stored text before you delete the original.",
+    completeUnseen: "Uploaded. Keep the original until somebody has read the stored text.",
     perhaps: `The last byte was sent, and the upload is gone from the server since. ${unknowable}`,
     perhapsLater: "The server had all of it, and it is gone since: it was taken out, or the server’s texts were put " +
         `back from an older copy. ${unknowable}`,

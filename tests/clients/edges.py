@@ -138,6 +138,12 @@ def memory_of_the_browser(place):
     shown.until("it says so", "document.getElementById('not-remembered').checkVisibility()")
     place.stored("forgotten.txt", text_of(data))
     shown.value("localStorage.clear()")
+    place.begin("kept.txt", b"kept", "utf-8")
+    path = shown.finished("kept.txt")
+    shown.press_of_list("forget-all")
+    shown.press_of_list("forget")
+    same("what is left, and the text", (shown.states(), place.uploads(), place.client.text(path)), ({}, 0, b"kept"))
+    place.client.delete(path)
 
 
 def same_name(place):
