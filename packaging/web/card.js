@@ -139,13 +139,13 @@ export class Card {
     send() {
         const { form } = this;
         if (form?.chosen && form.doubt !== "") {
-            this.view.asks(form.doubt, texts.sendIt, texts.dontSend, () => this.sent());
+            this.view.asks(form.doubt, texts.sendIt, texts.dontSend, () => this.begin());
         } else if (form?.chosen) {
-            this.sent();
+            this.begin();
         }
     }
 
-    sent() {
+    begin() {
         this.made = this.form.made;
         this.form = null;
         this.course.begin();

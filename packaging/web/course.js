@@ -17,6 +17,8 @@ export class Course {
         this.running = null;
         this.timer = null;
         this.quarter = 0;
+        // An upload that is gone, until there is another one.
+        this.old = null;
     }
 
     pause() {
@@ -24,7 +26,7 @@ export class Course {
         this.running?.abort();
     }
 
-    /** Begins a new upload with what was chosen. One that is gone is forgotten once there is another. */
+    /** Begins a new upload with what was chosen. */
     begin() {
         this.quarter = 0;
         this.old = this.card.upload;

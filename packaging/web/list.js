@@ -12,6 +12,7 @@ export class List {
         this.cards = cards;
         this.store = store;
         this.isDue = false;
+        this.shownKinds = "";
         parts["send-all"].onclick = () => this.does(this.ready, (it) => it.send());
         parts["remove-done"].onclick = () => this.does(this.done, (it) => it.leave());
         parts["forget-all"].onclick = () => this.asks(true);
@@ -60,6 +61,12 @@ export class List {
             kinds.set(name, (kinds.get(name) ?? 0) + 1);
         }
         const most = Array.from(kinds).filter((it) => it[1] > 1).sort((one, other) => other[1] - one[1]);
+        const shown = String(most);
+        if (shown === this.shownKinds) {
+            // A button that has the focus keeps it.
+            return;
+        }
+        this.shownKinds = shown;
         const buttons = most.slice(0, KINDS).map(([name, many]) => {
             const button = document.createElement("button");
             button.type = "button";

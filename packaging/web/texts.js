@@ -30,7 +30,7 @@ function part(offset, size) {
 }
 
 const goOn = "Then press “Go on”.";
-const anew = "Press “Choose anew” and send the file again.";
+const anew = "Choose the file anew and send it again.";
 const unknowable = "Nobody can tell here whether it arrived. Look where texts go; if it isn’t there, send it again, " +
     "and keep the original until you have seen it.";
 

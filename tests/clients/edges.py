@@ -2,6 +2,8 @@
 
 import json
 import os
+import shutil
+import subprocess
 import time
 
 from harness import Sample, holds, same
@@ -277,14 +279,14 @@ def cleaned_up(place):
     for name in names:
         place.begin(name, data, "koi8-r")
     shown.until("their pieces", "waiting.length === 2")
-    paths = [place.upload(name) for name in names]
-    shown.line(False)
+    program, _, spool, *_ = place.gateway.words
+    place.gateway.kill()
     shown.pieces()
     for name in names:
         shown.says(name, "state-text", "Trying again in")
-    for path in paths:
-        place.client.delete(path)
-    shown.line(True)
+    subprocess.run([program, "delete", spool, "--incomplete", "--yes"], check=True, stdout=subprocess.DEVNULL)
+    place.gateway.start()
+    place.client.close()
     for name in names:
         shown.says(name, "alert", "Nobody can tell here whether it arrived")
         same("what else it says", shown.shows(name, "verdict"), "")
@@ -295,6 +297,28 @@ def cleaned_up(place):
         shown.pick(name, "koi8-r")
         shown.press(name, "send")
         place.stored(name, RUSSIAN.encode())
+
+
+def put_back(place):
+    """A spool is put back from a copy that was made before an upload was acknowledged: none says 'uploaded'."""
+    shown, spool = place.shown, place.gateway.words[2]
+    place.gateway.kill()
+    shutil.copy(spool, f"{spool}.copy")
+    place.gateway.start()
+    place.client.close()
+    place.begin("back.txt", RUSSIAN.encode("koi8-r"), "koi8-r")
+    shown.finished("back.txt")
+    place.gateway.kill()
+    shutil.copy(f"{spool}.copy", spool)
+    place.gateway.start()
+    place.client.close()
+    shown.load()
+    shown.says("back.txt", "alert", "had all of it, and it is gone.*Nobody can tell here whether it arrived")
+    same("what else it says", shown.shows("back.txt", "verdict"), "")
+    shown.choose(place.folder / "back.txt")
+    shown.pick("back.txt", "koi8-r")
+    shown.press("back.txt", "send")
+    place.stored("back.txt", RUSSIAN.encode())
 
 
 def too_large(place):
@@ -348,4 +372,4 @@ def room_again(place):
 
 
 EDGES = [strangers, unknown_user, stalled, silent, memory_of_the_browser, same_name, plain_http, two_windows]
-EDGES += [twelve_slowly, killed_under_six, cleaned_up, too_large, room_again]
+EDGES += [twelve_slowly, killed_under_six, cleaned_up, put_back, too_large, room_again]
