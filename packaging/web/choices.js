@@ -95,8 +95,7 @@ export class Choices {
 
     /** Why it is perhaps not to be sent as it is. */
     get doubt() {
-        const { binary, large } = this.parts;
-        return large.textContent || (this.chosen?.controls > 0 ? binary.textContent : "");
+        return !this.parts.large.hidden ? texts.doubtLarge : this.chosen?.controls > 0 ? texts.doubtBinary : "";
     }
 
     get isWhole() {

@@ -130,7 +130,9 @@ export class Course {
     /** Waits, at most until the browser is online again or a pause. A screen reader is told once. */
     waits(time, error, failures, signal) {
         const seconds = Math.ceil(time / 1000);
-        const away = texts.waiting(seconds) + (failures >= MANY && navigator.onLine ? texts.setUp : "");
+        // A proxy that says that the gateway is away has a status.
+        const isStrange = failures >= MANY && error.status === null && navigator.onLine;
+        const away = texts.waiting(seconds) + (isStrange ? texts.setUp : "");
         const text = error.status === 409 ? texts.overtaken(seconds) : away;
         this.card.turn("waiting", { text });
         if (failures === 0) {

@@ -109,8 +109,10 @@ export const texts = {
                 "&#8364;, or the upload is stopped, as chosen below.";
     },
     send: "Upload",
-    sendIt: "Upload it all the same",
-    dontSend: "Don’t",
+    doubtLarge: "The text would be too large. Upload it all the same?",
+    doubtBinary: "Perhaps it is no text. Upload it all the same?",
+    sendIt: "Upload it",
+    dontSend: "Don’t upload it",
     leave: "Remove",
 
     // An upload under way.

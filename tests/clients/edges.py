@@ -332,7 +332,7 @@ def too_large(place):
     shown.pick("large.txt", "utf-8")
     shown.says("large.txt", "large", "some 315 MB")
     shown.press("large.txt", "send")
-    shown.says("large.txt", "question", "some 315 MB")
+    shown.says("large.txt", "question", "would be too large")
     shown.picture("large")
     shown.press("large.txt", "no")
     same("whether it is sent", (shown.shows("large.txt", "state-text"), place.uploads()), ("", 0))
