@@ -68,6 +68,7 @@ export class Course {
             await this.creates(signal);
         }
         return alone(card.upload.url, () => send(card.upload, card.file, signal, {
+            reads: () => this.compares(),
             stored: (offset, sent) => this.stored(offset, sent),
             changed: () => card.keep(),
             moves: (bytes) => card.view.moves(this.share(bytes)),
@@ -95,15 +96,19 @@ export class Course {
     }
 
     /** What was stored of the file has to be what the file still has: else two texts would become one. */
+    async compares() {
+        const { upload, file } = this.card;
+        if ((await isSame(file, upload.print).catch(unreadable)) === false) {
+            throw new Other();
+        }
+    }
+
     async stored(offset, sent) {
         const { upload, file } = this.card;
-        try {
-            if ((await isSame(file, upload.print)) === false) {
-                throw new Other();
-            }
-            upload.print = await printOf(file, offset, sent, upload.print);
-        } catch (error) {
-            throw error instanceof DOMException ? new Unreadable(error.message) : error;
+        // At the end every piece was compared before it left, and the file may be another one by now.
+        if (offset < upload.size) {
+            await this.compares();
+            upload.print = await printOf(file, offset, sent, upload.print).catch(unreadable);
         }
         upload.offset = offset;
         this.card.keep();
@@ -197,6 +202,10 @@ function alone(url, does) {
     }
     const within = (lock) => (lock ? does() : Promise.reject(new Elsewhere()));
     return navigator.locks.request(`wovelatsa ${url}`, { ifAvailable: true }, within);
+}
+
+function unreadable(error) {
+    throw new Unreadable(error.message);
 }
 
 function randomKey() {

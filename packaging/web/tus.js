@@ -111,8 +111,9 @@ async function* partsOf(reply, watch) {
  * `upload` has the `url`, the `metadata` that it was made with, and `last`, which is to be remembered: null, `sent`
  * once the last byte may have left, and `acknowledged` once the gateway said that it has it. `told.stored` is called
  * with each offset that was acknowledged and the piece sent last (`from`, `bytes`), and is awaited; `told.changed` when
- * `last` has changed; `told.moves` with how many bytes have left of those behind the offset; and `told.waits` with a
- * number of milliseconds, why, and how many failures there were before: its promise is kept when it is time.
+ * `last` has changed; `told.reads` between the reading of a piece and its sending, and is awaited; `told.moves` with
+ * how many bytes have left of those behind the offset; and `told.waits` with a number of milliseconds, why, and how
+ * many failures there were before: its promise is kept when it is time.
  */
 export async function send(upload, file, signal, told) {
     const course = { offset: null, piece: pieces.most, sent: null };
@@ -166,6 +167,7 @@ async function sendPiece(upload, file, course, signal, told) {
     const { offset } = course;
     const end = Math.min(offset + course.piece, file.size);
     course.sent = { from: offset, bytes: await pieceOf(file, offset, end) };
+    await told.reads?.();
     const before = upload.last;
     setLast(upload, end === file.size ? "sent" : before, told);
     const began = performance.now();

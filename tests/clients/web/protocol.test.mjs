@@ -150,6 +150,13 @@ test("what `stored` throws ends it: not a byte more is sent", () => served({ siz
         assert.equal(count(gateway, "PATCH"), 1);
     }));
 
+test("a piece that was read isn't sent if `reads` throws", () => served({ size: 500_000, metadata }, async (gateway) => {
+    const fails = new Error("another file");
+    const reads = () => Promise.reject(fails);
+    const { outcome, upload } = await sends(gateway, {}, { reads });
+    assert.deepEqual([outcome, upload.last, count(gateway, "PATCH")], [fails, null, 0]);
+}));
+
 test("a pause ends a request at once", () => served({ size: 500_000, metadata, answers: ({ method }) =>
     (method === "PATCH" ? "silence" : null) }, async (gateway) => {
     const ends = new AbortController();
