@@ -4,6 +4,7 @@ import { Card } from "./card.js";
 import { fill, partsOf } from "./dom.js";
 import { List } from "./list.js";
 import { onFailure } from "./looks.js";
+import { isSame, printOf } from "./prints.js";
 import { Queue } from "./queue.js";
 import { Store, hasChanged, isFileOf } from "./store.js";
 import { texts } from "./texts.js";
@@ -71,21 +72,31 @@ function add(card, isFirst) {
 }
 
 /** Takes a file: to the card that has it or waits for it, or to one of its own. */
-function take(file, isFolded) {
+async function take(file, isFolded) {
     const known = cards.find((it) => it.has(file));
-    if (known) {
-        if (!known.file) {
-            known.take(file);
-        }
+    if (known && !known.file) {
+        known.take(file);
+        return known;
+    }
+    if (known && (await areSame(known.file, file))) {
         return known;
     }
     const card = new Card(page, file, null);
-    const notice = noticeOf(file);
+    const notice = known ? texts.twin : noticeOf(file);
     add(card, true);
     card.view.isFolded = isFolded;
     card.view.mayFold = isFolded;
     card.look(notice);
     return card;
+}
+
+/** Whether two files of the same name, size and time are the same. Where that can't be told, each has its card. */
+async function areSame(one, other) {
+    try {
+        return one.size === 0 || (await isSame(other, await printOf(one, one.size))) === true;
+    } catch {
+        return false;
+    }
 }
 
 /** What is to be known of a file that was sent before, or changed since a part of it was. */
@@ -95,14 +106,17 @@ function noticeOf(file) {
     return done ? texts.already(done.upload.begun) : old ? texts.changed(old.upload.begun) : "";
 }
 
-function takeAll(chosen) {
+async function takeAll(chosen) {
+    let last = null;
     // Each new card goes to the top, and so the last file first.
-    const taken = Array.from(chosen).reverse().map((file) => take(file, chosen.length > UNFOLDED));
-    taken.at(-1)?.view.focus();
+    for (const file of chosen.reverse()) {
+        last = await take(file, chosen.length > UNFOLDED);
+    }
+    last?.view.focus();
 }
 
 files.addEventListener("change", () => {
-    takeAll(files.files);
+    takeAll(Array.from(files.files));
     // The same file may be chosen once more.
     files.value = "";
 });
@@ -118,7 +132,7 @@ document.addEventListener("dragleave", (event) => {
 document.addEventListener("drop", (event) => {
     event.preventDefault();
     document.body.classList.remove("over");
-    takeAll(event.dataTransfer.files);
+    takeAll(Array.from(event.dataTransfer.files));
 });
 addEventListener("beforeunload", (event) => {
     if (cards.some((it) => it.isSending)) {

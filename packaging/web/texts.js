@@ -92,6 +92,7 @@ export const texts = {
         "Cut it behind a line feed and send the parts one by one.",
     changed: (begun) => `An upload of a file of this name was begun ${dates.format(begun)}, and the file has changed ` +
         "since. That upload isn’t continued; this would be a new one.",
+    twin: "Another file of this name, size and time is in the list. This would be an upload of its own.",
     already: (begun) => `This file was uploaded already, ${dates.format(begun)}. This would be another upload.`,
 
     // How it is stored.

@@ -193,6 +193,28 @@ def same_name(place):
     place.stored("scan.txt", text_of(data))
 
 
+def twins(place):
+    """Two files of one name, size and time, of two folders, have a card each. One that is chosen twice has one."""
+    shown, files = place.shown, {}
+    for text in (b"one text", b"another."):
+        folder = place.folder / text.decode()
+        folder.mkdir()
+        files[text] = folder / "twin.txt"
+        files[text].write_bytes(text)
+        os.utime(files[text], (1e9, 1e9))
+    one, other = files.values()
+    shown.choose(one)
+    shown.says("twin.txt", "about", "8 bytes")
+    shown.choose(one)
+    shown.choose(other)
+    shown.says("twin.txt", "alert", "Another file of this name, size and time")
+    same("the cards", shown.states(), {"choosing": 2})
+    for text in (b"another.", b"one text"):
+        shown.pick("twin.txt", "utf-8")
+        shown.press("twin.txt", "send")
+        place.stored("twin.txt", text)
+
+
 def plain_http(place):
     """Where a browser gives no digests it asks, with the file's name, size and time."""
     shown = place.shown
@@ -384,5 +406,6 @@ def room_again(place):
     shown.remove("no-room.txt")
 
 
-EDGES = [strangers, unknown_user, stalled, silent, memory_of_the_browser, same_name, plain_http, two_windows]
+EDGES = [strangers, unknown_user, stalled, silent, memory_of_the_browser, same_name, twins, plain_http]
+EDGES += [two_windows]
 EDGES += [twelve_slowly, killed_under_six, cleaned_up, put_back, too_large, room_again]

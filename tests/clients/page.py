@@ -8,7 +8,7 @@ ends within a character, the gateway killed and started again, a reload, a brows
 another client that is faster, an upload that is gone, a spool that is full, a character that the encoding lacks, a
 wrong label seen beforehand and seen at the end, a file that has changed, a proxy that forbids reading, the keyboard
 alone. `edges.py` has what goes wrong elsewhere: a page to sign in, a password, a text that stops coming, a silent
-server, a browser's memory that is broken or full, two files of one name, no digests, two windows, twelve files over a
+server, a browser's memory that is broken or full, files of one name, no digests, two windows, twelve files over a
 slow line, six under kills, clean-ups beside clients, a spool that is put back from a copy, files that are too large.
 Each state fits a window of 360 pixels and has no fault of the page's policy; `--pictures` keeps a picture of each, wide
 and narrow. Without chromium or nginx nothing is tried. What of the page needs no document is tried by `node --test
