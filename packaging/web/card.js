@@ -1,69 +1,102 @@
-// One file on the page: chosen, sent, paused, gone on with, read back. It has the file, or what is remembered of its
-// upload, or both.
+// One file on the page: its one state, and the steps from one to the next. It has the file, or what is remembered of
+// its upload, or both.
 
 import { Choices } from "./choices.js";
-import { made, put, showLines } from "./dom.js";
-import { decoded, rank } from "./labels.js";
-import { linesOf, sampleOf } from "./preview.js";
-import { forget, isFileOf, remember } from "./store.js";
-import { readStored } from "./stored.js";
+import { Course } from "./course.js";
+import { put, showLines } from "./dom.js";
+import { End } from "./end.js";
+import { look } from "./looks.js";
+import { isSame } from "./prints.js";
+import { isForbidden, isGone, whyOf } from "./reasons.js";
+import { STATES } from "./states.js";
+import { isFileOf } from "./store.js";
 import { texts } from "./texts.js";
-import { Another, Lost, Refusal, Unreadable, create, metadataOf, remove, send, stateOf, textOf } from "./tus.js";
+import { Another, Lost, remove, stateOf } from "./tus.js";
+import { View } from "./view.js";
 
+// The most that `Upload-Length` may say.
 const LARGEST = 1 << 30;
-// The gateway's numbers after which an upload can't be gone on with.
-const ENDING = [6, 8, 10, 12, 27, 28, 34];
-const QUARTERS = 4;
+let made = 0;
 
 export class Card {
-    /** `page` has the `endpoint`, and is told by `says`, `leaves` and `choose`. */
+    /** `page` has the `endpoint`, the `store` and the `queue`, and is told by `says`, `turned`, `leaves` and others. */
     constructor(page, file, upload) {
-        Object.assign(this, { page, file, upload, made: null, form: null, running: null, quarter: 0 });
-        const { element, parts } = made("card");
-        Object.assign(this, { element, parts });
-        element.setAttribute("aria-label", this.name);
-        parts.title.textContent = this.name;
-        parts.about.textContent = texts.about(file?.size ?? upload.size, file?.lastModified ?? upload.time);
-        parts.progress.setAttribute("aria-label", texts.progressOf(this.name));
-        this.listen();
+        this.page = page;
+        this.file = file;
+        this.upload = upload;
+        // The form where the label is chosen, and what was chosen in it.
+        this.form = null;
+        this.made = null;
+        this.course = new Course(this);
+        this.end = new End(this);
+        this.view = new View(this, {
+            "pause": () => this.course.pause(),
+            "go-on": () => this.course.goOn(),
+            "again": () => page.choose(),
+            "send-again": () => (this.file ? this.look("") : page.choose()),
+            "read-back": () => this.end.read(),
+            "skip": () => this.end.skip(),
+            "give-up": () => this.deletes(),
+            "other-label": () => this.deletes(),
+            "wrong": () => this.deletes(),
+            "anew": () => this.startAnew(),
+            "remove": () => this.leave(),
+        });
+        made += 1;
+        this.view.name(this.name, file?.size ?? upload.size, file?.lastModified ?? upload.time, made);
+        this.parts.form.onsubmit = (event) => {
+            event.preventDefault();
+            this.send();
+        };
     }
 
     get name() {
         return this.upload?.file ?? this.file.name;
     }
 
-    listen() {
-        const { form, pause, leave, quit, anew, again, wrong } = this.parts;
-        form.onsubmit = (event) => {
-            event.preventDefault();
-            this.start();
-        };
-        pause.onclick = () => this.running?.abort();
-        this.parts["go-on"].onclick = () => (this.upload ? this.run() : this.begin());
-        anew.onclick = () => this.startAnew();
-        wrong.onclick = () => this.startAnew();
-        again.onclick = () => this.page.choose();
-        for (const it of [leave, quit, this.parts["leave-end"]]) {
-            it.onclick = () => this.leave();
-        }
+    get parts() {
+        return this.view.parts;
     }
 
-    focus() {
-        this.parts.title.focus();
+    get state() {
+        return this.view.state;
     }
 
-    /** Shows another state: a focus that was in the card stays there, and none is taken from elsewhere. */
-    turns(shows) {
-        const here = this.element.contains(document.activeElement);
-        shows();
-        if (here) {
-            this.focus();
+    turn(state, words) {
+        this.view.turn(state, words);
+        this.page.turned(this);
+    }
+
+    says(what) {
+        this.page.says(texts.says(this.name, what));
+    }
+
+    /** Whether it would stop if the page were left. */
+    get isSending() {
+        return Boolean(STATES[this.state].sends);
+    }
+
+    /** Whether a label is chosen, it isn't sent yet, and nothing is to be asked before. */
+    get isReady() {
+        return this.state === "choosing" && this.form.chosen !== null && this.form.doubt === "";
+    }
+
+    /** The likeliest encoding of a file whose label nobody has chosen. */
+    get likeliest() {
+        return this.state === "choosing" && this.form.chosen === null ? this.form.choices[0].names[0] : null;
+    }
+
+    /** Remembers the upload as it is now. */
+    keep() {
+        if (!this.page.store.keep(this.upload)) {
+            this.page.cannotRemember();
         }
     }
 
     leave() {
+        this.course.pause();
         if (this.upload) {
-            forget(this.upload);
+            this.page.store.forget(this.upload);
         }
         this.page.leaves(this);
     }
@@ -72,341 +105,155 @@ export class Card {
     has(file) {
         const { file: own, upload } = this;
         const known = own ? { file: own.name, size: own.size, time: own.lastModified } : upload;
-        return known && !upload?.done && isFileOf(known, file);
-    }
-
-    show(part) {
-        for (const it of ["form", "course", "end"]) {
-            this.parts[it].hidden = it !== part;
-        }
-    }
-
-    /** Shows what stands, and which buttons there are. */
-    tell(text, ...buttons) {
-        this.show("course");
-        put(this.parts.state, text);
-        this.parts.look.hidden = true;
-        for (const it of ["pause", "go-on", "again", "quit"]) {
-            this.parts[it].hidden = !buttons.includes(it);
-        }
-        put(this.parts.anew, buttons.includes("giveUp") ? texts.giveUp : buttons.includes("begin") ? texts.begin : "");
-    }
-
-    alert(text) {
-        put(this.parts.alert, text);
-    }
-
-    says(what) {
-        this.page.says(texts.says(this.name, what));
+        return !this.end.isReached && isFileOf(known, file);
     }
 
     // Choosing.
 
     /** Shows the file's lines under the likely labels, with a notice. */
     async look(notice) {
-        this.tell(texts.reading);
-        this.parts.progress.hidden = true;
         put(this.parts["course-label"]);
-        this.alert(this.file.size > LARGEST ? texts.tooLarge : notice);
         if (this.file.size > LARGEST) {
-            return this.tell("", "quit");
+            return this.turn("unsendable", { alert: texts.tooLarge });
         }
+        this.view.moves(null);
+        this.turn("reading", { text: texts.reading });
         try {
-            const sample = await sampleOf(this.file);
-            const choices = rank(sample.bytes, sample);
-            this.form = new Choices(this.parts, this.file, sample, choices);
-            this.show("form");
-            this.page.says(texts.saysChoices(this.name, choices.length));
+            const found = await look(this.file, null, (share) => this.view.moves(share));
+            this.form = new Choices(this.parts, this.file, found, (choice) => this.chooses(choice));
+            const [first] = found.choices;
+            this.view.brief(texts.likeliest(first.names[0]), first);
+            this.turn("choosing", { alert: notice });
+            this.page.says(texts.saysChoices(this.name, found.choices.length));
         } catch (error) {
-            this.alert(error instanceof DOMException ? texts.unreadable : String(error));
-            this.tell("", "quit");
+            this.turn("unsendable", { alert: error instanceof DOMException ? texts.unreadable : String(error) });
         }
     }
 
-    /** Sends what was chosen. The browser says itself that a choice is missing. */
-    start() {
-        const chosen = this.form?.made;
-        if (chosen) {
-            Object.assign(this, { made: chosen, form: null });
+    chooses(choice) {
+        this.view.brief(texts.chosen(choice.names[0]), choice);
+        this.page.turned(this);
+    }
+
+    /** Sends what was chosen, where it is in doubt only if that is meant. The browser says that a choice is missing. */
+    send() {
+        const { form } = this;
+        if (form?.chosen && form.doubt !== "") {
+            this.view.asks(form.doubt, texts.sendIt, texts.dontSend, () => this.begin());
+        } else if (form?.chosen) {
             this.begin();
         }
     }
 
-    // Sending.
-
-    /** Creates the upload, and sends the file. */
-    async begin() {
-        await this.under(async (signal) => {
-            this.tell(texts.creating, "pause");
-            const { from, to, mode, name } = this.made;
-            const labels = { from: from.toLowerCase(), to: to.toLowerCase(), mode };
-            // By `key` an upload is told from another that was given its number, after a restored copy of a spool.
-            const metadata = metadataOf({ ...labels, filename: name || this.file.name, key: randomKey() });
-            const { size, name: file, lastModified: time } = this.file;
-            const url = await create(this.page.endpoint, size, metadata, signal, (it) => this.waits(it, signal));
-            const begun = Date.now();
-            this.upload = { url, metadata, from, to, file, size, time, begun, offset: 0, last: false };
-            this.remember();
-            await this.sends(signal);
-        });
-    }
-
-    /** Goes on with an upload that was begun. */
-    run() {
-        return this.under((signal) => {
-            this.tell(texts.asking, "pause");
-            return this.sends(signal);
-        });
-    }
-
-    async sends(signal) {
-        const outcome = await send(this.upload, this.file, signal, {
-            stored: (offset) => this.stored(offset),
-            changed: () => this.remember(),
-            waits: (time) => this.waits(time, signal),
-        });
-        await this.finish(outcome);
-    }
-
-    /** Does something that a pause may end, and says why it stopped where it did. */
-    async under(does) {
-        if (this.running) {
-            return;
-        }
-        this.running = new AbortController();
-        this.alert("");
-        put(this.parts["course-label"], texts.begun(this.made?.from ?? this.upload.from, this.stores));
-        this.showProgress();
-        const { signal } = this.running;
-        try {
-            const done = does(signal);
-            this.focus();
-            await done;
-        } catch (error) {
-            this.turns(() => this.stop(error, signal.aborted));
-        } finally {
-            this.running = null;
-        }
-    }
-
-    get stores() {
-        return this.upload?.to ?? this.made.to;
-    }
-
-    stored(offset) {
-        this.upload.offset = offset;
-        this.remember();
-        this.tell(texts.sending(offset, this.upload.size), "pause");
-        this.showProgress();
-        const quarter = Math.floor((QUARTERS * offset) / this.upload.size);
-        if (quarter > this.quarter && quarter < QUARTERS) {
-            this.says(texts.saysPart((100 * quarter) / QUARTERS));
-        }
-        this.quarter = quarter;
-    }
-
-    showProgress() {
-        this.parts.progress.hidden = false;
-        this.parts.progress.value = this.upload ? this.upload.offset / Math.max(1, this.upload.size) : 0;
-    }
-
-    /** Waits, at most until the browser is online again or a pause. */
-    waits(time, signal) {
-        this.tell(texts.waiting(Math.ceil(time / 1000)), "pause");
-        this.says(texts.waiting(Math.ceil(time / 1000)));
-        return new Promise((resolve) => {
-            const timer = setTimeout(resolve, time);
-            const ends = () => {
-                clearTimeout(timer);
-                resolve();
-            };
-            addEventListener("online", ends, { once: true, signal });
-            signal.addEventListener("abort", ends, { once: true });
-        });
-    }
-
-    stop(error, paused) {
-        const { offset, size } = this.upload ?? { offset: 0, size: this.file.size };
-        if (paused) {
-            this.tell(texts.paused(offset, size), "go-on", this.upload ? "giveUp" : "begin");
-            return this.says(texts.paused(offset, size));
-        }
-        this.alert(whyOf(error));
-        this.gone = isGone(error);
-        if (error instanceof Unreadable) {
-            this.file = null;
-            return this.tell(texts.stopped(offset, size), "again", "giveUp");
-        }
-        const ends = ENDING.includes(error.number) || this.gone;
-        this.tell(texts.stopped(offset, size), ends ? "" : "go-on", this.upload && !this.gone ? "giveUp" : "begin");
-    }
-
-    remember() {
-        if (!remember(this.upload)) {
-            this.page.cannotRemember();
-        }
+    begin() {
+        this.made = this.form.made;
+        this.form = null;
+        this.course.begin();
     }
 
     // Going on after a reload.
 
     /** Asks how far a remembered upload is. */
     async ask() {
-        put(this.parts["course-label"], texts.begun(this.upload.from, this.upload.to));
-        this.tell(texts.asking);
-        if (this.upload.done) {
-            return this.showEnd();
-        }
+        const { upload } = this;
+        put(this.parts["course-label"], texts.begun(upload.from, upload.to));
+        this.view.moves(upload.offset / Math.max(1, upload.size));
+        this.turn("asking", { text: texts.asking });
         try {
-            const { offset, size, metadata } = await stateOf(this.upload.url);
-            if (size !== this.upload.size || metadata !== this.upload.metadata) {
-                throw new Another(this.upload.url);
+            const { offset, size, metadata } = await stateOf(upload.url);
+            if (size !== upload.size || metadata !== upload.metadata) {
+                throw new Another(upload.url);
             }
-            this.upload.offset = offset;
-            this.showProgress();
-            return await (offset === size ? this.finish("complete") : this.waitForFile(texts.unfinished(offset, size)));
+            if (offset === size) {
+                const isKnown = upload.last === "acknowledged";
+                upload.last = "acknowledged";
+                this.keep();
+                return isKnown ? this.end.show() : this.end.begin();
+            }
+            upload.offset = offset;
+            this.view.moves(offset / size);
+            return this.waitForFile(texts.unfinished(offset, size), "");
         } catch (error) {
-            return this.cannotAsk(error);
+            if (isGone(error)) {
+                return this.goes(error);
+            }
+            if (upload.last === "acknowledged") {
+                return this.end.show();
+            }
+            return this.waitForFile(texts.unasked, error instanceof Lost ? "" : whyOf(error));
         }
     }
 
-    cannotAsk(error) {
-        if (error.number === 8 && this.upload.last) {
-            return this.finish("taken");
-        }
-        if (error instanceof Lost) {
-            return this.waitForFile(texts.unasked);
-        }
-        this.alert(whyOf(error));
-        this.gone = isGone(error);
-        return this.tell("", "again", this.gone ? "begin" : "giveUp");
-    }
-
-    waitForFile(text) {
+    waitForFile(text, alert) {
         if (!this.file) {
-            this.tell(text, "again", "giveUp");
+            this.turn("unfinished", { text, alert });
         }
     }
 
-    /** Takes the file of a remembered upload: its lines are shown once more before it is gone on with. */
-    async take(file) {
-        if (this.gone) {
-            this.file = file;
-            return this.startAnew();
+    /** The upload is gone: before its last byte had left, or perhaps behind it. */
+    goes(error) {
+        const { last } = this.upload;
+        if (!last) {
+            return this.turn("gone", { alert: whyOf(error) });
         }
+        return this.turn("perhaps", { alert: last === "sent" ? texts.perhaps : texts.perhapsLater });
+    }
+
+    /** Takes the file of a remembered upload: it is compared, and its lines are shown, before it is gone on with. */
+    async take(file) {
+        if (["gone", "perhaps"].includes(this.state)) {
+            this.file = file;
+            return this.look("");
+        }
+        const { upload } = this;
+        let [same, lines] = [null, null];
         try {
-            const sample = await sampleOf(file);
-            this.lines = linesOf(decoded(this.upload.from, sample.bytes, sample));
+            same = await isSame(file, upload.print);
+            lines = (await look(file, upload.from, () => {})).lines;
         } catch {
-            return this.alert(texts.unreadable);
+            return this.turn("unfinished", { alert: texts.unreadable });
+        }
+        if (same === false) {
+            return this.turn("other", { alert: texts.otherFile });
         }
         this.file = file;
-        this.alert("");
-        this.tell(texts.stopped(this.upload.offset, this.upload.size), "go-on", "giveUp");
-        this.parts.anew.textContent = texts.otherLabel;
-        showLines(this.parts.looked, this.lines);
-        this.parts.look.hidden = false;
-        return this.focus();
+        this.end.lines = lines;
+        showLines(this.parts.looked, lines, upload.from);
+        const alert = same === null && upload.offset > 0 ? texts.isItSame(file.name, file.size, file.lastModified) : "";
+        this.turn("taken", { text: texts.stopped(upload.offset, upload.size), alert });
+        return this.view.focus();
     }
 
-    /** Deletes what is stored, and lets a label be chosen anew; without the file it leaves the page. */
+    // Deleting.
+
+    /** Deletes what is stored once that was answered with yes, and lets a label be chosen anew. */
+    deletes() {
+        const does = () => this.deleted();
+        return this.upload.offset === 0 ? does()
+            : this.view.asks(texts.sure(this.name), texts.delete, texts.keepIt, does);
+    }
+
+    async deleted() {
+        this.turn("deleting", { text: texts.deleting });
+        try {
+            await remove(this.upload.url);
+        } catch (error) {
+            const why = isForbidden(error.status) ? texts.undeletableHere : whyOf(error);
+            return this.turn("undeleted", { text: texts.afterUndeleted, alert: texts.undeletable(why) });
+        }
+        return this.startAnew();
+    }
+
+    /** Forgets the upload, and lets a label be chosen anew. Without the file the card leaves the page. */
     async startAnew() {
-        let notice = "";
         if (this.upload) {
-            try {
-                await (this.gone ? null : remove(this.upload.url));
-            } catch (error) {
-                if (error instanceof Lost) {
-                    return this.alert(texts.lostLine);
-                }
-                notice = texts.undeletable;
-            }
-            forget(this.upload);
-            Object.assign(this, { upload: null, quarter: 0, gone: false });
+            this.page.store.forget(this.upload);
         }
         if (!this.file) {
-            this.alert(notice);
-            return notice ? this.tell("", "quit") : this.page.leaves(this);
+            return this.page.leaves(this);
         }
-        await this.look(notice);
-        return this.focus();
+        this.upload = null;
+        await this.look("");
+        return this.view.focus();
     }
-
-    // The end.
-
-    async finish(outcome) {
-        this.upload.done = outcome;
-        this.remember();
-        if (outcome === "complete") {
-            this.turns(() => this.tell(texts.reads));
-            await this.read();
-        }
-        this.turns(() => this.showEnd());
-    }
-
-    /** Reads the stored text back, as far as the server lets. */
-    async read() {
-        try {
-            const reply = await textOf(this.upload.url);
-            const { head, ...counts } = await readStored(reply, this.upload.to);
-            this.upload.counts = counts;
-            this.storedLines = linesOf(head);
-        } catch (error) {
-            this.upload.unread = error instanceof Refusal ? error.status : 0;
-        }
-        this.remember();
-    }
-
-    showEnd() {
-        const { upload, parts } = this;
-        const lines = this.storedLines ?? this.made?.lines ?? this.lines;
-        this.alert("");
-        this.show("end");
-        parts.verdict.textContent = upload.done === "taken" ? texts.taken : texts.complete;
-        put(parts.counts, this.countsOf(upload));
-        put(parts["end-note"], upload.counts ? texts.noCount : "");
-        put(parts["stored-title"], lines ? (this.storedLines ? texts.stored : texts.previewed) : "");
-        parts.stored.hidden = !lines;
-        showLines(parts.stored, lines ?? []);
-        put(parts.link, upload.done === "taken" || isForbidden(upload.unread) ? "" : texts.link(this.name));
-        parts.link.href = upload.url;
-        parts.wrong.hidden = upload.done === "taken";
-        this.says(parts.verdict.textContent);
-    }
-
-    countsOf({ counts, unread, to }) {
-        if (!counts) {
-            return isForbidden(unread) ? texts.forbidden : unread === 0 ? texts.noText : "";
-        }
-        const references = to === "UTF-8" || counts.references === 0 ? "" : texts.references(counts.references);
-        return `${texts.lostAtEnd(counts.lost, counts.chars)} ${references}`;
-    }
-}
-
-/** Whether an upload can't be there any more. */
-function isGone(error) {
-    return error instanceof Another || error.number === 8;
-}
-
-function isForbidden(status) {
-    return status === 401 || status === 403 || status === 405;
-}
-
-function randomKey() {
-    return Array.from(crypto.getRandomValues(new Uint8Array(12)), (it) => it.toString(16).padStart(2, "0")).join("");
-}
-
-/** Why something stopped, and what to do. */
-function whyOf(error) {
-    if (error instanceof Lost) {
-        return texts.lostLine;
-    }
-    if (error instanceof Another) {
-        return texts.another;
-    }
-    if (error instanceof Unreadable) {
-        return texts.changedFile;
-    }
-    const { status, number } = error;
-    return status === undefined ? String(error)
-        : (texts.refusals[number] ?? texts.statuses[status] ?? texts.unknown(status, number));
 }

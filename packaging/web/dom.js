@@ -1,5 +1,6 @@
 // Helpers over the document: texts into their places, copies of templates, and lines with their marks.
 
+import { LANGUAGES } from "./labels.js";
 import { texts } from "./texts.js";
 
 /** Fills in the texts of a page or a part of it. */
@@ -13,8 +14,12 @@ export function fill(root) {
 export function made(id) {
     const element = document.getElementById(id).content.firstElementChild.cloneNode(true);
     fill(element);
-    const parts = Array.from(element.querySelectorAll("[data-part]"), (it) => [it.dataset.part, it]);
-    return { element, parts: Object.fromEntries(parts) };
+    return { element, parts: partsOf(element) };
+}
+
+/** The parts of an element by their names. */
+export function partsOf(element) {
+    return Object.fromEntries(Array.from(element.querySelectorAll("[data-part]"), (it) => [it.dataset.part, it]));
 }
 
 /** Shows a text, or hides its element where there is none. */
@@ -27,8 +32,10 @@ export function fillSelect(select, names, chosen) {
     select.replaceChildren(...names.map((it) => new Option(it, it, false, it === chosen)));
 }
 
-/** Shows lines: what is lost or can't be seen is marked, for the eye and for a screen reader. */
-export function showLines(element, lines) {
+/** Shows lines of an encoding: what is lost or can't be seen is marked, for the eye and for a screen reader. */
+export function showLines(element, lines, encoding) {
+    // Where it may be any language, it isn't the page's.
+    element.lang = LANGUAGES[encoding] ?? "";
     const shown = lines.map((line) => (line === null ? [marked("gap", "⋯", texts.leftOut)] : line.map(runOf)));
     element.replaceChildren(...shown.flatMap((line, place) => (place === 0 ? line : ["\n", ...line])));
 }

@@ -10,6 +10,13 @@ export const ENCODINGS = [
 /** Those that a stored text may have: by the standard nothing is encoded as UTF-16. */
 export const OUTPUTS = ENCODINGS.filter((it) => !it.startsWith("UTF-16"));
 
+/** The languages of encodings that have mostly one, so that a screen reader reads their lines as such. */
+export const LANGUAGES = {
+    "Shift_JIS": "ja", "EUC-JP": "ja", "ISO-2022-JP": "ja", "IBM866": "ru", "ISO-8859-5": "ru", "KOI8-R": "ru",
+    "windows-1251": "ru", "windows-1253": "el", "windows-1254": "tr", "windows-1255": "he", "windows-1256": "ar",
+    "windows-1258": "vi",
+};
+
 const MARKS = { "UTF-8": [0xef, 0xbb, 0xbf], "UTF-16BE": [0xfe, 0xff], "UTF-16LE": [0xff, 0xfe] };
 // What a lost character and a control or private one add to a text's strangeness; a strange neighbour adds 1.
 const LOST = 20;

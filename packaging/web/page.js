@@ -1,17 +1,30 @@
 // The page: files that are chosen or dropped, and the uploads that were begun here before. Each has a card.
 
 import { Card } from "./card.js";
-import { fill } from "./dom.js";
-import { hasChanged, isFileOf, remembered } from "./store.js";
+import { fill, partsOf } from "./dom.js";
+import { List } from "./list.js";
+import { onFailure } from "./looks.js";
+import { isSame, printOf } from "./prints.js";
+import { Queue } from "./queue.js";
+import { Store, hasChanged, isFileOf } from "./store.js";
 import { texts } from "./texts.js";
 
+// How many files are sent at once: more would share a slow line until no piece comes through.
+const AT_ONCE = 2;
+// Of more files than so many that are chosen together few lines are shown at first.
+const UNFOLDED = 4;
 const cards = [];
 const files = document.getElementById("files");
-const list = document.getElementById("cards");
+const parts = partsOf(document.getElementById("list"));
 const says = document.getElementById("says");
+// Without a name and a password, which a page's own address may have.
+const here = location.origin + location.pathname;
+const endpoint = new URL(document.querySelector("meta[name=endpoint]").content, here).href;
 
 const page = {
-    endpoint: new URL(document.querySelector("meta[name=endpoint]").content, location.href).href,
+    endpoint,
+    store: new Store(endpoint),
+    queue: new Queue(AT_ONCE),
 
     /** Says something to a screen reader. */
     says(what) {
@@ -23,11 +36,27 @@ const page = {
         files.click();
     },
 
+    /** A card has another state. */
+    turned() {
+        list.changed();
+    },
+
+    /** All of a card's file is on the server: scripts beside the page's may listen to that. */
+    sent({ upload: { url, file, size, from, to } }) {
+        document.dispatchEvent(new CustomEvent("wovelatsa:done", { detail: { url, file, size, from, to } }));
+    },
+
     leaves(card) {
-        cards.splice(cards.indexOf(card), 1);
-        card.element.remove();
-        showTitle();
-        files.focus();
+        const place = cards.indexOf(card);
+        if (place >= 0) {
+            cards.splice(place, 1);
+            const had = card.view.element.contains(document.activeElement);
+            card.view.element.remove();
+            list.changed();
+            if (had) {
+                files.focus();
+            }
+        }
     },
 
     cannotRemember() {
@@ -35,45 +64,59 @@ const page = {
     },
 };
 
-function add(card, isFirst) {
-    cards.push(card);
-    list[isFirst ? "prepend" : "append"](card.element);
-    showTitle();
-}
+const list = new List(parts, cards, page.store);
 
-function showTitle() {
-    document.getElementById("list-title").hidden = cards.length === 0;
+function add(card, isFirst) {
+    cards[isFirst ? "unshift" : "push"](card);
+    parts.cards[isFirst ? "prepend" : "append"](card.view.element);
 }
 
 /** Takes a file: to the card that has it or waits for it, or to one of its own. */
-function take(file) {
+async function take(file, isFolded) {
     const known = cards.find((it) => it.has(file));
-    if (known) {
-        return known.file ? known : (known.take(file), known);
+    if (known && !known.file) {
+        known.take(file);
+        return known;
+    }
+    if (known && (await areSame(known.file, file))) {
+        return known;
     }
     const card = new Card(page, file, null);
-    const notice = noticeOf(file);
+    const notice = known ? texts.twin : noticeOf(file);
     add(card, true);
+    card.view.isFolded = isFolded;
+    card.view.mayFold = isFolded;
     card.look(notice);
     return card;
 }
 
-/** What is to be known of a file that was sent before, or changed since a part of it was. */
-function noticeOf(file) {
-    const uploads = cards.map((it) => it.upload).filter((it) => it);
-    const done = uploads.find((it) => it.done && isFileOf(it, file));
-    const old = uploads.find((it) => !it.done && hasChanged(it, file));
-    return done ? texts.already(done.begun) : old ? texts.changed(old.begun) : "";
+/** Whether two files of the same name, size and time are the same. Where that can't be told, each has its card. */
+async function areSame(one, other) {
+    try {
+        return one.size === 0 || (await isSame(other, await printOf(one, one.size))) === true;
+    } catch {
+        return false;
+    }
 }
 
-function takeAll(chosen) {
+/** What is to be known of a file that was sent before, or changed since a part of it was. */
+function noticeOf(file) {
+    const done = cards.find((it) => it.end.isReached && isFileOf(it.upload, file));
+    const old = cards.find((it) => it.upload && !it.end.isReached && hasChanged(it.upload, file));
+    return done ? texts.already(done.upload.begun) : old ? texts.changed(old.upload.begun) : "";
+}
+
+async function takeAll(chosen) {
+    let last = null;
     // Each new card goes to the top, and so the last file first.
-    const taken = Array.from(chosen).reverse().map(take);
-    taken.at(-1)?.focus();
+    for (const file of chosen.reverse()) {
+        last = await take(file, chosen.length > UNFOLDED);
+    }
+    last?.view.focus();
 }
 
 files.addEventListener("change", () => {
-    takeAll(files.files);
+    takeAll(Array.from(files.files));
     // The same file may be chosen once more.
     files.value = "";
 });
@@ -89,14 +132,27 @@ document.addEventListener("dragleave", (event) => {
 document.addEventListener("drop", (event) => {
     event.preventDefault();
     document.body.classList.remove("over");
-    takeAll(event.dataTransfer.files);
+    takeAll(Array.from(event.dataTransfer.files));
+});
+addEventListener("beforeunload", (event) => {
+    if (cards.some((it) => it.isSending)) {
+        event.preventDefault();
+    }
 });
 
+onFailure(() => {
+    document.getElementById("not-begun").hidden = false;
+});
 document.documentElement.lang = texts.language;
+document.documentElement.dir = texts.direction;
 document.title = texts.title;
 fill(document);
-for (const upload of remembered()) {
+const uploads = page.store.uploads();
+for (const upload of uploads) {
     const card = new Card(page, null, upload);
     add(card, false);
+    card.view.mayFold = uploads.length > UNFOLDED;
+    card.view.isFolded = card.view.mayFold;
     card.ask();
 }
+document.getElementById("not-begun").hidden = true;

@@ -1,26 +1,62 @@
 // What of a file is looked at before it is sent, and how a text is shown: its telling lines, with marks. No DOM.
 
-const SAMPLE = 1 << 20;
+// How much is looked at to choose a label, how much once one is chosen, and what is read at once to find it.
+const SAMPLE = 1 << 17;
+const WIDER = 1 << 20;
+// How much is shown before the first character that isn't ASCII.
+const LEAD = 1 << 10;
 // How many lines a preview has: the first ones, and then those that have more than ASCII.
 const FIRST = 3;
 const TELLING = 6;
+const FEW = 2;
 const COLUMNS = 120;
 const RUNS = /\ufffd+|[\0-\x08\x0b-\x1f\x7f-\x9f\u202a-\u202e\u2066-\u2069\ufeff]+/g;
 
-/** The first MiB of a file that has more than plain ASCII, or its first one: which label is right shows only there. */
-export async function sampleOf(file) {
-    for (let from = 0; from < file.size; from += SAMPLE) {
-        const bytes = new Uint8Array(await file.slice(from, from + SAMPLE).arrayBuffer());
-        if (!bytes.every(isPlain)) {
-            return { bytes, start: from === 0, end: from + bytes.length === file.size };
+/**
+ * Some bytes of a file, from a bit before the first that is more than plain ASCII: which label is right shows only
+ * there, and before it every byte begins a character. `moves` is told how far it is looked for, of 1.
+ */
+export async function sampleOf(file, moves) {
+    for (let from = 0; from < file.size; from += WIDER) {
+        const place = tellingIn(await bytesOf(file, from, WIDER));
+        if (place >= 0) {
+            return sampleAt(file, from + place < SAMPLE / 2 ? 0 : from + place - LEAD, SAMPLE);
         }
+        moves?.(Math.min(1, (from + WIDER) / file.size));
     }
-    const bytes = new Uint8Array(await file.slice(0, SAMPLE).arrayBuffer());
-    return { bytes, start: true, end: bytes.length === file.size };
+    return sampleAt(file, 0, SAMPLE);
 }
 
-function isPlain(byte) {
-    return (byte >= 0x20 && byte < 0x7f) || byte === 0x0a || byte === 0x0d || byte === 0x09;
+/** More of a file, from where a sample begins. */
+export async function widerOf(file, sample) {
+    return sample.end ? sample : sampleAt(file, sample.from, WIDER);
+}
+
+async function sampleAt(file, from, size) {
+    const bytes = await bytesOf(file, from, size);
+    return { bytes, from, start: from === 0, end: from + bytes.length === file.size };
+}
+
+async function bytesOf(file, from, size) {
+    return new Uint8Array(await file.slice(from, from + size).arrayBuffer());
+}
+
+/** Where the first byte is that isn't plain ASCII, or -1. */
+function tellingIn(bytes) {
+    for (let place = 0; place < bytes.length; place += 1) {
+        const byte = bytes[place];
+        if (byte > 0x7e || (byte < 0x20 && byte !== 0x09 && byte !== 0x0a && byte !== 0x0d)) {
+            return place;
+        }
+    }
+    return -1;
+}
+
+/** The lines of a preview that say most: those that tell, or else the first ones. */
+export function fewOf(lines) {
+    const some = lines.filter((line) => line !== null && line.length > 0);
+    const telling = some.filter((line) => line.some((it) => /[^\t\x20-\x7e]/.test(it.text)));
+    return (telling.length > 0 ? telling : some).slice(0, FEW);
 }
 
 /**

@@ -45,3 +45,12 @@ function japaneseCodes() {
     }
     return Uint8Array.from(codes);
 }
+
+/** About how many bytes a text has in an encoding, with a byte for each reference. */
+export function storedSize(name, text) {
+    if (name === "UTF-8") {
+        return new TextEncoder().encode(text).length;
+    }
+    const isJapanese = ["Shift_JIS", "EUC-JP", "ISO-2022-JP"].includes(name);
+    return text.length + (isJapanese ? (text.match(/[^\0-\x7f]/g) ?? []).length : 0);
+}

@@ -1,37 +1,68 @@
 // What is remembered over a reload and after the machine was off: of each upload its URL, metadata, label and names,
-// and the size and the time of its file. The bytes aren't: the file has to be chosen again.
+// how far it is, and of its file the size, the time and two digests. The bytes aren't: the file has to be chosen again.
 
-const PREFIX = "wovelatsa ";
+/** What is remembered for one endpoint. Other pages of the same origin have their own. */
+export class Store {
+    constructor(endpoint) {
+        this.prefix = `wovelatsa ${endpoint} `;
+    }
 
-/** The uploads that were begun here and not ended, the oldest first. */
-export function remembered() {
-    try {
-        const keys = Object.keys(localStorage).filter((it) => it.startsWith(PREFIX));
-        return keys.map((it) => JSON.parse(localStorage.getItem(it))).sort((one, other) => one.begun - other.begun);
-    } catch {
-        return [];
+    keys() {
+        return Object.keys(localStorage).filter((it) => it.startsWith(this.prefix));
+    }
+
+    /** The uploads that were begun here, the newest first. An entry that can't be read hides no other one. */
+    uploads() {
+        try {
+            const found = this.keys().map((it) => parsed(localStorage.getItem(it)));
+            return found.filter((it) => it !== null).sort((one, other) => other.begun - one.begun);
+        } catch {
+            return [];
+        }
+    }
+
+    /** Remembers an upload: whether the browser lets a page do so. */
+    keep(upload) {
+        try {
+            localStorage.setItem(this.prefix + upload.url, JSON.stringify(upload));
+            return true;
+        } catch {
+            return false;
+        }
+    }
+
+    forget(upload) {
+        try {
+            localStorage.removeItem(this.prefix + upload.url);
+        } catch {
+            // Nothing was remembered.
+        }
+    }
+
+    forgetAll() {
+        try {
+            this.keys().forEach((it) => localStorage.removeItem(it));
+        } catch {
+            // Nothing was remembered.
+        }
     }
 }
 
-/** Remembers an upload: whether the browser lets a page do so. */
-export function remember(upload) {
+const TEXTS = ["url", "metadata", "from", "to", "file"];
+const NUMBERS = ["size", "time", "begun", "offset"];
+
+/** An entry, if it is one of an upload. */
+function parsed(entry) {
     try {
-        localStorage.setItem(PREFIX + upload.url, JSON.stringify(upload));
-        return true;
+        const it = JSON.parse(entry);
+        const whole = TEXTS.every((name) => typeof it[name] === "string") && NUMBERS.every((name) => it[name] >= 0);
+        return whole ? it : null;
     } catch {
-        return false;
+        return null;
     }
 }
 
-export function forget(upload) {
-    try {
-        localStorage.removeItem(PREFIX + upload.url);
-    } catch {
-        // Nothing was remembered.
-    }
-}
-
-/** Whether a file is the one of an upload: if its size or time is another, it has changed. */
+/** Whether a file is the one of an upload, as far as its name, size and time say. */
 export function isFileOf(upload, file) {
     return upload.file === file.name && upload.size === file.size && upload.time === file.lastModified;
 }

@@ -6,25 +6,25 @@ import { losses } from "./labels.js";
 const KEPT = 1 << 20;
 
 /**
- * Reads a reply to its end: the first characters of the text, how many characters there are, how many of them are signs
- * of a loss (U+FFFD, or its reference where the encoding lacks it), and how many references there are.
+ * Reads the parts of a reply to their end: the first characters of the text, how many characters there are, how many of
+ * them are signs of a loss (U+FFFD, or its reference where the encoding lacks it), and how many references there are.
+ * `moves` is told how many bytes came.
  */
-export async function readStored(reply, name) {
+export async function readStored(parts, name, moves) {
     const decoder = new TextDecoder(name, { ignoreBOM: true });
     const found = { head: "", chars: 0, lost: 0, references: 0 };
-    const reader = reply.body.getReader();
-    let rest = "";
-    for (;;) {
-        const { done, value } = await reader.read();
-        const text = rest + decoder.decode(value, { stream: !done });
-        // A reference may go over two pieces.
-        const cut = done ? -1 : text.search(/&(#\d{0,7})?$/);
+    let [rest, bytes] = ["", 0];
+    for await (const part of parts) {
+        const text = rest + decoder.decode(part, { stream: true });
+        // A reference may go over two parts.
+        const cut = text.search(/&(#\d{0,7})?$/);
         rest = cut < 0 ? "" : text.slice(cut);
         count(found, cut < 0 ? text : text.slice(0, cut));
-        if (done) {
-            return found;
-        }
+        bytes += part.length;
+        moves?.(bytes);
     }
+    count(found, rest + decoder.decode());
+    return found;
 }
 
 function count(found, text) {

@@ -1,26 +1,20 @@
-// The protocol part: tus 1.0.0 as the gateway speaks it (docs/PROTOCOL.md), by `fetch` alone. It knows nothing of a
-// page, so it may be taken as an example of a client.
+// The protocol part: tus 1.0.0 as the gateway speaks it (docs/PROTOCOL.md). It knows nothing of a page, so it may be
+// taken as an example of a client.
 
-/** How many bytes one PATCH has. What is acknowledged is on the gateway's disk, and a PATCH is at its end. */
-export const PIECE = 1_000_000;
+import { Lost, Stranger, ask, patch, watched } from "./requests.js";
+
+export { Lost, Refusal, Stranger } from "./requests.js";
+
+/**
+ * How many bytes one PATCH has: at first the most, less after one whose reply didn't come, more after one that took
+ * less than `quick` milliseconds. What is acknowledged is on the gateway's disk, and a PATCH is at its end.
+ */
+export const pieces = { most: 1_000_000, least: 64_000, quick: 10_000 };
 
 const TUS = { "Tus-Resumable": "1.0.0" };
-// The statuses that a proxy gives if the gateway is away or the proxy has too much to do: they pass.
-const PASSING = [408, 425, 429, 502, 503, 504];
-// A request without a reply for so long was lost. It is the time of a piece over a line of 30 kbit/s.
-const PATIENCE = 300_000;
 const LONGEST_WAIT = 30_000;
-
-/** The server refused: its status, and the gateway's number (`X-Refusal`), which is 0 if a proxy refused. */
-export class Refusal extends Error {
-    constructor(status, number = 0) {
-        super(`status ${status}, refusal ${number}`);
-        Object.assign(this, { status, number });
-    }
-}
-
-/** No reply came, or one that says that the gateway is away for now. */
-export class Lost extends Error {}
+// After so many refusals with 409, and nothing stored in between, somebody else sends the same upload.
+const OVERTAKEN = 5;
 
 /** Under this URL is another upload than the one that was begun. */
 export class Another extends Error {}
@@ -47,12 +41,16 @@ export async function create(endpoint, size, metadata, signal, waits) {
     for (let failures = 0; ; failures += 1) {
         try {
             const reply = await ask("POST", endpoint, { headers, signal });
-            return new URL(reply.headers.get("Location") ?? refuse(reply), endpoint).href;
+            const place = reply.headers.get("Location");
+            if (place === null) {
+                throw new Stranger("no Location");
+            }
+            return new URL(place, endpoint).href;
         } catch (error) {
             if (!passes(error)) {
                 throw error;
             }
-            await waits(waitAfter(failures));
+            await waits(waitAfter(failures), error, failures);
             signal.throwIfAborted();
         }
     }
@@ -68,51 +66,77 @@ export async function stateOf(url, signal) {
     };
 }
 
-/** Deletes an upload. That there is none is as good. */
+/** Deletes an upload. That the gateway has none is as good. */
 export async function remove(url) {
     try {
         await ask("DELETE", url, { headers: TUS });
     } catch (error) {
-        if (error.status !== 404) {
+        if (error.number !== 8) {
             throw error;
         }
     }
 }
 
-/** Asks for the stored text: a reply whose body is to be read. */
-export function textOf(url, signal) {
-    return ask("GET", url, { signal });
+/** Asks for the stored text: a reply, and the parts of its body, each of which has to come before a silence. */
+export async function textOf(url, signal) {
+    const watch = watched(signal);
+    const reply = await ask("GET", url, { watch });
+    return { reply, parts: partsOf(reply, watch) };
+}
+
+async function* partsOf(reply, watch) {
+    const reader = reply.body.getReader();
+    try {
+        for (;;) {
+            const { done, value } = await reader.read();
+            watch.moved();
+            if (done) {
+                return;
+            }
+            yield value;
+        }
+    } catch (error) {
+        throw watch.why(error);
+    } finally {
+        watch.stop();
+        reader.cancel().catch(() => {});
+    }
 }
 
 /**
  * Sends a file's bytes to an upload, from where it is to its end, and goes on after each cut until `signal` ends it.
- * Returns `complete`, or `taken` if the last byte was sent, its reply was lost, and the upload is gone since: whoever
- * takes texts out has it.
+ * Returns `complete`, or `perhaps` if the last byte was sent and the upload is gone since: it was taken out, or it
+ * never came whole, and nobody can tell here which.
  *
- * `upload` has the `url`, and the `metadata` that it was made with; its field `last` is whether the last byte may have
- * been sent. `told.stored` is called with each offset that the gateway acknowledged, `told.changed` when `last` has
- * changed and is to be remembered, and `told.waits` with a number of milliseconds, after which its promise is kept.
+ * `upload` has the `url`, the `metadata` that it was made with, and `last`, which is to be remembered: null, `sent`
+ * once the last byte may have left, and `acknowledged` once the gateway said that it has it. `told.stored` is called
+ * with each offset that was acknowledged and the piece sent last (`from`, `bytes`), and is awaited; `told.changed` when
+ * `last` has changed; `told.reads` between the reading of a piece and its sending, and is awaited; `told.moves` with
+ * how many bytes have left of those behind the offset; and `told.waits` with a number of milliseconds, why, and how
+ * many failures there were before: its promise is kept when it is time.
  */
 export async function send(upload, file, signal, told) {
-    let [offset, failures] = [null, 0];
-    for (;;) {
+    const course = { offset: null, piece: pieces.most, sent: null };
+    for (let [failures, overtaken] = [0, 0]; ;) {
         try {
-            offset ??= await goingOn(upload, file, signal);
-            told.stored(offset);
-            if (offset === file.size) {
+            course.offset ??= await goingOn(upload, file, signal);
+            upload.last = course.offset === file.size ? "acknowledged" : upload.last;
+            await told.stored(course.offset, course.sent);
+            if (course.offset === file.size) {
                 return "complete";
             }
-            offset = await sendPiece(upload, file, offset, signal, told);
-            failures = 0;
+            course.offset = await sendPiece(upload, file, course, signal, told);
+            [failures, overtaken] = [0, 0];
         } catch (error) {
             if (error.number === 8 && upload.last) {
-                return "taken";
+                return "perhaps";
             }
-            if (!passes(error)) {
+            overtaken += error.status === 409 ? 1 : 0;
+            if (!passes(error) || overtaken === OVERTAKEN) {
                 throw error;
             }
-            offset = null;
-            await told.waits(waitAfter(failures));
+            course.offset = null;
+            await told.waits(waitAfter(failures), error, failures);
             signal.throwIfAborted();
             failures += 1;
         }
@@ -139,26 +163,36 @@ async function goingOn(upload, file, signal) {
 }
 
 /** Sends the next piece: the offset behind it. */
-async function sendPiece(upload, file, offset, signal, told) {
-    const end = Math.min(offset + PIECE, file.size);
-    const body = await pieceOf(file, offset, end);
-    setLast(upload, end === file.size, told);
+async function sendPiece(upload, file, course, signal, told) {
+    const { offset } = course;
+    const end = Math.min(offset + course.piece, file.size);
+    course.sent = { from: offset, bytes: await pieceOf(file, offset, end) };
+    await told.reads?.();
+    const before = upload.last;
+    setLast(upload, end === file.size ? "sent" : before, told);
+    const began = performance.now();
     try {
         const headers = { ...TUS, "Content-Type": "application/offset+octet-stream", "Upload-Offset": String(offset) };
-        const reply = await ask("PATCH", upload.url, { headers, body, signal });
+        const reply = await patch(upload.url, headers, course.sent.bytes, signal, told.moves);
         const reached = Number(reply.headers.get("Upload-Offset"));
         if (reached > offset) {
+            course.piece = performance.now() - began < pieces.quick ? bounded(2 * course.piece) : course.piece;
             return reached;
         }
         // Something on the way took the body off.
         throw new Lost(`${reached} after ${offset}`);
     } catch (error) {
-        // A refusal changes nothing, so the last byte doesn't count.
-        if (error instanceof Refusal) {
-            setLast(upload, false, told);
+        // A refusal of the gateway's changes nothing, so this piece's last byte doesn't count.
+        if (error.number > 0) {
+            setLast(upload, before, told);
         }
+        course.piece = error instanceof Lost && error.status === null ? bounded(course.piece / 2) : course.piece;
         throw error;
     }
+}
+
+function bounded(size) {
+    return Math.max(pieces.least, Math.min(pieces.most, Math.ceil(size)));
 }
 
 function setLast(upload, last, told) {
@@ -180,25 +214,4 @@ async function pieceOf(file, from, end) {
         throw new Unreadable(`${bytes.byteLength} bytes at ${from}`);
     }
     return bytes;
-}
-
-/** The reply to a request. Another one than a success is thrown. */
-async function ask(method, url, { headers = {}, body, signal }) {
-    const limit = AbortSignal.timeout(PATIENCE);
-    const ends = method === "GET" ? signal : AbortSignal.any(signal ? [signal, limit] : [limit]);
-    let reply;
-    try {
-        reply = await fetch(url, { method, headers, body, signal: ends, cache: "no-store", redirect: "manual" });
-    } catch (error) {
-        signal?.throwIfAborted();
-        throw new Lost(error.message);
-    }
-    if (PASSING.includes(reply.status)) {
-        throw new Lost(`status ${reply.status}`);
-    }
-    return reply.ok ? reply : refuse(reply);
-}
-
-function refuse(reply) {
-    throw new Refusal(reply.status, Number(reply.headers.get("X-Refusal") ?? 0));
 }

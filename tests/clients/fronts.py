@@ -196,7 +196,9 @@ def for_browsers(rng, folder):
         client.ask(204, "PATCH", path, {**OCTETS, **ALONG, "Upload-Offset": "0"}, sample.data)
         hidden = {**TUS, "X-HTTP-Method-Override": "DELETE"}
         same("the status of a DELETE by its other name", client.status("POST", path, hidden), 405)
-        same("the text", client.ask(200, "GET", path, ALONG)[1], sample.text)
+        same("the text", Client(PORTS["a"]).text(path), sample.text)
+        closed = [client.status(method, path, {**TUS, **ALONG}) for method in ("GET", "DELETE")]
+        same("the statuses of GET and DELETE", closed, [403, 403])
         for metadata in ({}, {"Upload-Metadata": "filename ZnJvbQ==,fromage YQ=="}):
             unlabelled = client.status("POST", "/files", {**TUS, **metadata, "Upload-Length": "1"})
             same(f"the status of a POST with {metadata}", unlabelled, 400)

@@ -1,248 +1,39 @@
 """The page that uploads (packaging/web), by a headless chromium through nginx with the sample for browsers.
 
-usage: page.py [--program PATH] [--indexes DIR] [--seed N] [--pictures DIR]
+usage: page.py [--program PATH] [--indexes DIR] [--seed N] [--pictures DIR] [--cases NAME..]
 
 It needs chromium and nginx, and the ports 8081 and 8088. A text in each of the 21 encodings is sent under the label
 that is chosen by its lines, and the stored text compared byte for byte; so is every other one. In between: a piece that
 ends within a character, the gateway killed and started again, a reload, a browser that was ended, two files at once,
 another client that is faster, an upload that is gone, a spool that is full, a character that the encoding lacks, a
 wrong label seen beforehand and seen at the end, a file that has changed, a proxy that forbids reading, the keyboard
-alone. Each state fits a window of 360 pixels and has no fault of the page's policy; `--pictures` keeps a picture of
-each, wide and narrow.
+alone. `edges.py` has what goes wrong elsewhere: a page to sign in, a password, a text that stops coming, a silent
+server, a browser's memory that is broken or full, files of one name, no digests, two windows, twelve files over a
+slow line, six under kills, clean-ups beside clients, a spool that is put back from a copy, files that are too large.
+Each state fits a window of 360 pixels and has no fault of the page's policy; `--pictures` keeps a picture of each, wide
+and narrow. Without chromium or nginx nothing is tried. What of the page needs no document is tried by `node --test
+tests/clients/web/`.
 """
 
-import base64
+import crypt
 import json
-import os
 import re
 import tempfile
 import time
 from pathlib import Path
+from urllib.parse import quote
 
 import browser
-from harness import ENCODINGS, OCTETS, ROOT, Client, Sample, encoded, format_spool, holds, indexes_in, memory, parser_of
-from harness import random_sample, repertoire, rng_of, same
+from edges import EDGES
+from harness import ENCODINGS, ROOT, Sample, encoded, format_spool, holds, indexes_in, memory, parser_of, random_sample
+from harness import rng_of, same
 from proxies import FRONT, NGINX, PORTS, Instance, Nginx, has
+from shown import PIECE, RUSSIAN, Place, Shown, japanese
 
-URL = f"http://127.0.0.1:{FRONT}/page/"
 INSTALLED = "/usr/share/wovelatsa/web/"
-# Where the sample is changed to forbid reading.
-SIZE, FORBIDS = "        client_max_body_size    8m;", "        limit_except POST PATCH HEAD OPTIONS { deny all; }\n"
-PIECE, BLOCKS, SLOTS = 1_000_000, 2048, 512
-WIDE, NARROW = (860, 900), (360, 740)
-# How long things may take, in seconds.
-PATIENCE = 60
-RUSSIAN = "Съешь ещё этих мягких французских булок, да выпей чаю.\nШирокая электрификация южных губерний.\n"
-# What each document has before its own scripts: its faults, the statuses that it got, how many pieces it may still
-# send, its cards and their parts.
-HELPERS = """
-window.faults = [];
-window.statuses = [];
-window.left = Infinity;
-window.waiting = [];
-const asked = fetch;
-const turn = async signal => {
-    while (left <= 0) {
-        await new Promise((go, stop) => {
-            waiting.push(go);
-            signal?.addEventListener("abort", () => stop(signal.reason));
-        });
-    }
-    left -= 1;
-};
-window.fetch = async (url, words) => {
-    if (words?.method === "PATCH") await turn(words.signal);
-    const reply = await asked(url, words);
-    statuses.push(reply.status);
-    return reply;
-};
-addEventListener("securitypolicyviolation", it => faults.push(it.violatedDirective + " " + it.blockedURI));
-addEventListener("error", it => faults.push(it.message));
-addEventListener("unhandledrejection", it => faults.push(String(it.reason)));
-window.card = name => [...document.querySelectorAll("article")].find(it => it.querySelector("h3").textContent === name);
-window.part = (name, what) => card(name)?.querySelector(`[data-part="${what}"]`);
-window.seen = it => it && it.checkVisibility() ? it.innerText : "";
-window.namesOf = it => [it.querySelector("b").textContent,
-    ...it.querySelector(".note").textContent.replace("the same text as ", "").split(";")[0].split(", ")];
-window.choices = name => [...card(name).querySelectorAll(".choice")];
-window.choiceOf = (name, label) => choices(name).find(it => namesOf(it).some(one => one.toLowerCase() === label));
-"""
-
-
-class Shown(browser.Browser):
-    """The page in a browser of its own, whose profile is in a folder."""
-
-    def __init__(self, folder, pictures=None):
-        super().__init__(folder, URL)
-        self.pictures, self.states = pictures, 0
-        for domain in ("Page", "Network", "DOM"):
-            self.call(f"{domain}.enable")
-        self.call("Page.addScriptToEvaluateOnNewDocument", source=HELPERS)
-        self.call("Emulation.setScrollbarsHidden", hidden=True)
-        self.sized(*WIDE)
-        self.load()
-
-    def load(self):
-        """Loads the page anew."""
-        self.value("window.old = true")
-        self.call("Page.reload")
-        self.until("a new document", "window.old === undefined && document.readyState === 'complete' && window.card")
-
-    def end(self):
-        """Ends the browser in order, as a machine that is switched off does."""
-        self.session, command = {}, {"id": 0, "method": "Browser.close"}
-        os.write(self.commands, json.dumps(command).encode() + b"\0")
-        self.process.wait(PATIENCE)
-        os.close(self.commands)
-        os.close(self.answers)
-
-    def sized(self, width, height):
-        words = {"width": width, "height": height, "deviceScaleFactor": 1, "mobile": False}
-        self.call("Emulation.setDeviceMetricsOverride", **words)
-
-    def until(self, what, script):
-        """Waits until a script is true."""
-        end = time.monotonic() + PATIENCE
-        while not self.value(f"Boolean({script})"):
-            if time.monotonic() > end:
-                holds(f"{what}: not within {PATIENCE} s; {self.value('document.body?.innerText')}", False)
-            time.sleep(0.05)
-
-    def choose(self, *paths):
-        """Chooses files, as by the page's own button."""
-        found = self.call("Runtime.evaluate", expression="document.getElementById('files')")["result"]["objectId"]
-        self.call("DOM.setFileInputFiles", files=[str(it) for it in paths], objectId=found)
-
-    def drop(self, name, data):
-        """Drops a file onto the page."""
-        file = f"new File([Uint8Array.from({json.dumps(list(data))})], {json.dumps(name)})"
-        event = "new DragEvent('drop', {dataTransfer: data, bubbles: true, cancelable: true})"
-        self.value(f"(data => (data.items.add({file}), document.body.dispatchEvent({event})))(new DataTransfer())")
-
-    def says(self, name, what, pattern):
-        """Waits until a part of a file's card shows a text, and returns it."""
-        words = f"seen(part({json.dumps(name)}, '{what}'))"
-        self.until(f"{name}: {what} {pattern}", f"new RegExp({json.dumps(pattern)}).test({words})")
-        return self.value(words)
-
-    def shows(self, name, what):
-        return self.value(f"seen(part({json.dumps(name)}, '{what}'))")
-
-    def press(self, name, what):
-        self.until(f"{name}: {what}", f"part({json.dumps(name)}, '{what}')?.checkVisibility()")
-        self.value(f"part({json.dumps(name)}, '{what}').click()")
-
-    def select(self, name, what, value):
-        words = f"(it => {{ it.value = {json.dumps(value)}; it.onchange?.(); }})"
-        self.value(f"{words}(part({json.dumps(name)}, '{what}'))")
-
-    def select_to(self, name, label):
-        """Selects the encoding of the stored text by its label."""
-        options = f"[...part({json.dumps(name)}, 'to').options].map(it => it.value)"
-        self.select(name, "to", next(it for it in self.value(options) if it.lower() == label))
-
-    def lines(self, name, label):
-        """The lines of a file under a label, as they are shown."""
-        return self.value(f"choiceOf({json.dumps(name)}, '{label}').querySelector('pre').innerText")
-
-    def pick(self, name, label):
-        """Chooses the lines of a label, which have to be shown."""
-        words = json.dumps(name)
-        self.until(f"{name}: choices", f"part({words}, 'form')?.checkVisibility()")
-        self.value(f"choiceOf({words}, '{label}').checkVisibility() || part({words}, 'more').click()")
-        self.value(f"choiceOf({words}, '{label}').querySelector('input').click()")
-
-    def line(self, there):
-        """Whether there is a line."""
-        words = {"offline": not there, "latency": 0, "downloadThroughput": -1, "uploadThroughput": -1}
-        self.call("Network.emulateNetworkConditions", **words)
-
-    def pieces(self, count="Infinity"):
-        """Lets this document send so many pieces more. Each other waits, until more are let out or it is given up."""
-        self.value(f"left = {count}, waiting.splice(0).forEach(it => it())")
-
-    def sent(self, name):
-        """How far the progress bar is, of 1."""
-        return self.value(f"part({json.dumps(name)}, 'progress').value")
-
-    def until_sent(self, name, share):
-        self.until(f"{name}: {share} sent", f"part({json.dumps(name)}, 'progress').value >= {share}")
-
-    def finished(self, name):
-        """Waits until a file is sent and read back: the path of its upload."""
-        self.says(name, "verdict", "^Uploaded")
-        return self.value(f"part({json.dumps(name)}, 'link').pathname")
-
-    def leave(self, name):
-        self.value(f"part({json.dumps(name)}, 'leave-end').click()")
-
-    def picture(self, state):
-        """Looks at a state in a wide and a narrow window: nothing is wider than the window."""
-        self.states += 1
-        for kind, size in (("wide", WIDE), ("narrow", NARROW)):
-            self.sized(*size)
-            width = self.value("document.scrollingElement.scrollWidth")
-            holds(f"{state}: {width} pixels in a window of {size[0]}", width <= size[0])
-            if self.pictures:
-                image = self.call("Page.captureScreenshot", format="png", captureBeyondViewport=True)["data"]
-                (self.pictures / f"{state}-{kind}.png").write_bytes(base64.b64decode(image))
-        self.sized(*WIDE)
-
-    def key(self, name, code, text=""):
-        """Presses a key."""
-        words = {"key": name, "code": name, "windowsVirtualKeyCode": code}
-        self.call("Input.dispatchKeyEvent", type="keyDown", text=text, **words)
-        self.call("Input.dispatchKeyEvent", type="keyUp", **words)
-
-
-class Place:
-    """What the cases share: the page, a client of the gateway itself, and a folder for files."""
-
-    def __init__(self, shown, gateway, folder, rng):
-        self.shown, self.gateway, self.folder, self.rng = shown, gateway, folder, rng
-        self.client, self.texts = Client(PORTS["a"]), 0
-
-    def file(self, name, data):
-        path = self.folder / name
-        path.write_bytes(data)
-        return path
-
-    def stored(self, name, text):
-        """A file was sent: its text is what it has to be. It is taken out, and leaves the page."""
-        path = self.shown.finished(name)
-        holds(f"the stored text of {name}", self.client.text(path) == text)
-        self.texts += 1
-        self.client.delete(path)
-        self.shown.leave(name)
-        self.faultless()
-
-    def faultless(self):
-        same("faults of the page", self.shown.value("faults"), [])
-
-    def begin(self, name, data, label):
-        """Chooses a file and sends it under a label."""
-        self.shown.choose(self.file(name, data))
-        self.shown.pick(name, label)
-        self.shown.press(name, "send")
-
-    def upload(self, name):
-        """The path of the upload that is remembered for a file."""
-        script = "Object.values(localStorage).map(JSON.parse).find(it => it.file === %s && !it.done).url"
-        return "/files/" + self.shown.value(script % json.dumps(name)).rpartition("/")[2]
-
-    def uploads(self):
-        """How many uploads are remembered."""
-        return self.shown.value("localStorage.length")
-
-
-def japanese(rng, size):
-    """A text of Shift_JIS in lines, of some bytes, whose pieces end within characters."""
-    chars = [it for it in repertoire("shift_jis") if len(it.encode("cp932")) == 2]
-    text = "x" + "\n".join("".join(rng.choices(chars, k=39)) for _ in range(size // 79))
-    data = text.encode("cp932")
-    # A line has 79 bytes, so that a character begins before the first piece ends, and ends behind it.
-    fits = data[:PIECE].decode("cp932", "ignore").encode("cp932")
-    return Sample("shift_jis", data, text.encode()) if len(fits) < PIECE else japanese(rng, size - 1)
+# The two lines of the sample that let users read and delete each other's texts.
+READS, DELETES = "    # GET    0;\n", "    # DELETE 0;\n"
+BLOCKS, SLOTS = 2048, 512
 
 
 def each_encoding(place):
@@ -255,7 +46,7 @@ def each_encoding(place):
         shown.pick(name, sample.label)
         if sample.to != "utf-8":
             shown.select_to(name, label)
-        shown.press(name, "send")
+        shown.send(name)
         place.stored(name, sample.text)
 
 
@@ -294,12 +85,12 @@ def seen_beforehand(place):
     holds("what is lost is marked", shown.value("document.querySelectorAll('mark.lost').length") > 0)
     shown.press("letter.txt", "send")
     time.sleep(0.5)
-    same("uploads without a choice", (place.uploads(), shown.shows("letter.txt", "state")), (0, ""))
+    same("uploads without a choice", (place.uploads(), shown.shows("letter.txt", "state-text")), (0, ""))
     shown.pick("letter.txt", "windows-1251")
     shown.press("letter.txt", "send")
     path = shown.finished("letter.txt")
     same("the wrong text", place.client.text(path), data.decode("cp1251").encode())
-    shown.press("letter.txt", "wrong")
+    shown.delete("letter.txt", "wrong")
     shown.pick("letter.txt", "koi8-r")
     holds("the wrong one is gone", place.client.is_gone(path))
     shown.press("letter.txt", "send")
@@ -320,7 +111,7 @@ def lossy(place):
     shown.says("lossy.txt", "lacks", "lacks 3 characters")
     shown.picture("settings")
     shown.press("lossy.txt", "send")
-    shown.says("lossy.txt", "counts", "2 of them U\\+FFFD.*3 references")
+    shown.says("lossy.txt", "counts", "2 of them are U\\+FFFD.*3 references")
     shown.picture("lost")
     place.stored("lossy.txt", encoded("iso-8859-15", text + "\ufffd\ufffd\n"))
     shown.choose(place.folder / "lossy.txt")
@@ -331,10 +122,10 @@ def lossy(place):
     shown.says("lossy.txt", "alert", "encoding of the stored text lacks")
     shown.picture("refused")
     path = place.upload("lossy.txt")
-    shown.press("lossy.txt", "anew")
+    shown.press("lossy.txt", "give-up")
     shown.pick("lossy.txt", "utf-8")
     holds("it is deleted", place.client.is_gone(path))
-    shown.press("lossy.txt", "leave")
+    shown.press("lossy.txt", "remove")
 
 
 def killed(place):
@@ -345,7 +136,7 @@ def killed(place):
     shown.until_sent("killed.txt", 0.25)
     place.gateway.kill()
     shown.pieces()
-    shown.says("killed.txt", "state", "Trying again in")
+    shown.says("killed.txt", "state-text", "Trying again in")
     shown.picture("waiting")
     place.gateway.start()
     place.client.close()
@@ -360,7 +151,7 @@ def line_lost(place):
     shown.until_sent("line.txt", 0.25)
     shown.line(False)
     shown.pieces()
-    shown.says("line.txt", "state", "Trying again in")
+    shown.says("line.txt", "state-text", "Trying again in")
     shown.line(True)
     place.stored("line.txt", sample.text)
 
@@ -373,7 +164,7 @@ def reloaded(place):
     shown.until_sent("reloaded.txt", 0.25)
     shown.picture("sending")
     shown.load()
-    shown.says("reloaded.txt", "state", "Not finished: 1")
+    shown.says("reloaded.txt", "state-text", "Not finished: 1")
     shown.picture("remembered")
     shown.choose(place.folder / "reloaded.txt")
     holds("its lines are shown", len(shown.says("reloaded.txt", "looked", "\n")) > 100)
@@ -382,22 +173,22 @@ def reloaded(place):
     shown.press("reloaded.txt", "go-on")
     shown.until_sent("reloaded.txt", 0.5)
     shown.press("reloaded.txt", "pause")
-    shown.says("reloaded.txt", "state", "^Paused")
+    shown.says("reloaded.txt", "state-text", "^Paused")
     shown.picture("paused")
     stored = place.client.offset(place.upload("reloaded.txt"))
     same("bytes that are stored", stored, 2 * PIECE)
     shown.end()
-    states = shown.states
+    seen = shown.seen
     place.shown = shown = Shown(place.folder, shown.pictures)
-    shown.states = states
-    shown.says("reloaded.txt", "state", "Not finished")
+    shown.seen = seen
+    shown.says("reloaded.txt", "state-text", "Not finished")
     shown.choose(place.folder / "reloaded.txt")
     shown.press("reloaded.txt", "go-on")
     shown.value("part('reloaded.txt', 'go-on').click()")
     shown.finished("reloaded.txt")
     same("refusals, where “Go on” was pressed twice", [it for it in shown.value("statuses") if it > 299], [])
     shown.load()
-    shown.says("reloaded.txt", "counts", "characters, and no U")
+    shown.says("reloaded.txt", "counts", "characters, none of them U")
     place.stored("reloaded.txt", sample.text)
 
 
@@ -416,7 +207,7 @@ def at_once(place):
     shown.value("part('two.txt', 'pause').focus()")
     shown.pieces()
     shown.finished("one.txt")
-    focused = "document.activeElement.closest('article').ariaLabel"
+    focused = "document.activeElement.closest('article').querySelector('h3').textContent"
     same("which card has the focus while the other one ends", shown.value(focused), "two.txt")
     for name, it in samples.items():
         place.stored(name, it.text)
@@ -433,13 +224,14 @@ def overtaken(place):
     piece = sample.data[offset : offset + 1000]
     place.client.patch(path, offset, piece)
     shown.pieces()
+    shown.says("overtaken.txt", "state-text", "Somebody else sends the same upload")
     place.stored("overtaken.txt", sample.text)
     holds("it was refused with 409", 409 in shown.value("statuses"))
     shown.pieces(1)
     place.begin("gone.txt", sample.data, "shift_jis")
     shown.until_sent("gone.txt", 0.25)
     shown.press("gone.txt", "pause")
-    shown.says("gone.txt", "state", "^Paused")
+    shown.says("gone.txt", "state-text", "^Paused")
     place.client.delete(place.upload("gone.txt"))
     shown.press("gone.txt", "go-on")
     shown.says("gone.txt", "alert", "The upload is gone")
@@ -451,18 +243,26 @@ def overtaken(place):
 
 
 def taken_out(place):
-    """The last byte was sent, its reply is lost, and the text was taken out: it is done, and nothing is sent again."""
+    """404 behind the last byte: nobody can tell here whether it arrived, acknowledged or not. It is sent once more."""
     shown = place.shown
-    place.begin("taken.txt", RUSSIAN.encode("cp1251"), "windows-1251")
-    path = shown.finished("taken.txt")
-    lost = "Object.keys(localStorage).forEach(key => { const it = JSON.parse(localStorage[key]); delete it.done;"
-    shown.value(lost + "it.last = true; localStorage[key] = JSON.stringify(it); })")
-    place.client.delete(path)
-    shown.load()
-    shown.says("taken.txt", "verdict", "gone from the server")
-    shown.picture("taken")
-    shown.leave("taken.txt")
-    same("what is remembered", place.uploads(), 0)
+    for last, told in (("acknowledged", "had all of it, and it is gone"), ("sent", "last byte was sent.* gone from")):
+        place.begin("taken.txt", RUSSIAN.encode("cp1251"), "windows-1251")
+        path = shown.finished("taken.txt")
+        shown.value("Object.keys(localStorage).forEach(key => { const it = JSON.parse(localStorage[key]);"
+                    f"it.last = '{last}'; localStorage[key] = JSON.stringify(it); }})")
+        place.client.delete(path)
+        shown.load()
+        shown.says("taken.txt", "alert", f"{told}.*Nobody can tell here whether it arrived")
+        shown.picture(f"perhaps-{last}")
+        same("what else it says", shown.shows("taken.txt", "verdict"), "")
+        if last == "sent":
+            shown.choose(place.folder / "taken.txt")
+            shown.pick("taken.txt", "windows-1251")
+            shown.press("taken.txt", "send")
+            place.stored("taken.txt", RUSSIAN.encode())
+        else:
+            shown.remove("taken.txt")
+        same("what is remembered", place.uploads(), 0)
 
 
 def renumbered(place):
@@ -472,7 +272,7 @@ def renumbered(place):
     place.begin("number.txt", sample.data, "shift_jis")
     shown.until_sent("number.txt", 0.25)
     shown.press("number.txt", "pause")
-    shown.says("number.txt", "state", "^Paused")
+    shown.says("number.txt", "state-text", "^Paused")
     old, other = place.upload("number.txt"), place.client.create(sample)
     words = f"(([key, value]) => (localStorage[key.replace('{old}', '{other}')] = value.replace('{old}', '{other}'),"
     shown.value(words + " localStorage.removeItem(key)))(Object.entries(localStorage)[0])")
@@ -519,7 +319,7 @@ def changed(place):
     place.begin("changed.txt", sample.data, "shift_jis")
     shown.until_sent("changed.txt", 0.25)
     shown.load()
-    shown.says("changed.txt", "state", "Not finished")
+    shown.says("changed.txt", "state-text", "Not finished")
     path = place.upload("changed.txt")
     shown.press("changed.txt", "again")
     shown.choose(place.file("changed.txt", b"other " + sample.data))
@@ -529,7 +329,7 @@ def changed(place):
     shown.pick("changed.txt", "shift_jis")
     shown.press("changed.txt", "send")
     place.stored("changed.txt", b"other " + sample.text)
-    shown.press("changed.txt", "anew")
+    shown.delete("changed.txt", "give-up")
     shown.until("no card", "document.querySelectorAll('article').length === 0")
     holds("the old one is deleted", place.client.is_gone(path))
     shown.pieces(1)
@@ -539,7 +339,7 @@ def changed(place):
     place.file("moved.txt", b"other")
     shown.pieces()
     shown.says("moved.txt", "alert", "has changed or can’t be read")
-    shown.press("moved.txt", "anew")
+    shown.delete("moved.txt", "give-up")
     shown.until("no card", "document.querySelectorAll('article').length === 0")
     holds("what was stored is deleted", place.client.is_gone(path))
 
@@ -576,9 +376,25 @@ def refusals(place):
     same("texts that aren't there", names, [])
 
 
+def texts_that_do_nothing(place):
+    """A text that is a script isn't run by the page, and as a page of its own it may do nothing."""
+    shown, data = place.shown, b"window.ran = true;\n"
+    place.begin("script.txt", data, "utf-8")
+    path = shown.finished("script.txt")
+    runs = "new Promise(done => { const it = document.createElement('script'); it.src = '%s';"
+    runs += " it.onload = it.onerror = () => done(Boolean(window.ran)); document.head.append(it); })"
+    same("whether it runs", shown.value(runs % path), False)
+    same("what forbids it", shown.value("faults.splice(0).map(it => it.split(' ')[0])"), ["script-src-elem"])
+    names = ["x-content-type-options", "content-security-policy"]
+    asked = f"fetch('{path}').then(it => {json.dumps(names)}.map(name => it.headers.get(name)))"
+    same("the headers of a text", shown.value(asked), ["nosniff", "sandbox"])
+    place.stored("script.txt", data)
+
+
 def forbidden(place, nginx):
-    """Behind a proxy that forbids reading it says so, and shows what was chosen."""
-    nginx.change("lines.conf", SIZE, FORBIDS + SIZE)
+    """Behind the sample as it stands, which forbids reading and deleting, it says so, and shows what was chosen."""
+    for line in (READS, DELETES):
+        nginx.change("lines.conf", line.replace("# ", ""), line)
     shown = place.shown
     place.begin("forbidden.txt", RUSSIAN.encode("koi8-r"), "koi8-r")
     shown.says("forbidden.txt", "counts", "forbidden")
@@ -587,31 +403,56 @@ def forbidden(place, nginx):
     same("the link", shown.shows("forbidden.txt", "link"), "")
     path = "/files/" + shown.value("Object.values(localStorage).map(JSON.parse)[0].url").rpartition("/")[2]
     same("the text", place.client.text(path), RUSSIAN.encode())
-    shown.press("forbidden.txt", "wrong")
+    shown.delete("forbidden.txt", "wrong")
     shown.says("forbidden.txt", "alert", "couldn’t be deleted")
-    shown.press("forbidden.txt", "leave")
+    shown.press("forbidden.txt", "remove")
+    place.texts += 1
+
+
+def in_a_group(place, nginx):
+    """The page of a group, behind its password: its uploads are of its own path, and nobody reads them there."""
+    folder = nginx.folder.parent
+    lines = (NGINX / "wovelatsa-groups.conf").read_text().replace("/etc/nginx", str(folder))
+    hashed = crypt.crypt("a word", crypt.METHOD_SHA512)
+    (folder / "wovelatsa-a.users").write_text(f"archive:{hashed}\n")
+    old = (nginx.folder / "lines.conf").read_text()
+    nginx.change("lines.conf", old, lines.replace(INSTALLED, f"{ROOT}/packaging/web/"))
+    shown = place.shown
+    shown.go(f"http://archive:{quote('a word')}@127.0.0.1:{FRONT}/a/page/")
+    shown.drop("group.txt", RUSSIAN.encode("koi8-r"))
+    shown.pick("group.txt", "koi8-r")
+    shown.press("group.txt", "send")
+    shown.says("group.txt", "counts", "forbidden")
+    url = shown.value("Object.values(localStorage).map(JSON.parse)[0].url")
+    holds(f"the path of the group: {url}", f":{FRONT}/a/files/" in url)
+    same("the text", place.client.text(url.partition("/a")[2]), RUSSIAN.encode())
+    shown.remove("group.txt")
+    place.faultless()
     place.texts += 1
 
 
 CASES = [each_encoding, few_choices, beyond_the_sample, seen_beforehand, lossy, killed, line_lost, reloaded]
-CASES += [at_once, overtaken, taken_out, renumbered, full, changed, by_keyboard, refusals]
+CASES += [at_once, overtaken, taken_out, renumbered, full, changed, by_keyboard, refusals, texts_that_do_nothing]
+CASES += EDGES
 
 
-def run(place, nginx):
+def run(place, nginx, names):
     place.shown.picture("empty")
     headers = place.shown.value("fetch(location.href).then(it => it.headers.get('content-security-policy'))")
     holds(f"the policy: {headers}", "default-src 'self'" in headers)
-    for case in CASES:
+    for case in (it for it in CASES if not names or it.__name__ in names):
         began = time.monotonic()
         case(place)
         place.faultless()
         print(f"{case.__name__}: {time.monotonic() - began:.1f} s", flush=True)
     forbidden(place, nginx)
+    in_a_group(place, nginx)
 
 
 def main():
     words = parser_of(__doc__)
     words.add_argument("--pictures", type=Path, help="a folder for pictures of the states")
+    words.add_argument("--cases", nargs="+", help="the cases to try, by the names of their functions; else all")
     words = words.parse_args()
     if not browser.program() or not has("nginx"):
         print("page.py: chromium or nginx isn't there, nothing was tried")
@@ -622,18 +463,21 @@ def main():
         format_spool(words.program, folder / "spool", BLOCKS, indexes_in(folder, words.indexes))
         lines = (NGINX / "wovelatsa-browsers.conf").read_text()
         same("where the page is installed", lines.count(INSTALLED), 1)
+        for line in (READS, DELETES):
+            same(f"how often the sample has {line!r}", lines.count(line), 1)
+            lines = lines.replace(line, line.replace("# ", ""))
         nginx = Nginx(folder / "nginx", lines.replace(INSTALLED, f"{ROOT}/packaging/web/"))
         place = None
         gateway = Instance(words.program, folder / "spool", PORTS["a"])
         try:
             place = Place(Shown(folder, words.pictures), gateway, folder, rng)
-            run(place, nginx)
+            run(place, nginx, words.cases)
         finally:
             if place:
                 place.shown.close()
             nginx.stop()
             gateway.kill()
-    cases, states = len(CASES) + 1, place.shown.states
+    cases, states = len(CASES) + 2, place.shown.seen
     print(f"{place.texts} texts by the page, in 21 encodings: every one right; {cases} cases, {states} states, each in")
     print("a wide and a narrow window, without a fault of the page's policy")
 
