@@ -78,6 +78,8 @@ WANTED = [
     ("any file overwritten", "operators.py", "the refusal of"),
     ("other indexes taken as the standard's", "operators.py", "the status of other files"),
     ("uploads deleted that were kept", "operators.py", "where all are kept"),
+    ("a raise that does nothing", "operators.py", "the number after a raise"),
+    ("a loss passed as none", "operators.py", "the status and the text"),
     ("a spool's indexes not told", "operators.py", "what `list` says of it"),
     ("an unknown number to keep passed over", "operators.py", "the refusal of"),
     ("hidden characters shown", "operators.py", "hidden characters in JSON"),

@@ -8,16 +8,17 @@ within a line, missing, under another's name, or with two entries exchanged: it 
 each file that isn't the standard's, and a spool made after a warning does spoil a text, while one made of the
 standard's doesn't. With `--standard-indexes` it makes none of other files. The standard's digests in the program's
 source are those of the files in DIR. `list` says the same of the spools that were made. `text` says how often the text
-has U+FFFD, for random bytes in every encoding;
-it names the label, the mode or the index file that it was refused for, and the place of a character without a code.
-`list` says what is free, names the texts with U+FFFD and the file names, and `--json` says the same as the records in
-the spool's bytes. `format` makes a spool of a file that isn't there or has nothing but zeros, and of any other that is
-none only with `--overwrite`; where there is no room it leaves no new file. `delete --incomplete` prints what it would
-delete, and deletes exactly that with `--yes`, and never what `--but` names. tools/read-spool lists a copy and gives its
-texts as the program does, and of a damaged one what is left. Each refusal of a command has its status, its line, and a
-second line that says what to do. While a gateway serves a spool each command by hand is told that it is in use, and
-after it is ended the spool can be had at once. The log's line of a minute has what is left in the spool. It takes a
-minute.
+has U+FFFD, for random bytes in every encoding; it names the label, the mode or the index file that it was refused for,
+and the place of a character without a code. `list` says what is free, names the texts with U+FFFD and the file names,
+and `--json` says the same as the records in the spool's bytes. `format` makes a spool of a file that isn't there or has
+nothing but zeros, and of any other that is none only with `--overwrite`; where there is no room it leaves no new file.
+`delete --incomplete` prints what it would delete, and deletes exactly that with `--yes`, and never what `--but` names.
+`raise` gives a spool a later next number and never an earlier one, and no upload changes: a copy that is put back and
+raised gives no number again, and a spool that is made with `--first` begins there. tools/read-spool lists a copy and
+gives its texts as the program does, and of a damaged one what is left. Each refusal of a command has its status, its
+line, and a second line that says what to do. While a gateway serves a spool each command by hand is told that it is in
+use, and after it is ended the spool can be had at once. The log's line of a minute has what is left in the spool. It
+takes a minute.
 """
 
 import hashlib
@@ -43,6 +44,7 @@ STANDARD = {"jis0208": 7724, "jis0212": 6067, "iso-2022-jp-katakana": 63, "windo
 STANDARD["windows-1257"] = 126
 NEEDED_BY = {"jis0208": "Shift_JIS, EUC-JP and ISO-2022-JP", "jis0212": "EUC-JP", "iso-2022-jp-katakana": "ISO-2022-JP"}
 LOST = "\ufffd"
+MOST = 10**18 - 10**15
 # A library by which the call that CALL names fails.
 FAILING = r"""
 #define _GNU_SOURCE
@@ -253,6 +255,7 @@ def try_texts(program, rng):
     data = b"a\xff" * 5000 + "\u20ac".encode()
     text, said = program.does("text", "--from", "utf-8", "--to", "koi8-r", "--indexes", "idx", given=data)
     same("references for U+FFFD", said, f"U+FFFD in the text: {text.count(b'&#65533;')}\n")
+    tried += try_strict(program)
     for before in 0, 1, 4095, 4096, 10_000:
         words = ["text", "--from", "utf-8", "--to", "windows-1251", "--mode", "fatal", "--indexes", "idx"]
         advice = f"windows-1251 lacks U+3042, after the {before} bytes that were written"
@@ -287,6 +290,24 @@ def try_previews(program):
         ran = subprocess.run(words, capture_output=True, cwd=program.folder)
         same("the status of `labels | head -1`, and what it says", (ran.returncode, ran.stderr), (0, b""))
     return 3
+
+
+def try_strict(program):
+    """`text --strict` refuses a text that has U+FFFD, after all of it."""
+    clean = ("utf-8", b"a" * 4095 + "こ".encode()), ("utf-16le", b"a\0" * 5000), ("koi8-r", b"\xff" * 9), ("utf-8", b"")
+    own = ("a" * 4095 + LOST * 3).encode()
+    lost = ("utf-8", own), ("utf-8", b"a\xff\xc0"), ("utf-16be", b"\0a\xd8\x00"), ("shift_jis", b"\xef\xbf\xbd\xff")
+    for label, data in clean:
+        text, said = program.does("text", "--strict", "--from", label, "--indexes", "idx", given=data)
+        same(f"what is said of {label}", (said, LOST in text.decode()), ("U+FFFD in the text: 0\n", False))
+    for label, data in lost:
+        words = ["text", "--from", label, "--indexes", "idx"]
+        text, said = program.does(*words, given=data)
+        ran = program.run(*words, "--strict", given=data)
+        same("the status and the text", (ran.returncode, ran.stdout), (2, text))
+        advice = f"bytes are lost: {label} is another label than theirs"
+        holds(f"{ran.stderr!r}", ran.stderr.decode().startswith(f"{said}refused: 43 Lost\n{advice}"))
+    return len(clean) + len(lost)
 
 
 # Each upload: its bytes, its length (None: not known), its label, and its file name.
@@ -415,6 +436,72 @@ def try_deletions(program):
     return 514
 
 
+def new_numbers(program, name, count):
+    """The numbers that so many new uploads of a spool get, by the Location of each."""
+    lines = ["open 1", *(line for _ in range(count) for line in post(1, 9, "utf-8"))]
+    out, _ = program.does("script", name, given="".join(f"{line}\n" for line in lines).encode())
+    numbers = [int(it) for it in re.findall(rb"\r\nLocation: /files/(\d+)\r\n", out)]
+    same(f"new uploads of {name}", len(numbers), count)
+    return numbers
+
+
+def raises(program, name, number, later):
+    """Raises a spool: the later number is printed, and nothing is said."""
+    gave = program.does("raise", name, number)
+    same(f"what a raise of {name} to {number} prints", gave, (f"next number {later}\n".encode(), ""))
+
+
+def try_raises(program):
+    """`raise` gives a spool a later next number, never an earlier one, and changes no upload."""
+    path, begun = program.made("raised", *script_of_uploads()), len(UPLOADS)
+    listed, _ = program.does("list", "raised", "--json")
+    raises(program, "raised", 1000, 1000)
+    same("the uploads after a raise", program.does("list", "raised", "--json")[0], listed)
+    same("the number after a raise", new_numbers(program, "raised", 2), [1000, 1001])
+    before = path.read_bytes()
+    for lower in 0, 1, begun, 1001, 1002:
+        raises(program, "raised", lower, 1002)
+        same(f"the bytes after a raise to {lower}", path.read_bytes() == before, True)
+    for larger in MOST + 1, 10**18, 2**64 - 1:
+        program.refuses(2, "refused: 42 NumberTooLarge", f"at most {MOST}", "raise", "raised", larger)
+    same("the bytes after a raise too high", path.read_bytes() == before, True)
+    same("the number after a refusal", new_numbers(program, "raised", 1), [1002])
+    raises(program, "raised", MOST - 1, MOST - 1)
+    same("a late number", new_numbers(program, "raised", 1), [MOST - 1])
+    raises(program, "raised", MOST, MOST)
+    same("the latest number", new_numbers(program, "raised", 1), [MOST])
+    return 11 + try_copy(program) + try_firsts(program)
+
+
+def try_copy(program):
+    """A copy that is put back gives numbers again; raised above them before, it gives none of them."""
+    path = program.made("live", *script_of_uploads())
+    copy = path.read_bytes()
+    given = new_numbers(program, "live", 5)
+    path.write_bytes(copy)
+    same("the numbers of a copy that isn't raised", new_numbers(program, "live", 5), given)
+    path.write_bytes(copy)
+    listed, first = program.does("list", "live")[0], given[-1] + 1
+    raises(program, "live", first, first)
+    same("the uploads of a copy that is raised", program.does("list", "live")[0], listed)
+    same("the numbers of a copy that is raised", new_numbers(program, "live", 5), list(range(first, first + 5)))
+    return 1
+
+
+def try_firsts(program):
+    """`format --first` makes a spool whose first upload has that number."""
+    formats = ["--blocks", BLOCKS, "--indexes", "idx"]
+    plain, said = program.does("format", "unraised", *formats)
+    for first, number in (0, 1), (1, 1), (2, 2), (500, 500), (MOST - 1, MOST - 1):
+        name = f"from {first}"
+        gave = program.does("format", name, *formats, "--first", first)
+        same(f"what `format --first {first}` prints", gave, (plain + f"next number {number}\n".encode(), said))
+        same(f"the uploads of {name}", program.does("list", name)[0], b"")
+        same(f"the first number of {name}", new_numbers(program, name, 1), [number])
+    same("the first number without `--first`", new_numbers(program, "unraised", 1), [1])
+    return 5
+
+
 def try_refusals(program):
     """Each refusal says what to do."""
     folder = program.folder
@@ -427,6 +514,8 @@ def try_refusals(program):
     cases = [("refused: 13 AlreadySpool", "whole is a spool, and stays as it is", "format", "whole", *formats)]
     cases += [("refused: 14 Size", "16 to 65536", "format", "new", "--blocks", 8, "--indexes", "idx")]
     cases += [("refused: 35 AlreadyNew", "whole is of version 2", "upgrade", "whole")]
+    for words in ["raise", "whole"], ["raise", "mistyped"], ["format", "new", *formats, "--first"]:
+        cases += [("refused: 42 NumberTooLarge", f"the number is at most {MOST}", *words, MOST + 1)]
     for name, line, refusal in ("form", b"0\tx\n", "3 Line"), ("twice", b"0\t0xA0\n0\t0xA0\n", "5 Twice"):
         shutil.copytree(folder / "idx", folder / name)
         (folder / name / "index-koi8-r.txt").write_bytes(line)
@@ -436,7 +525,8 @@ def try_refusals(program):
     cases += [("refused: 33 Io", "The standard's index files are in /usr/share/wovelatsa/indexes", *nowhere)]
     cases += [("refused: 8 NoSuch", "`gateway list` prints the numbers that there are", "delete", "deleted", 99)]
     cases += [("refused: 39 CannotOpen", "No such file or directory", "format", "no/where", *formats)]
-    for word, *more in ["list"], ["upgrade"], ["script"], ["delete", 1], ["export", "idx"], ["up"], ["list", "--json"]:
+    commands = [["list"], ["upgrade"], ["raise", 7], ["script"], ["delete", 1], ["export", "idx"], ["up"]]
+    for word, *more in [*commands, ["list", "--json"]]:
         cases += [("refused: 39 CannotOpen", "cannot open the spool mistyped: No such file", word, "mistyped", *more)]
         cases += [("refused: 39 CannotOpen", "cannot open the spool idx: Is a directory", word, "idx", *more)]
         cases += [("refused: 15 NotASpool", "text is no spool: see whether the path is right", word, "text", *more)]
@@ -447,6 +537,7 @@ def try_refusals(program):
     for refusal, advice, *words in cases:
         program.refuses(2, refusal, advice, *words)
     same("a spool that was refused", (folder / "whole").read_bytes(), whole)
+    holds("a spool was made", not (folder / "new").exists())
     return len(cases)
 
 
@@ -546,7 +637,7 @@ def try_in_use(program):
     server = Server(program.path, program.folder / "listed")
     advice = "listed is in use: stop the gateway that serves it"
     words = [["list"], ["list", "--long"], ["list", "--json"], ["delete", "--incomplete"]]
-    words += [["upgrade"], ["script"], ["up"]]
+    words += [["upgrade"], ["raise", 7], ["script"], ["up"]]
     try:
         for word, *more in words:
             program.refuses(2, "refused: 38 InUse", advice, word, "listed", *more)
@@ -596,6 +687,7 @@ def main():
             "uploads listed": try_lists(program),
             "copies read": try_reader(program),
             "uploads deleted": try_deletions(program),
+            "raises": try_raises(program),
             "refusals": try_refusals(program),
             "files that format is given": try_formats(program),
             "commands beside a gateway": try_in_use(program),

@@ -9,11 +9,12 @@ that was synced, and of all that was written since, in sectors of 512 bytes, any
 opened by the program, listed, each of its texts is read, and one upload more is made; this has to be what a history of
 the changes, kept in Python with its codecs, has after a number of changes that is no less than what was acknowledged
 until then, and no more than that and the one under way. A new number was given to no upload before. The runs are
-scripts of changes over a spool of version 2 and one of version 1; recoveries of images whose gate is open; an upgrade,
-which leaves either version with the same uploads, and version 2 once it is told; and the making of a spool, which
-leaves none or a whole one, and a whole one once it is told. Of long runs some calls are taken: each beside a sync, and
-others at random. The status is 0 where all was so, and the runs met enough images, of which some had an open gate, some
-lost a change that wasn't acknowledged, and some kept one.
+scripts of changes over a spool of version 2 and one of version 1; recoveries of images whose gate is open; a raise,
+which leaves the same uploads and one of the two next numbers, and the later one once it is told; an upgrade, which
+leaves either version with the same uploads, and version 2 once it is told; and the making of a spool, which leaves none
+or a whole one, and a whole one once it is told. Of long runs some calls are taken: each beside a sync, and others at
+random. The status is 0 where all was so, and the runs met enough images, of which some had an open gate, some lost a
+change that wasn't acknowledged, and some kept one.
 """
 
 import collections
@@ -28,10 +29,11 @@ from growths import Run, ask, list_of, post
 from harness import Wrong, format_spool, has_open_gate, holds, indexes_in, make_old, memory, parser_of, rng_of, same
 from harness import version_of
 from history import History, text_of
-from spools import PAGE
+from spools import PAGE, Spool, number as number_in
 
 BLOCKS = 64
 SECTOR = 512
+RAISED = 10**6
 MOST_RECOVERIES = 4
 MOST_WRONG = 20
 
@@ -190,6 +192,32 @@ def try_recoveries(images):
             images.each(name, image, calls, judge)
 
 
+def next_number(path):
+    """The next number of a spool, by its bytes, with its journal replayed."""
+    spool = Spool(path.read_bytes()).recovered()
+    holds("the journal is out of form", spool)
+    return number_in(spool.data, spool.state + 4, 8)
+
+
+def try_raise(images, changes, left):
+    """Images of a raise of the spool that a run left."""
+    spool, number = images.folder / "raised", changes.next_at(changes.count)
+    shutil.copyfile(left, spool)
+    before = spool.read_bytes()
+    ran, calls = Log(images.folder, spool).run(images.program, "raise", RAISED)
+    same("raise: its status", ran.returncode, 0)
+
+    def judge(_told, calls):
+        got = next_number(images.spool)
+        images.met["raised" if got == RAISED else "not raised"] += 1
+        told = any(call.kind == "r" for call in calls)
+        holds(f"the next number {got}, told: {told}", got == RAISED or got == number and not told)
+        images.opened(changes.states[-1], got)
+        return changes.states[-1], got
+
+    images.each("raise", before, calls, judge)
+
+
 def try_upgrade(images, changes, spool):
     """Images of an upgrade of the spool that a run left."""
     make_old(spool)
@@ -242,6 +270,7 @@ def floors(images, given):
     """What the runs have to have met."""
     least = {"changes lost": 5 * given.runs, "changes kept": 5 * given.runs, "open gates": 5 * given.runs}
     least.update({"recoveries": 10, "version 1": 5, "version 2": 5, "no spool": 5, "whole spools": 1})
+    least.update({"raised": 5, "not raised": 5})
     missed = {name: count for name, count in least.items() if images.met[name] < count}
     return [f"{images.met[name]} times {name}, at least {count} expected" for name, count in missed.items()]
 
@@ -257,6 +286,7 @@ def run(given, folder):
         for name, spool in ((f"version 2, run {number}", base), (f"version 1, run {number}", old)):
             changes, left = try_run(images, given, name, spool)
     try_recoveries(images)
+    try_raise(images, changes, left)
     try_upgrade(images, changes, left)
     for before in None, b"no spool" * 1000:
         try_format(images, indexes, before)

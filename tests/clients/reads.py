@@ -4,9 +4,10 @@
     python3 tests/clients/reads.py [--program PATH] [--indexes DIR] [--damages N] [--seed N]
 
 The first part finds the spool and replays the journal, and the second begins with the state page. The reads are logged
-by the library of calls.py. `list`, `delete`, `export`, `script` and `upgrade` open spools of both versions, with the
-gate closed and open, with and without uploads, and --damages spools with some bytes changed at random. What a command
-reads after its opening counts as read by the second part. The status is 0 where no byte was read twice in a part.
+by the library of calls.py. `list`, `delete`, `export`, `script`, `upgrade` and `raise` open spools of both versions,
+with the gate closed and open, with and without uploads, and --damages spools with some bytes changed at random. What a
+command reads after its opening counts as read by the second part. The status is 0 where no byte was read twice in a
+part.
 """
 
 import shutil
@@ -63,7 +64,8 @@ def try_command(log, program, name, words, counts):
 
 def try_commands(log, program, name, folder, counts):
     """Each command over this spool."""
-    for words in (["list"], ["list", "--long"], ["list", "--json"], ["delete", 1, 3, 1], ["script"], ["upgrade"]):
+    commands = [["list"], ["list", "--long"], ["list", "--json"], ["delete", 1, 3, 1], ["script"], ["upgrade"]]
+    for words in [*commands, ["raise", 10**6]]:
         try_command(log, program, name, words, counts)
     into = Path(folder, "texts")
     into.mkdir()

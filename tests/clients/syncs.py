@@ -9,8 +9,9 @@ word of a pattern. A commit is the texts and the journal's pages, a sync, the ga
 places, a sync, the gate closed, a sync; every reply that acknowledges a change stands right after a commit of its own,
 over a script's output and over sockets. Also a spool is made (its file, its folder and all pages but the first are
 synced before that one is written, and that one before the line is printed; once its length is set all of the file is
-synced by fsync, and from then on its data alone may be), opened with its gate closed and with its gate open, made by a
-link of another folder, and upgraded. The status is 0 where all was so, over at least --changes changes of each run.
+synced by fsync, and from then on its data alone may be), opened with its gate closed and with its gate open, raised,
+which is one commit of the state page, or none where the number isn't later, made and raised at once, made by a link of
+another folder, and upgraded. The status is 0 where all was so, over at least --changes changes of each run.
 """
 
 import re
@@ -33,7 +34,8 @@ SERVED = f"[Ss](?:{COMMIT}r*R?|T|r)*"
 RECOVERED = "[Ss]P+[Ss]C[Ss]"
 # (`list` opens the spool once more where a text has U+FFFD)
 OPENED = "[Ss]r*"
-FORMATTED = "LSF[CJIPT]+[Ss]B[Ss]r+"
+FORMATTED = "LSF[CJIPT]+[Ss]B[Ss]"
+RAISED = f"[Ss]{COMMIT}"
 
 
 def letter(spool, call):
@@ -88,7 +90,7 @@ def try_format(log, program, indexes):
     spool = Spool(log.spool.read_bytes())
     word = word_of(spool, calls)
     same("format: its status", ran.returncode, 0)
-    is_word("format", FORMATTED, word)
+    is_word("format", f"{FORMATTED}r+", word)
     written = {call.at for call in calls if call.kind == "w"}
     same("format: the pages written", written, set(range(0, spool.size, PAGE)))
     print(f"format: {len(written)} pages, {len(re.findall('[Ss]', word))} syncs, and its folder's")
@@ -162,6 +164,38 @@ def try_openings(log, program):
     print("openings: one with the gate closed, one with the gate open")
 
 
+def is_raised(what, spool, calls):
+    """One commit of one page at its place, which is the state page."""
+    at = [call.at for call in calls if call.kind == "w" and letter(spool, call) == "P"]
+    same(f"{what}: the pages at their places", at[-1:], [spool.state])
+    return len(at)
+
+
+def try_raise(log, program):
+    """A raise is one commit of the state page; where the number isn't later nothing is written."""
+    spool = Spool(log.spool.read_bytes())
+    ran, calls = log.run(program, "raise", 10**6)
+    word = word_of(spool, calls)
+    same("raise: its status", ran.returncode, 0)
+    is_word("raise", f"{RAISED}r+", word)
+    same("raise: how many pages", is_raised("raise", spool, calls), 1)
+    for number in 1, 10**6:
+        ran, calls = log.run(program, "raise", number)
+        same(f"raise to {number}: its status", ran.returncode, 0)
+        is_word(f"raise to {number}", "[Ss]r+", word_of(spool, calls))
+    print(f"raise: 1 page, {len(re.findall('[Ss]', word))} syncs; to a number that isn't later none is written")
+
+
+def try_format_first(log, program, indexes):
+    """A spool is made and raised: both are on the disk before a line is printed."""
+    ran, calls = log.run(program, "format", "--blocks", BLOCKS, "--indexes", indexes, "--first", 1000)
+    spool = Spool(log.spool.read_bytes())
+    same("format --first: its status", ran.returncode, 0)
+    is_word("format --first", f"{FORMATTED}{RAISED}r+", word_of(spool, calls))
+    is_raised("format --first", spool, calls)
+    print("format --first: the spool, and then one commit")
+
+
 def try_upgrade(log, program):
     """An upgrade is one commit of 257 pages."""
     make_old(log.spool)
@@ -183,7 +217,8 @@ def main():
         log, indexes = Log(folder, Path(folder, "spool")), indexes_in(folder, given.indexes)
         trials = [lambda: try_format(log, given.program, indexes), lambda: try_script(log, given.program, given)]
         trials += [lambda: try_serve(log, given.program, given), lambda: try_openings(log, given.program)]
-        trials += [lambda: try_upgrade(log, given.program)]
+        trials += [lambda: try_raise(log, given.program), lambda: try_upgrade(log, given.program)]
+        trials += [lambda: try_format_first(Log(folder, Path(folder, "first")), given.program, indexes)]
         trials += [lambda: try_format_by_link(Log(folder, Path(folder, "linked")), given.program, indexes)]
         for trial in trials:
             try:

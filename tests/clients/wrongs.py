@@ -261,6 +261,28 @@ def ends_at_unread(program):
     end(ran.returncode, b"".join(lines[: at + 1]), ran.stderr)
 
 
+def raises_nothing(program):
+    """The next number is told as raised, and stays as it was."""
+    spool = program.words[1]
+    before = None
+    if os.path.isfile(spool):
+        with open(spool, "rb") as file:
+            before = file.read()
+    ran = program.ran()
+    if ran.returncode == 0:
+        with open(spool, "r+b") as file:
+            file.write(before)
+    end(ran.returncode, ran.stdout, ran.stderr)
+
+
+def passes_losses(program):
+    """A text in which bytes were lost passes as one without loss."""
+    ran = program.ran()
+    said = ran.stderr.splitlines(keepends=True)
+    lost = any(line.startswith(b"refused: 43 ") for line in said)
+    end(0 if lost else ran.returncode, ran.stdout, b"".join(said[:1]) if lost else ran.stderr)
+
+
 def tells_no_indexes(program):
     """What a spool has of indexes isn't told."""
     ran = program.ran()
@@ -494,6 +516,8 @@ DEEDS = {
     "an unknown number to keep passed over": (passes_over_unknown, "delete"),
     "hidden characters shown": (shows_hidden, "list"),
     "an export that ends at an unread file": (ends_at_unread, "export"),
+    "a raise that does nothing": (raises_nothing, "raise"),
+    "a loss passed as none": (passes_losses, "text"),
     "a spool's indexes not told": (tells_no_indexes, "list"),
     "no library reaches it": (is_out_of_reach, "format serve script list upgrade"),
     "a server that ends by itself": (ends_by_itself, "serve"),

@@ -10,7 +10,9 @@ use clap::error::ErrorKind;
 use common::Stop;
 use gateway_delete::{delete_in, incomplete_in};
 use gateway_export::export_file;
-use gateway_format::{format_file, report_formatted, report_longer, upgrade_in};
+use gateway_format::{
+    NewSpool, format_file, raise_file, report_formatted, report_longer, report_raised, upgrade_in,
+};
 use gateway_indexes::report_read;
 use gateway_list::{json_file, list_file};
 use gateway_orders::{Order, Service, USAGE, read_order, report_usage};
@@ -18,7 +20,7 @@ use gateway_outside::{
     Closed, Failure, Fault, Noted, Output, SpoolFiles, SystemFiles, Task, ended,
 };
 use gateway_run::run_script;
-use gateway_text::text_file;
+use gateway_text::{WantedText, text_file};
 use gateway_up::{Reporting, serve_file, serve_up};
 use labelling::labels_file;
 use std::alloc::Global;
@@ -77,7 +79,18 @@ fn obey<'a, F: SpoolFiles, W: Output, E: Output>(
             indexes,
             overwrite,
             standard,
-        } => format_at(rt, spool, blocks, indexes, overwrite, standard),
+            first,
+        } => format_at(
+            rt,
+            spool,
+            NewSpool {
+                blocks,
+                indexes,
+                overwrite,
+                standard,
+                first,
+            },
+        ),
         Order::Script { spool } => run_script(rt, alloc, spool),
         Order::Serve(service) => serve(rt, service),
         Order::Up {
@@ -99,8 +112,20 @@ fn obey<'a, F: SpoolFiles, W: Output, E: Output>(
             to,
             mode,
             indexes,
-        } => text_file(rt, alloc, from, to, mode, indexes),
+            strict,
+        } => text_file(
+            rt,
+            alloc,
+            WantedText {
+                from,
+                to,
+                mode,
+                strict,
+            },
+            indexes,
+        ),
         Order::Upgrade { spool } => upgrade_in(alloc, files, output, spool),
+        Order::Raise { spool, number } => raise(rt, spool, number),
     }
 }
 
@@ -108,12 +133,10 @@ fn obey<'a, F: SpoolFiles, W: Output, E: Output>(
 fn format_at<'a>(
     rt: &HostRuntime,
     spool: &'a str,
-    blocks: u32,
-    indexes: &'a str,
-    overwrite: bool,
-    standard: bool,
+    wanted: NewSpool<'a>,
 ) -> Result<(), Failure<'a>> {
-    let made = format_file(rt, rt.alloc(), spool, blocks, indexes, overwrite, standard)?;
+    let (blocks, first) = (wanted.blocks, wanted.first);
+    let made = format_file(rt, rt.alloc(), spool, wanted)?;
     // First what warns, since it has to be seen whatever becomes of the rest. If standard error can't be written,
     // neither the index files nor the file's length are reported.
     drop(report_read(&mut rt.stderr(), made.files.as_slice()));
@@ -121,6 +144,16 @@ fn format_at<'a>(
         drop(report_longer(&mut rt.stderr(), spool, len));
     }
     report_formatted(&mut io::writer(rt), blocks, made.pages)?;
+    if let Some(first) = first {
+        report_raised(&mut io::writer(rt), first.max(1))?;
+    }
+    Ok(())
+}
+
+// Raises the next number of a spool, and prints it.
+fn raise<'a>(rt: &HostRuntime, spool: &'a str, number: u64) -> Result<(), Failure<'a>> {
+    let next = raise_file(rt, rt.alloc(), spool, number)?;
+    report_raised(&mut io::writer(rt), next)?;
     Ok(())
 }
 

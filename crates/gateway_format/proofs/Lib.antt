@@ -1,2 +1,3 @@
 mod Blank
 mod Upgraded
+mod Raised

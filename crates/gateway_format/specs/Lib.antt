@@ -1,3 +1,4 @@
 pub mod Blanks
 pub mod Upgrading
+pub mod Raising
 pub mod Reports

@@ -1,13 +1,16 @@
 //! A new spool in a file.
-ghost use Rattle.std.specs.Prelude.{◌≡◌, ◌↔◌, ℕ, Err, IfErr, IfOk, IsErr, IsOk, OnOk, Some, map, true, false};
+ghost use Rattle.std.specs.Prelude.{◌≡◌, ◌↔◌, ◌<◌, ℕ, Err, IfErr, IfOk, IsErr, IsErrAnd, IsOk, OnOk, Some};
+ghost use Rattle.std.specs.Prelude.{max, true, false};
 ghost use Rattle.std.specs.IoError.{error_kind};
 ghost use Rattle.std.specs.declared.io.ErrorKind.{ErrorKind};
 ghost use Rattle.spool_disk.specs.Disk.{Counts, IsImage, Preserves};
 ghost use Rattle.spool_disk.specs.Views.{Lasts};
 ghost use Rattle.spool_journal.specs.Image.{all_pages};
 ghost use Rattle.upload_rules.specs.Store.{no_uploads};
+ghost use Rattle.spool_catalog.specs.Raising.{raised};
 ghost use Rattle.spool_image.specs.Format.{FitsSpool, HasMagic, IsRefusal, LeftByFormat};
 ghost use Rattle.spool_image.specs.LeftOnly.{AllShow};
+ghost use Rattle.spool_image.specs.Raise.{latest};
 ghost use Rattle.gateway_outside.specs.Failures.{fault_in};
 ghost use Rattle.gateway_outside.specs.Faults.{creating_fault};
 ghost use Rattle.gateway_outside.specs.SpoolFiles.{Disks, Leaves, LeavesOthers, OnlyRead};
@@ -16,14 +19,30 @@ ghost use Rattle.gateway_indexes.specs.IndexFiles.{index_files};
 ghost use Rattle.gateway_format.specs.Blanks.{IsBlank};
 
 use crate::blanks::is_blank;
+use crate::raising::{raise_in, too_large};
 use enc_index::IndexSet;
 use gateway_indexes::{IndexFile, IndexFiles, read_indexes, refuse_others, report_read};
 use gateway_outside::{Advice, Failure, Fault, SpoolFiles, SystemFiles, Task};
 use spool_disk::{CreateError, Disk};
-use spool_image::{FormatError, format, is_spool, pages_of};
+use spool_image::{FormatError, LATEST, format, is_spool, pages_of};
 use spool_journal::PAGE;
 use std::alloc::Global;
 use std::io::{self, ErrorKind};
+
+/// What a new spool is to be.
+#[derive(Clone, Copy, Debug, PartialEq, Eq, Drop)]
+pub struct NewSpool<'a> {
+    /// How many text blocks it has.
+    pub blocks: u32,
+    /// The folder with the index files.
+    pub indexes: &'a str,
+    /// Whether it may be made in a file that has a byte other than zero, but is no spool.
+    pub overwrite: bool,
+    /// Whether the index files have to be the standard's.
+    pub standard: bool,
+    /// The number of its first upload. Without one, and for 0, that is 1.
+    pub first: Option<u64>,
+}
 
 /// A spool that was made.
 #[derive(Drop)]
@@ -76,19 +95,16 @@ pub fn format_file<'a>(
     rt: &HostRuntime,
     alloc: Global,
     spool: &'a str,
-    blocks: u32,
-    folder: &'a str,
-    overwrite: bool,
-    standard: bool,
+    wanted: NewSpool<'a>,
 ) -> Result<Formatted, Failure<'a>>
-    ensures pages { IfOk result (λ made. made.pages ≡ all_pages blocks) }
-    ensures standard { standard ≡ true → IfOk result (λ made. AreStandard made.files.items) }
+    ensures pages { IfOk result (λ made. made.pages ≡ all_pages wanted.entry.blocks) }
+    ensures standard { wanted.entry.standard ≡ true → IfOk result (λ made. AreStandard made.files.items) }
 {
-    let IndexFiles { set, files } = read_indexes(rt, alloc, folder)?;
-    if standard {
-        wants_standard(rt, &files, folder)?;
+    let IndexFiles { set, files } = read_indexes(rt, alloc, wanted.indexes)?;
+    if wanted.standard {
+        wants_standard(rt, &files, wanted.indexes)?;
     }
-    let made = format_in(&mut SystemFiles::new(rt), spool, blocks, &set, overwrite)?;
+    let made = format_wanted(alloc, &mut SystemFiles::new(rt), spool, &wanted, &set)?;
     let Made { pages, there } = made;
     let longer = there.filter(|len| *len > PAGE as u64 * pages as u64);
     Ok(Formatted {
@@ -113,6 +129,70 @@ fn wants_standard<'a>(
         drop(report_read(&mut rt.stderr(), files));
     }
     refused
+}
+
+// Makes the spool that is wanted, with these indexes.
+fn format_wanted<'a, F: SpoolFiles>(
+    alloc: Global,
+    files: &mut F,
+    path: &'a str,
+    wanted: &NewSpool<'a>,
+    indexes: &IndexSet,
+) -> Result<Made, Failure<'a>>
+    ensures pages { IfOk result (λ made. made.pages ≡ all_pages wanted.now.blocks) }
+{
+    let blocks = wanted.blocks;
+    match wanted.first {
+        Some(first) => {
+            format_raised_in(alloc, files, path, blocks, indexes, wanted.overwrite, first)
+        }
+        None => format_in(files, path, blocks, indexes, wanted.overwrite),
+    }
+}
+
+/// Makes a spool as `format_in` does, whose first upload gets this number, or 1 for 0. A number that would leave fewer
+/// than 10^15 is refused with `NumberTooLarge` before anything else. If memory or the disk refuses the number, the
+/// spool is made nevertheless, and `raise_in` gives it one.
+pub fn format_raised_in<'a, F: SpoolFiles>(
+    alloc: Global,
+    files: &mut F,
+    path: &'a str,
+    blocks: u32,
+    indexes: &IndexSet,
+    overwrite: bool,
+    first: u64,
+) -> Result<Made, Failure<'a>>
+    ensures too_large { latest < first → (files.new ≡ files.old)
+        × IsErrAnd result (λ failure. fault_in failure ≡ Fault.NumberTooLarge) }
+
+    // What `format_in` refuses is refused, and only read.
+    ensures untouched { (disks : Disks F.File) (d : F.File) → F.holds files.old disks → disks path.now ≡ Some d
+        → F.File.honest d → HasMagic (F.File.size d) (F.File.current d)
+        → IsErr result × Leaves (F.holds files.new) disks path.now (OnlyRead F.File.Disk d) }
+    ensures foreign { (disks : Disks F.File) (d : F.File) → F.holds files.old disks → disks path.now ≡ Some d
+        → F.File.honest d → (IsBlank (F.File.size d) (F.File.current d) → ⊥) → overwrite ≡ false
+        → IsErr result × Leaves (F.holds files.new) disks path.now (OnlyRead F.File.Disk d) }
+
+    // What is made shows what `format_in` makes, with this next number.
+    ensures made { (disks : Disks F.File) → F.holds files.old disks → OnOk result (Leaves (F.holds files.new) disks
+        path.now (λ d. AllShow F.File.Disk d blocks (raised (no_uploads indexes.now) (max 1 first)))) }
+    ensures pages { IfOk result (λ made. made.pages ≡ all_pages blocks) }
+
+    // Refused or not, the other files stay.
+    ensures others { (disks : Disks F.File) → F.holds files.old disks
+        → LeavesOthers (F.holds files.new) disks path.now }
+{
+    if first > LATEST {
+        return Err(too_large());
+    }
+    let made = match format_in(files, path, blocks, indexes, overwrite) {
+        Ok(made) => made,
+        Err(failure) => return Err(failure),
+    };
+    match raise_in(alloc, files, path, first) {
+        Ok(_next) => Ok(made),
+        Err(failure) => Err(failure),
+    }
 }
 
 /// What `format_in` came to.

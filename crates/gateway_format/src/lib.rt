@@ -1,12 +1,16 @@
-//! Spools made and upgraded.
+//! Spools made, raised and upgraded.
 #![tactic(auto)]
 
 mod blanks;
 mod formatting;
+mod raising;
 mod reports;
 mod upgrading;
 
 pub use blanks::is_blank;
-pub use formatting::{Formatted, Made, format_file, format_in, format_on};
-pub use reports::{report_formatted, report_longer};
+pub use formatting::{
+    Formatted, Made, NewSpool, format_file, format_in, format_on, format_raised_in,
+};
+pub use raising::{raise_file, raise_in};
+pub use reports::{report_formatted, report_longer, report_raised};
 pub use upgrading::upgrade_in;

@@ -1,7 +1,7 @@
-//! What is printed of a spool that was made.
+//! What is printed of a spool that was made or raised.
 ghost use Rattle.std.specs.Prelude.{OnOk};
 ghost use Rattle.std.specs.Io.KnownBytes.{Appends};
-ghost use Rattle.gateway_format.specs.Reports.{formatted_line, longer_line};
+ghost use Rattle.gateway_format.specs.Reports.{formatted_line, longer_line, raised_line};
 
 use std::io::{self, Write};
 
@@ -20,4 +20,11 @@ pub fn report_longer<W: Write>(writer: &mut W, spool: &str, len: u64) -> io::Res
         writer,
         "{spool} has {len} bytes, as before: more than the spool, which is at its start"
     )
+}
+
+/// Prints the next number of a spool, which was raised.
+pub fn report_raised<W: Write>(writer: &mut W, next: u64) -> io::Result<()>
+    ensures { OnOk result (Appends (W.contents writer.old) (W.contents writer.new) (raised_line next)) }
+{
+    writeln!(writer, "next number {next}")
 }

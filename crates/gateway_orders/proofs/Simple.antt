@@ -53,6 +53,7 @@ plain_is_local c plain = no_more (out-Command c).has_globals
 
 simple_with : (w : With) (name : List _) → (rule_with w name).is_simple ≡ true
 simple_with with.Word name = refl
+simple_with with.Number name = refl
 simple_with (with.NumbersOr others) name = refl
 simple_with (with.NumbersWith value other) name = refl
 simple_with with.Nothing name = refl
@@ -63,6 +64,7 @@ simple_with (with.TextOr value text) name = refl
 simple_with (with.U16 value) name = refl
 simple_with (with.U32 value) name = refl
 simple_with (with.U64 value) name = refl
+simple_with (with.U64IfAny value) name = refl
 
 both : (a b : Bool) → a ≡ true → b ≡ true → (a && b) ≡ true
 both a b p q = cc

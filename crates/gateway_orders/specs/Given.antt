@@ -1,6 +1,6 @@
 -- What clap found for a command, by the names of its arguments.
-use Rattle.std.specs.Prelude.{◌≡◌, ◌<◌, ◌^◌, ℕ, Bool, true, false, List, [], ◌∷◌, Some, None, IsSomeAnd, codes, ⊤}
-use Rattle.std.specs.Prelude.{MatchOption}
+use Rattle.std.specs.Prelude.{◌≡◌, ◌<◌, ◌^◌, ℕ, Bool, true, false, List, [], ◌∷◌, IsSomeAnd, codes, ⊤}
+use Rattle.std.specs.Prelude.{MatchOption, Option, Some, None}
 use Rattle.std.specs.Str.Parse.{IsNumeral, digits_value, without_leading_plus}
 use Rattle.clap.specs.Walk.{Row, Text, first_of, many_of, one_of}
 
@@ -16,6 +16,11 @@ IsNumeralOf bits text n = IsNumeral 10 (without_leading_plus text) × (digits_va
 -- the number that the text of an argument writes
 abbrev pub HasNumber : ℕ → List Row → Text → ℕ → Type 0
 HasNumber bits given name n = IsSomeAnd (one_of name given) (λ text. IsNumeralOf bits text n)
+
+-- the same, and no number where the argument isn't given
+abbrev pub HasNumberIfAny : ℕ → List Row → Text → Option ℕ → Type 0
+HasNumberIfAny bits given name number =
+    MatchOption (one_of name given) (number ≡ None) (λ text. IsSomeAnd number (IsNumeralOf bits text))
 
 -- the texts write the numbers, one by one
 abbrev pub WriteAll : ℕ → List Text → List ℕ → Type 0

@@ -3,19 +3,19 @@ use Rattle.std.specs.Prelude.{◌≡◌, true, false, List, IsSomeAnd, codes}
 use Rattle.std.specs.Net.Grammar.{IsSocketText}
 use Rattle.clap.specs.Simple.{subcommand_of}
 use Rattle.clap.specs.Walk.{Row, Text, first_of}
-use Rattle.gateway_orders.specs.Given.{HasArgument, HasFlag, HasNumber, HasNumbers, HasNumbersIfAny}
+use Rattle.gateway_orders.specs.Given.{HasArgument, HasFlag, HasNumber, HasNumberIfAny, HasNumbers, HasNumbersIfAny}
 use Rattle.gateway_orders.specs.Program.{program}
 use Rattle.gateway_orders.specs.declared.orders.Order.{Order}
-use Rattle.gateway_orders.specs.declared.orders.Order.TheVariants.{Format, Script, Serve, Up, Json}
-use Rattle.gateway_orders.specs.declared.orders.Order.TheVariants.{Delete, DeleteIncomplete, Export, Labels, Upgrade}
+use Rattle.gateway_orders.specs.declared.orders.Order.TheVariants.{Format, Script, Serve, Up, Upgrade, Json}
+use Rattle.gateway_orders.specs.declared.orders.Order.TheVariants.{Delete, DeleteIncomplete, Export, Labels, Raise}
 use Rattle.gateway_orders.specs.declared.orders.Order.TheVariants as orders
 
 -- the order is the one that belongs to the command of this name with these arguments
 abbrev pub IsOrder : Text → List Row → Order → Type 0
-IsOrder name given (Format spool blocks indexes overwrite standard) = (name ≡ codes "format")
+IsOrder name given (Format spool blocks indexes overwrite standard first) = (name ≡ codes "format")
     × HasArgument given (codes "SPOOL") spool.now × HasNumber 32 given (codes "blocks") blocks
     × HasArgument given (codes "indexes") indexes.now × HasFlag given (codes "overwrite") overwrite
-    × HasFlag given (codes "standard-indexes") standard
+    × HasFlag given (codes "standard-indexes") standard × HasNumberIfAny 64 given (codes "first") first
 IsOrder name given (Script spool) = (name ≡ codes "script") × HasArgument given (codes "SPOOL") spool.now
 IsOrder name given (Serve service) = (name ≡ codes "serve") × HasArgument given (codes "SPOOL") service.spool.now
     × HasNumber 16 given (codes "port") service.port
@@ -39,10 +39,13 @@ IsOrder name given (Export spool folder all) = (name ≡ codes "export") × HasA
 IsOrder name given (Labels indexes all json) = (name ≡ codes "labels")
     × HasArgument given (codes "indexes") indexes.now × HasFlag given (codes "all") all
     × HasFlag given (codes "json") json
-IsOrder name given (orders.Text from to mode indexes) = (name ≡ codes "text")
+IsOrder name given (orders.Text from to mode indexes strict) = (name ≡ codes "text")
     × HasArgument given (codes "from") from.now × HasArgument given (codes "to") to.now
     × HasArgument given (codes "mode") mode.now × HasArgument given (codes "indexes") indexes.now
+    × HasFlag given (codes "strict") strict
 IsOrder name given (Upgrade spool) = (name ≡ codes "upgrade") × HasArgument given (codes "SPOOL") spool.now
+IsOrder name given (Raise spool number) = (name ≡ codes "raise") × HasArgument given (codes "SPOOL") spool.now
+    × HasNumber 64 given (codes "NUMBER") number
 
 -- THE ORDER OF A COMMAND LINE: that of the command which clap's walk over the words enters, with what it gives for each
 -- argument

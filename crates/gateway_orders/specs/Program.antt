@@ -15,6 +15,10 @@ use Rattle.gateway_orders.specs.declared.commands.With.TheVariants as with
 abbrev pub word_rule : Text → Rule
 word_rule name = record (new_rule name) { required = true }
 
+-- a number by itself
+abbrev pub number_word_rule : Text → Rule
+number_word_rule name = record (word_rule name) { parser = Some (Unsigned 0 18446744073709551615) }
+
 -- one or more numbers by themselves, required where none of some other arguments is given and refused beside them
 abbrev pub numbers_rule : List Text → Text → Rule
 numbers_rule others name = record (new_rule name) {
@@ -61,8 +65,13 @@ u32_rule = number_rule (Signed (pos 0) (pos 4294967295))
 abbrev pub u64_rule : Text → Rule
 u64_rule = number_rule (Unsigned 0 18446744073709551615)
 
+-- a number that isn't required
+abbrev pub u64_if_any_rule : Text → Rule
+u64_if_any_rule name = record (option_rule name) { parser = Some (Unsigned 0 18446744073709551615) }
+
 abbrev pub rule_with : With → Text → Rule
 rule_with with.Word = word_rule
+rule_with with.Number = number_word_rule
 rule_with (with.NumbersOr others) = numbers_rule (map (λ other. other.now) others.now)
 rule_with (with.NumbersWith value other) = later_numbers_rule
 rule_with with.Nothing = flag_rule
@@ -73,6 +82,7 @@ rule_with (with.TextOr value text) = default_rule text.now
 rule_with (with.U16 value) = u16_rule
 rule_with (with.U32 value) = u32_rule
 rule_with (with.U64 value) = u64_rule
+rule_with (with.U64IfAny value) = u64_if_any_rule
 
 -- an argument and a command, by their descriptions
 abbrev pub rule_for : Given → Rule
@@ -87,7 +97,7 @@ shape_for described = shape_named described.name.now (map rule_for described.tak
 abbrev pub shapes : List Shape
 shapes = shape_named (codes "format")
     (word_rule (codes "SPOOL") ∷ u32_rule (codes "blocks") ∷ text_rule (codes "indexes")
-    ∷ flag_rule (codes "overwrite") ∷ flag_rule (codes "standard-indexes") ∷ [])
+    ∷ flag_rule (codes "overwrite") ∷ flag_rule (codes "standard-indexes") ∷ u64_if_any_rule (codes "first") ∷ [])
     ∷ shape_named (codes "up")
     (word_rule (codes "SPOOL") ∷ default_rule (codes "127.0.0.1:8080") (codes "listen") ∷ flag_rule (codes "quiet")
     ∷ flag_rule (codes "log") ∷ [])
@@ -102,8 +112,9 @@ shapes = shape_named (codes "format")
     (text_rule (codes "indexes") ∷ flag_rule (codes "all") ∷ flag_rule (codes "json") ∷ [])
     ∷ shape_named (codes "text")
     (text_rule (codes "from") ∷ default_rule (codes "utf-8") (codes "to")
-    ∷ default_rule (codes "html") (codes "mode") ∷ text_rule (codes "indexes") ∷ [])
+    ∷ default_rule (codes "html") (codes "mode") ∷ text_rule (codes "indexes") ∷ flag_rule (codes "strict") ∷ [])
     ∷ shape_named (codes "upgrade") (word_rule (codes "SPOOL") ∷ [])
+    ∷ shape_named (codes "raise") (word_rule (codes "SPOOL") ∷ number_word_rule (codes "NUMBER") ∷ [])
     ∷ shape_named (codes "serve")
     (word_rule (codes "SPOOL") ∷ u16_rule (codes "port") ∷ u64_rule (codes "connections")
     ∷ u64_rule (codes "turns") ∷ [])

@@ -34,11 +34,13 @@ struct Given {
 }
 
 /// What comes with an argument. An argument that isn't a word by itself comes after `--` and its name. A value without
-/// a default is required; the text here is its name in the help.
+/// a default is required, but for `U64IfAny`; the text here is its name in the help.
 #[derive(Clone, Copy)]
 enum With {
     /// A word by itself, which is required.
     Word,
+    /// A number below 2⁶⁴ by itself, which is required.
+    Number,
     /// One or more numbers by themselves, which are required where none of these arguments is given, and refused beside
     /// them.
     NumbersOr(&'static [&'static str]),
@@ -60,6 +62,8 @@ enum With {
     U32(&'static str),
     /// A number below 2⁶⁴.
     U64(&'static str),
+    /// A number below 2⁶⁴, which isn't required.
+    U64IfAny(&'static str),
 }
 
 /// The path of an existing spool.
@@ -102,7 +106,7 @@ const UP: Described = Described {
 };
 
 /// All commands, in the order of the help.
-static COMMANDS: [Described; 10] = [
+static COMMANDS: [Described; 11] = [
     Described {
         name: "format",
         about: "Makes a spool without uploads",
@@ -129,6 +133,11 @@ static COMMANDS: [Described; 10] = [
                 name: "standard-indexes",
                 with: With::Nothing,
                 help: "Refuses index files that aren't the Encoding Standard's 18",
+            },
+            Given {
+                name: "first",
+                with: With::U64IfAny("N"),
+                help: "The number of the first upload; 1 if it isn't given",
             },
         ],
     },
@@ -239,6 +248,11 @@ static COMMANDS: [Described; 10] = [
                 help: "For a character that `--to` lacks: `html` writes `&#NUMBER;`, `fatal` refuses",
             },
             INDEXES,
+            Given {
+                name: "strict",
+                with: With::Nothing,
+                help: "Ends with status 2 (43), after the text, if it has U+FFFD, one of its own too",
+            },
         ],
     },
     Described {
@@ -246,6 +260,20 @@ static COMMANDS: [Described; 10] = [
         about: "Brings a spool of version 1 to version 2. There is no way back",
         example: "While no gateway serves it:\n\n  cp spool spool.old && gateway upgrade spool",
         takes: &[SPOOL],
+    },
+    Described {
+        name: "raise",
+        about: "Gives a spool a later next number. There is no way back",
+        example: "A copy that is put back, before a gateway serves it:\n\n  \
+            cp spool.old spool && gateway raise spool 1000000",
+        takes: &[
+            SPOOL,
+            Given {
+                name: "NUMBER",
+                with: With::Number,
+                help: "The number of the next upload, unless the spool's own is later",
+            },
+        ],
     },
     Described {
         name: "serve",
@@ -345,6 +373,7 @@ fn argument<'a>(alloc: Global, given: &Given) -> Result<Arg<'a>, AllocError>
     let arg = Arg::new(alloc, given.name).help(given.help);
     match given.with {
         With::Word => Ok(arg.required(true)),
+        With::Number => Ok(arg.required(true).value_parser(value_parser!(u64))),
         With::NumbersOr(others) => numbers(arg, others),
         With::NumbersWith(value, other) => numbers_after(arg, given.name, value).requires_arg(
             other,
@@ -369,6 +398,9 @@ fn argument<'a>(alloc: Global, given: &Given) -> Result<Arg<'a>, AllocError>
                 .required(true)
                 .value_parser(value_parser!(u64)),
         ),
+        With::U64IfAny(value) => {
+            Ok(option(arg, given.name, value).value_parser(value_parser!(u64)))
+        }
     }
 }
 

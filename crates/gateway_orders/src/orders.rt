@@ -3,7 +3,7 @@
 
 ghost use Rattle.std.specs.Prelude.{codes, map, string_bytes, true, IfOk, IfSome};
 ghost use Rattle.clap.specs.Words.{found_of, rows_of};
-ghost use Rattle.gateway_orders.specs.Given.{HasArgument, HasFlag, HasNumbers};
+ghost use Rattle.gateway_orders.specs.Given.{HasArgument, HasFlag, HasNumberIfAny, HasNumbers};
 ghost use Rattle.gateway_orders.specs.Orders.{IsOrder, IsOrderOf};
 
 use crate::commands::{gateway, up};
@@ -17,13 +17,14 @@ use std::net::SocketAddr;
 pub enum Order<'a> {
     /// Makes a spool at this path with this many text blocks and the index files of this folder. A file that is there,
     /// is no spool and has a byte other than zero is refused, unless `overwrite` is given. With `standard`, index files
-    /// that aren't the standard's are refused.
+    /// that aren't the standard's are refused. The first upload has the number `first`, or 1.
     Format {
         spool: &'a str,
         blocks: u32,
         indexes: &'a str,
         overwrite: bool,
         standard: bool,
+        first: Option<u64>,
     },
     /// Runs standard input as a script over the spool at this path, or over a fresh one in memory for `-`.
     Script {
@@ -73,16 +74,22 @@ pub enum Order<'a> {
         json: bool,
     },
     /// Writes standard input as an upload with these labels and this mode would be stored, with the index files of this
-    /// folder.
+    /// folder. If it is strict, it is refused where the text has U+FFFD.
     Text {
         from: &'a str,
         to: &'a str,
         mode: &'a str,
         indexes: &'a str,
+        strict: bool,
     },
     /// Upgrades the spool at this path to version 2.
     Upgrade {
         spool: &'a str,
+    },
+    /// Gives the spool at this path this next number, unless its own is later.
+    Raise {
+        spool: &'a str,
+        number: u64,
     },
 }
 
@@ -133,6 +140,7 @@ fn order_of<'a>(
         "labels" => Ok(labels_order(given)),
         "text" => Ok(text_order(given)),
         "upgrade" => Ok(upgrade_order(given)),
+        "raise" => Ok(raise_order(given)),
         _ => Ok(None),
     }
 }
@@ -146,7 +154,15 @@ fn format_order<'a>(given: &ArgMatches<'a>) -> Option<Order<'a>>
         indexes: given.get_str("indexes")?,
         overwrite: given.get_flag("overwrite"),
         standard: given.get_flag("standard-indexes"),
+        first: number_if_any(given, "first")?,
     })
+}
+
+// The number of an argument that isn't required. `None` where its text is none, which was refused before.
+fn number_if_any(given: &ArgMatches<'_>, name: &str) -> Option<Option<u64>>
+    ensures { IfSome result (HasNumberIfAny 64 (rows_of (found_of given.now)) name.now) }
+{
+    given.try_get_one::<u64>(name).ok()
 }
 
 fn script_order<'a>(given: &ArgMatches<'a>) -> Option<Order<'a>>
@@ -294,6 +310,7 @@ fn text_order<'a>(given: &ArgMatches<'a>) -> Option<Order<'a>>
         to: given.get_str("to")?,
         mode: given.get_str("mode")?,
         indexes: given.get_str("indexes")?,
+        strict: given.get_flag("strict"),
     })
 }
 
@@ -302,5 +319,14 @@ fn upgrade_order<'a>(given: &ArgMatches<'a>) -> Option<Order<'a>>
 {
     Some(Order::Upgrade {
         spool: given.get_str("SPOOL")?,
+    })
+}
+
+fn raise_order<'a>(given: &ArgMatches<'a>) -> Option<Order<'a>>
+    ensures { IfSome result (IsOrder (codes "raise") (rows_of (found_of given.now))) }
+{
+    Some(Order::Raise {
+        spool: given.get_str("SPOOL")?,
+        number: given.get_one::<u64>("NUMBER")?,
     })
 }

@@ -14,6 +14,8 @@ use Rattle.spool_catalog.specs.declared.error.OpenFault.{OpenFault}
 use Rattle.spool_catalog.specs.declared.error.OpenFault.TheVariants as opens
 use Rattle.spool_image.specs.declared.error.FormatError.{FormatError}
 use Rattle.spool_image.specs.declared.error.FormatError.TheVariants as formats
+use Rattle.spool_image.specs.declared.error.RaiseError.{RaiseError}
+use Rattle.spool_image.specs.declared.error.RaiseError.TheVariants as raises
 use Rattle.spool_image.specs.declared.error.UpgradeError.{UpgradeError}
 use Rattle.spool_image.specs.declared.error.UpgradeError.TheVariants as upgrades
 use Rattle.gateway_outside.specs.declared.faults.Fault.{Fault}
@@ -43,6 +45,8 @@ numbered_refusal_of faults.InUse = Some (38, codes "InUse")
 numbered_refusal_of faults.CannotOpen = Some (39, codes "CannotOpen")
 numbered_refusal_of faults.NotEmpty = Some (40, codes "NotEmpty")
 numbered_refusal_of faults.OtherIndexes = Some (41, codes "OtherIndexes")
+numbered_refusal_of faults.NumberTooLarge = Some (42, codes "NumberTooLarge")
+numbered_refusal_of faults.Lost = Some (43, codes "Lost")
 
 -- a number and a name, as the code gives them
 abbrev pub row : ℕ × Bor (List ℕ) → ℕ × List ℕ
@@ -100,6 +104,10 @@ format_fault formats.DiskFault = faults.Stop stops.DiskFault
 abbrev pub upgrade_fault : UpgradeError → Fault
 upgrade_fault (upgrades.Open fault) = open_fault fault
 upgrade_fault upgrades.AlreadyNew = faults.AlreadyNew
+
+abbrev pub raise_fault : RaiseError → Fault
+raise_fault (raises.Open fault) = open_fault fault
+raise_fault raises.TooLarge = faults.NumberTooLarge
 
 -- by the transcoder: which character that is, if the call met it
 abbrev pub transcode_fault : TranscodeError → Fault

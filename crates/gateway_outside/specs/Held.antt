@@ -28,6 +28,14 @@ here : {D : Type 0} (disks : Disks D) (path : List ℕ) (x : Option D) → disks
 here disks path x is other true same = sym is ∙ ap disks (sym ((bytes_eq-Decides other path).0 same))
 here disks path x is other false same = refl
 
+-- the disk that is put under a path is there
+chosen : {D : Type 0} (x y : Option D) (b : Bool) → b ≡ true → (if b then x else y) ≡ x
+chosen x y true same = refl
+chosen x y false same = absurd (cc)
+
+pub there : {D : Type 0} (disks : Disks D) (path : List ℕ) (x : Option D) → with_disk disks path x path ≡ x
+there disks path x = chosen x (disks path) (bytes_eq path path) ((bytes_eq-Decides path path).1 refl)
+
 with_same : {D : Type 0} (disks : Disks D) (path : List ℕ) (x : Option D) → disks path ≡ x
     → with_disk disks path x ≡ disks
 with_same disks path x is = λ i other. here disks path x is other (bytes_eq other path) refl i

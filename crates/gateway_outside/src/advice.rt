@@ -112,6 +112,8 @@ pub enum Advice<'a> {
     NoneToKeep(u64),
     /// The number of blocks is out of range.
     Blocks,
+    /// The number would leave too few.
+    Number,
     /// A file in this folder isn't its upload's text.
     Differs(&'a str),
     /// A text can't be shown as asked.
@@ -173,6 +175,9 @@ impl fmt::Display for Advice<'_> {
                 there are"
             ),
             Advice::Blocks => f.write_str("the number of blocks is 16 to 65536"),
+            Advice::Number => f.write_str(
+                "the number is at most 999000000000000000: nothing lowers it again",
+            ),
             Advice::Differs(folder) => write!(
                 f,
                 "{folder} has a file that isn't its upload's text, which is in no file: look before you delete the \
@@ -194,6 +199,8 @@ pub enum TextAdvice<'a> {
     NoIndex(&'a str, &'a str),
     /// The encoding that this label names lacks this character. So many bytes were written before it.
     Lacks(&'a str, Option<char>, u64),
+    /// By this label the text has characters that stand for lost bytes.
+    Losses(&'a str),
 }
 
 impl fmt::Display for TextAdvice<'_> {
@@ -216,6 +223,11 @@ impl fmt::Display for TextAdvice<'_> {
             TextAdvice::Lacks(label, None, bytes) => write!(
                 f,
                 "{label} lacks a character, after the {bytes} bytes that were written: --mode html writes `&#NUMBER;`"
+            ),
+            TextAdvice::Losses(label) => write!(
+                f,
+                "bytes are lost: {label} is another label than theirs, or they are damaged (or they have U+FFFD). \
+                `gateway labels` tries the others"
             ),
         }
     }

@@ -9,7 +9,7 @@ use common::Stop;
 use enc_index::ReadError;
 use enc_stream::TranscodeError;
 use spool_disk::DiskFault;
-use spool_image::{FormatError, OpenFault, UpgradeError};
+use spool_image::{FormatError, OpenFault, RaiseError, UpgradeError};
 use std::alloc::AllocError;
 use std::io::ErrorKind;
 use std::{fmt, io};
@@ -48,6 +48,10 @@ pub enum Fault {
     NotEmpty,
     /// Index files that aren't the standard's, though they have to be.
     OtherIndexes,
+    /// A next number that would leave fewer than 10^15 numbers.
+    NumberTooLarge,
+    /// A text has U+FFFD, though it has to have none.
+    Lost,
     /// A number that no upload has.
     NoSuch,
     /// A label or a mode that isn't known, or an encoding whose index files aren't there.
@@ -127,6 +131,8 @@ impl Fault {
             Fault::CannotOpen => (39, "CannotOpen"),
             Fault::NotEmpty => (40, "NotEmpty"),
             Fault::OtherIndexes => (41, "OtherIndexes"),
+            Fault::NumberTooLarge => (42, "NumberTooLarge"),
+            Fault::Lost => (43, "Lost"),
         })
     }
 
@@ -227,6 +233,19 @@ impl From<UpgradeError> for Fault {
         match error {
             UpgradeError::Open(fault) => Fault::from(fault),
             UpgradeError::AlreadyNew => Fault::AlreadyNew,
+        }
+    }
+}
+
+impl From<RaiseError> for Fault {
+    ghost use Rattle.gateway_outside.specs.Faults.{raise_fault};
+
+    ghost from_gives = { λ below fault. fault ≡ raise_fault below };
+
+    fn from(error: RaiseError) -> Self {
+        match error {
+            RaiseError::Open(fault) => Fault::from(fault),
+            RaiseError::TooLarge => Fault::NumberTooLarge,
         }
     }
 }

@@ -3,6 +3,8 @@ use Rattle.std.proofs.Common.{◌≡◌, ℕ, List, [], ◌∷◌, Option, Some,
 use Rattle.common.specs.declared.stop.Stop.TheVariants.{NoMemory, DiskFault}
 use Rattle.spool_disk.specs.declared.disk.Disk.{Ghosts}
 use Rattle.spool_catalog.specs.declared.error.OpenFault.TheVariants as opens
+use Rattle.spool_image.specs.declared.error.RaiseError.{RaiseError}
+use Rattle.spool_image.specs.declared.error.RaiseError.TheVariants as raises
 use Rattle.spool_image.specs.declared.error.UpgradeError.{UpgradeError}
 use Rattle.spool_image.specs.declared.error.UpgradeError.TheVariants as upgrades
 use Rattle.upload_rules.specs.Answers.{Among}
@@ -16,8 +18,9 @@ use Rattle.gateway_engine.specs.declared.faults.RunFault.TheVariants.{Open, Scri
 use Rattle.gateway_rounds.specs.declared.round.End.{End}
 use Rattle.gateway_rounds.specs.declared.round.End.TheVariants.{Crash, Nothing}
 use Rattle.gateway_rounds.specs.declared.round.Work.{Work}
-use Rattle.gateway_rounds.specs.declared.round.Work.TheVariants.{Run, Upgrade}
-use Rattle.gateway_rounds.specs.Rounds.{HaveAllBytes, IsEnd, IsWork, left_by_run, left_by_upgrade}
+use Rattle.gateway_rounds.specs.declared.round.Work.TheVariants.{Raise, Run, Upgrade}
+use Rattle.gateway_rounds.specs.Rounds.{HaveAllBytes, IsEnd, IsWork, left_by_raise, left_by_run, left_by_upgrade}
+use Rattle.gateway_rounds.specs.Rounds.{raised_to}
 
 one_has : (m : Store) → HasAllBytes m → HaveAllBytes (m ∷ [])
 one_has m has s (inl is) = subst HasAllBytes (sym is) has
@@ -60,6 +63,24 @@ upgrade_left (Some (upgrades.Open opens.Version)) m before has have = one_has m 
 upgrade_left (Some (upgrades.Open opens.Damaged)) m before has have = one_has m has
 upgrade_left (Some upgrades.AlreadyNew) m before has have = one_has m has
 
+raised_has : (m : Store) (number : ℕ) → HasAllBytes m → HasAllBytes (raised_to m number)
+raised_has m number has = has
+
+raised_or : (m : Store) (number : ℕ) (before : List Store) → HasAllBytes m → HaveAllBytes before
+    → HaveAllBytes (raised_to m number ∷ before)
+raised_or m number before has have s (inl is) = subst HasAllBytes (sym is) (raised_has m number has)
+raised_or m number before has have s (inr among) = have s among
+
+raise_left : (reported : Option RaiseError) (number : ℕ) (m : Store) (before : List Store) → HasAllBytes m
+    → HaveAllBytes before → HaveAllBytes (left_by_raise reported number m before)
+raise_left None number m before has have = one_has (raised_to m number) (raised_has m number has)
+raise_left (Some (raises.Open (opens.Stop DiskFault))) number m before has have = raised_or m number before has have
+raise_left (Some (raises.Open (opens.Stop NoMemory))) number m before has have = have
+raise_left (Some (raises.Open opens.NotASpool)) number m before has have = have
+raise_left (Some (raises.Open opens.Version)) number m before has have = have
+raise_left (Some (raises.Open opens.Damaged)) number m before has have = have
+raise_left (Some raises.TooLarge) number m before has have = have
+
 work_left : {D : Type 0} (disk : Ghosts D) (n : ℕ) (given back : D) (before left : List Store) (work reported : Work)
     → IsWork disk n given back before left work reported → HaveAllBytes before → HaveAllBytes left
 work_left disk n given back before left (Run run) (Run reported) is have =
@@ -68,8 +89,15 @@ work_left disk n given back before left (Run run) (Run reported) is have =
     (left_by (beginning is.store (Some n)) has is.passes.past before have reported.fault)
 work_left disk n given back before left (Upgrade error) (Upgrade reported) is have =
     subst HaveAllBytes (sym is.same) (upgrade_left reported is.store before (have is.store is.opened.among) have)
+work_left disk n given back before left (Raise round) (Raise reported) is have =
+    subst HaveAllBytes (sym is.leaves)
+    (raise_left reported.fault round.number is.store before (have is.store is.opened.among) have)
 work_left disk n given back before left (Run run) (Upgrade reported) is have = absurd is
+work_left disk n given back before left (Run run) (Raise reported) is have = absurd is
 work_left disk n given back before left (Upgrade error) (Run reported) is have = absurd is
+work_left disk n given back before left (Upgrade error) (Raise reported) is have = absurd is
+work_left disk n given back before left (Raise round) (Run reported) is have = absurd is
+work_left disk n given back before left (Raise round) (Upgrade reported) is have = absurd is
 
 pub round_left : {D C : Type 0} (disk : Ghosts D) (chosen : C → D → D → Type 0) (n : ℕ) (given back after : D)
     (before left next : List Store) (work reported : Work) (end : End C)

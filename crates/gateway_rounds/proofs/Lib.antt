@@ -1,3 +1,4 @@
 pub mod Passing
+pub mod Raising
 pub mod Bytes
 pub mod Living

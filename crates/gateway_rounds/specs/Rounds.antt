@@ -1,14 +1,18 @@
--- The rounds of a disk's life. In each it is opened and a script is run over it, or it is brought to version 2, and
--- then it crashes, or it goes on as it is.
-use Rattle.std.specs.Prelude.{◌≡◌, ℕ, List, [], ◌∷◌, ◌++◌, Option, Some, None, take}
+-- The rounds of a disk's life. In each it is opened and a script is run over it, or it is brought to version 2, or it
+-- gets a later next number, and then it crashes, or it goes on as it is.
+use Rattle.std.specs.Prelude.{◌≡◌, ℕ, ◌<◌, ◌≤◌, max, List, [], ◌∷◌, ◌++◌, Option, Some, None, take}
 use Rattle.common.specs.declared.stop.Stop.TheVariants.{NoMemory, DiskFault}
 use Rattle.spool_disk.specs.Disk.{Counts, IsImage}
 use Rattle.spool_disk.specs.declared.disk.Disk.{Ghosts}
 use Rattle.spool_image.specs.Format.{IsNewest}
 use Rattle.spool_image.specs.LeftOnly.{AllShow}
 use Rattle.spool_image.specs.Texts.{HasText}
+use Rattle.spool_image.specs.Raise.{latest}
+use Rattle.spool_image.specs.declared.error.RaiseError.{RaiseError}
+use Rattle.spool_image.specs.declared.error.RaiseError.TheVariants as raises
 use Rattle.spool_image.specs.declared.error.UpgradeError.{UpgradeError}
 use Rattle.spool_image.specs.declared.error.UpgradeError.TheVariants as upgrades
+use Rattle.spool_catalog.specs.Raising.{raised}
 use Rattle.spool_catalog.specs.Shows.{ImageShows}
 use Rattle.spool_catalog.specs.declared.error.OpenFault.TheVariants as opens
 use Rattle.upload_rules.specs.Answers.{Among}
@@ -25,10 +29,11 @@ use Rattle.gateway_engine.specs.declared.faults.RunFault.{RunFault}
 use Rattle.gateway_engine.specs.declared.faults.RunFault.TheVariants.{Open, Script}
 use Rattle.gateway_rounds.specs.declared.round.End.{End}
 use Rattle.gateway_rounds.specs.declared.round.End.TheVariants.{Crash, Nothing}
+use Rattle.gateway_rounds.specs.declared.round.Raise as code_raise
 use Rattle.gateway_rounds.specs.declared.round.Round.{Round}
 use Rattle.gateway_rounds.specs.declared.round.Run as code_run
 use Rattle.gateway_rounds.specs.declared.round.Work.{Work}
-use Rattle.gateway_rounds.specs.declared.round.Work.TheVariants.{Run, Upgrade}
+use Rattle.gateway_rounds.specs.declared.round.Work.TheVariants.{Raise, Run, Upgrade}
 
 -- WHERE A ROUND BEGINS: each image shows one of some stores. A read shows one of them, and the disk is opened with it
 pub record OpensWith {D : Type 0} (disk : Ghosts D) (given : D) (n : ℕ) (stores : List Store) (m : Store) : Type 0 where
@@ -127,6 +132,37 @@ pub record IsUpgrade {D : Type 0} (disk : Ghosts D) (n : ℕ) (given back : D) (
   pub counts : Counts (reported ≡ Some (upgrades.Open (opens.Stop DiskFault))) (disk.failures given)
       (disk.failures back)
 
+-- A RAISE
+
+-- the store with the later of its next number and this one
+abbrev pub raised_to : Store → ℕ → Store
+raised_to m number = raised m (max m.next number)
+
+-- how it ended: it is refused by memory, by the disk, or where the number is too large
+abbrev pub RaiseEnds : ℕ → Option RaiseError → Type 0
+RaiseEnds number None = number ≤ latest
+RaiseEnds number (Some raises.TooLarge) = latest < number
+RaiseEnds number (Some (raises.Open (opens.Stop stop))) = Unit {0}
+RaiseEnds number (Some (raises.Open _)) = ⊥
+
+-- It changes no upload, and the next number where it was done. Where the disk failed, the images show one of the stores
+-- of before, or the later number
+abbrev pub left_by_raise : Option RaiseError → ℕ → Store → List Store → List Store
+left_by_raise None number m before = raised_to m number ∷ []
+left_by_raise (Some (raises.Open (opens.Stop DiskFault))) number m before = raised_to m number ∷ before
+left_by_raise (Some fault) number m before = before
+
+-- a raise as it was reported, from a disk to the disk that came back
+pub record IsRaise {D : Type 0} (disk : Ghosts D) (n : ℕ) (given back : D) (before left : List Store)
+    (round reported : code_raise.Raise) : Type 0 where
+  pub number : reported.number ≡ round.number
+  pub ends : RaiseEnds round.number reported.fault
+  pub store : Store
+  pub opened : OpensWith disk given n before store
+  pub leaves : left ≡ left_by_raise reported.fault round.number store before
+  pub counts : Counts (reported.fault ≡ Some (raises.Open (opens.Stop DiskFault))) (disk.failures given)
+      (disk.failures back)
+
 -- THE END OF A ROUND
 
 -- The crash that was chosen left one of the images that it may leave, all of it synced, which shows one of the stores.
@@ -153,8 +189,9 @@ abbrev pub IsWork : {D : Type 0} → Ghosts D → ℕ → D → D → List Store
 IsWork disk n given back before left (Run run) (Run reported) = IsRun disk n given back before left run reported
 IsWork disk n given back before left (Upgrade error) (Upgrade reported) =
     IsUpgrade disk n given back before left reported
-IsWork disk n given back before left (Run run) (Upgrade reported) = ⊥
-IsWork disk n given back before left (Upgrade error) (Run reported) = ⊥
+IsWork disk n given back before left (Raise round) (Raise reported) =
+    IsRaise disk n given back before left round reported
+IsWork disk n given back before left work reported = ⊥
 
 -- the uploads of a store are there in an image, with their texts
 abbrev pub HasTextsOf : (ℕ → ℕ) → Store → Type 0

@@ -16,9 +16,9 @@ use spool_image::{FormatError, format};
 use std::alloc::Global;
 
 /// Makes a spool of so many text blocks on a disk, and then lives through the rounds, one after the other. In each the
-/// disk is opened and the script is run over it, or it is brought to version 2. This ends by itself, or at the call
-/// at which the disk stops. Then the disk goes on with one of the images that a crash leaves, or as it is. What came of
-/// each round is in it afterwards.
+/// disk is opened and the script is run over it, or it is brought to version 2, or it gets a later next number. This
+/// ends by itself, or at the call at which the disk stops. Then the disk goes on with one of the images that a crash
+/// leaves, or as it is. What came of each round is in it afterwards.
 ///
 /// # Errors
 ///
@@ -33,7 +33,8 @@ pub fn endure<D: CrashDisk>(
 ) -> Result<D, (D, FormatError)>
     // After each run the disk has the uploads after the first events of its script, in order. Each of them is whole and
     // has its text. Each event of which a reply was written is one of these events. An upgrade changes no upload, and
-    // after one that was done the disk has a valid spool of version 2.
+    // after one that was done the disk has a valid spool of version 2. Nor does a raise, and after one that was done no
+    // number below is given.
     ensures lives { D.honest disk → IfOk result
         (λ last. HasLived D.Disk D.chosen disk blocks (no_uploads indexes.now) rounds.old rounds.new last) }
 

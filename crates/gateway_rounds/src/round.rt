@@ -2,12 +2,12 @@
 ghost use Rattle.std.specs.Prelude.{◌≡◌, ℕ, List, [], None};
 ghost use Rattle.upload_rules.specs.Store.{Store};
 ghost use Rattle.gateway_engine.specs.RanOn.{AllShowOne};
-ghost use Rattle.gateway_rounds.specs.Rounds.{IsEnd, IsRound, IsRun, IsUpgrade, IsWork};
+ghost use Rattle.gateway_rounds.specs.Rounds.{IsEnd, IsRaise, IsRound, IsRun, IsUpgrade, IsWork};
 
 use crate::streams::{ScriptBytes, WrittenBytes};
 use gateway_engine::{RunFault, run};
 use spool_disk::CrashDisk;
-use spool_image::{UpgradeError, upgrade};
+use spool_image::{RaiseError, UpgradeError, raise, upgrade};
 use std::alloc::Global;
 
 /// A round of a disk's life: what is done, what came of it, and how the round ends.
@@ -26,6 +26,8 @@ pub enum Work {
     Run(Run),
     /// The spool is brought to version 2. Afterwards it has why it wasn't.
     Upgrade(Option<UpgradeError>),
+    /// The spool gets a later next number.
+    Raise(Raise),
 }
 
 /// How a round ends.
@@ -46,6 +48,15 @@ pub struct Run {
     pub written: WrittenBytes,
     /// Why the run ended before its script did.
     pub fault: Option<RunFault>,
+}
+
+/// A next number for a spool.
+#[derive(Drop)]
+pub struct Raise {
+    /// What the next number is to be, unless it is that or later already.
+    pub number: u64,
+    /// Why it isn't. In a raise that isn't begun yet, `None`.
+    pub fault: Option<RaiseError>,
 }
 
 impl Run {
@@ -103,6 +114,24 @@ fn live_upgrade<D: CrashDisk>(alloc: Global, disk: D, error: &mut Option<Upgrade
     }
 }
 
+// The spool gets a later next number.
+fn live_raise<D: CrashDisk>(alloc: Global, disk: D, asked: &mut Raise) -> D
+    ensures { (n : ℕ) (before : List Store) → AllShowOne D.Disk disk n before → (left : List Store)
+        × AllShowOne D.Disk result n left × IsRaise D.Disk n disk result before left asked.old asked.new }
+{
+    let mut disk = disk;
+    match raise(alloc, &mut disk, asked.number) {
+        Ok(_next) => {
+            asked.fault = None;
+            disk
+        }
+        Err(fault) => {
+            asked.fault = Some(fault);
+            disk
+        }
+    }
+}
+
 // The work is done on the disk.
 fn work_on<D: CrashDisk>(alloc: Global, disk: D, work: &mut Work) -> D
     ensures { (n : ℕ) (before : List Store) → AllShowOne D.Disk disk n before → (left : List Store)
@@ -111,6 +140,7 @@ fn work_on<D: CrashDisk>(alloc: Global, disk: D, work: &mut Work) -> D
     match work {
         Work::Run(run) => live_run(alloc, disk, run),
         Work::Upgrade(error) => live_upgrade(alloc, disk, error),
+        Work::Raise(asked) => live_raise(alloc, disk, asked),
     }
 }
 

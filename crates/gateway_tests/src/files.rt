@@ -1,11 +1,13 @@
 //! Spools in files: they are formatted, used, listed, upgraded and refused.
 
-use crate::spools::ran;
+use crate::spools::{opened, ran};
 use crate::steps::Step::{self, Added, Deferred, Made, Open};
 use crate::talks::Talk;
 use gateway_delete::incomplete_in;
 use gateway_export::export_file;
-use gateway_format::{format_file, report_formatted, upgrade_in};
+use gateway_format::{
+    NewSpool, format_file, raise_file, report_formatted, report_raised, upgrade_in,
+};
 use gateway_indexes::report_read;
 use gateway_list::{json_file, list_file, list_on};
 use gateway_outside::{Failure, Noted, SystemFiles, open_spool};
@@ -13,6 +15,7 @@ use spool_disk::{Disk, FileDisk};
 use std::alloc::Global;
 use std::fs;
 use std::process::Abort;
+use upload_rules::Uploads;
 
 const FOLDER: &str = "gateway_file_test";
 
@@ -58,6 +61,17 @@ const LISTED: &[u8] = b"1 5/6 5 UTF-8 UTF-8 html\n\
     2 4/4 2 UTF-16LE UTF-8 fatal from dXRmLTE2bGU=,mode ZmF0YWw=\n\
     3 0/? 0 UTF-8 UTF-8 html\n";
 
+/// A new spool of 16 blocks with the index files of this folder.
+fn small(indexes: &str) -> NewSpool<'_> {
+    NewSpool {
+        blocks: 16,
+        indexes,
+        overwrite: false,
+        standard: false,
+        first: None,
+    }
+}
+
 /// Checks that the listing of a disk, with metadata, is `LISTED`.
 fn lists(rt: &impl Abort, alloc: Global, disk: FileDisk) -> FileDisk {
     let mut lines = Vec::new(alloc);
@@ -95,7 +109,7 @@ fn spool_is_made_used_listed_and_upgraded(rt: HostRuntime) {
     fs::create_dir(&rt, FOLDER).expect(&rt, "a folder");
     fs::write(&rt, JIS0208, "0\t3000\n").expect(&rt, "a file");
     fs::write(&rt, JIS0212, "# two\n108\t02D8\n").expect(&rt, "a file");
-    let made = format_file(&rt, alloc, SPOOL, 16, FOLDER, false, false).expect(&rt, "a spool");
+    let made = format_file(&rt, alloc, SPOOL, small(FOLDER)).expect(&rt, "a spool");
     let mut lines = Vec::new(alloc);
     report_formatted(&mut lines, 16, made.pages).expect(&rt, "a line");
     report_read(&mut lines, made.files.as_slice()).expect(&rt, "lines");
@@ -115,7 +129,11 @@ fn spool_is_made_used_listed_and_upgraded(rt: HostRuntime) {
     let last_line =
         "refused: 35 AlreadyNew\ngateway_file_test/spool is of version 2: there is nothing to do";
     fails(&rt, alloc, again, 2, last_line);
-    let other = format_file(&rt, alloc, OTHER, 16, FOLDER, false, true).map(drop);
+    let standard = NewSpool {
+        standard: true,
+        ..small(FOLDER)
+    };
+    let other = format_file(&rt, alloc, OTHER, standard).map(drop);
     fails(&rt, alloc, other, 2, OTHERS);
     assert!(rt; !fs::exists(&rt, OTHER).expect(&rt, "a folder"));
     fs::remove_dir_all(&rt, FOLDER).expect(&rt, "a folder");
@@ -140,57 +158,26 @@ fn spool_stays_as_it_is(rt: HostRuntime) {
     let _ = fs::remove_dir_all(&rt, AGAIN);
     fs::create_dir(&rt, AGAIN).expect(&rt, "a folder");
     fs::write(&rt, "gateway_again_test/spool", "no spool").expect(&rt, "a file");
-    let foreign = format_file(
-        &rt,
-        alloc,
-        "gateway_again_test/spool",
-        16,
-        AGAIN,
-        false,
-        false,
-    )
-    .map(drop);
-    let last_line = "refused: 40 NotEmpty\n\
+    let foreign = format_file(&rt, alloc, "gateway_again_test/spool", small(AGAIN)).map(drop);
+    let message = "refused: 40 NotEmpty\n\
     gateway_again_test/spool isn't empty, and no spool: take another path, or --overwrite if nobody needs it. \
     An interrupted format leaves such a file; a damaged spool is one too: see docs/FORMAT.md";
-    fails(&rt, alloc, foreign, 2, last_line);
-    let made = format_file(
-        &rt,
-        alloc,
-        "gateway_again_test/spool",
-        16,
-        AGAIN,
-        true,
-        false,
-    )
-    .expect(&rt, "a spool");
+    fails(&rt, alloc, foreign, 2, message);
+    let over = NewSpool {
+        overwrite: true,
+        ..small(AGAIN)
+    };
+    let made = format_file(&rt, alloc, "gateway_again_test/spool", over).expect(&rt, "a spool");
     assert_eq!(rt; (made.pages, made.longer), (557, None));
     let before = fs::read(&rt, "gateway_again_test/spool").expect(&rt, "its bytes");
-    let again = format_file(
-        &rt,
-        alloc,
-        "gateway_again_test/spool",
-        32,
-        AGAIN,
-        true,
-        false,
-    )
-    .map(drop);
-    let last_line = "refused: 13 AlreadySpool\n\
+    let longer = NewSpool { blocks: 32, ..over };
+    let again = format_file(&rt, alloc, "gateway_again_test/spool", longer).map(drop);
+    let message = "refused: 13 AlreadySpool\n\
     gateway_again_test/spool is a spool, and stays as it is: take another path, or remove it yourself";
-    fails(&rt, alloc, again, 2, last_line);
+    fails(&rt, alloc, again, 2, message);
     let index = "gateway_again_test/index-jis0212.txt";
     fs::write(&rt, index, "0\t3000\n8836\t3000\n").expect(&rt, "a file");
-    let unread = format_file(
-        &rt,
-        alloc,
-        "gateway_again_test/other",
-        16,
-        AGAIN,
-        false,
-        false,
-    )
-    .map(drop);
+    let unread = format_file(&rt, alloc, "gateway_again_test/other", small(AGAIN)).map(drop);
     fails(
         &rt,
         alloc,
@@ -210,23 +197,18 @@ fn spool_stays_as_it_is(rt: HostRuntime) {
 fn failure_says_what_the_system_said(rt: HostRuntime) {
     let alloc = rt.alloc();
     let lost = open_spool(&rt, "no_such_folder/spool").map(drop);
-    let last_line = "refused: 39 CannotOpen\n\
+    let message = "refused: 39 CannotOpen\n\
     cannot open the spool no_such_folder/spool: No such file or directory (os error 2)";
-    fails(&rt, alloc, lost, 2, last_line);
-    let unmade = format_file(
-        &rt,
-        alloc,
-        "gateway_unmade_test",
-        16,
-        "no_such_folder",
-        false,
-        true,
-    )
-    .map(drop);
-    let last_line = "refused: 33 Io\n\
+    fails(&rt, alloc, lost, 2, message);
+    let standard = NewSpool {
+        standard: true,
+        ..small("no_such_folder")
+    };
+    let unmade = format_file(&rt, alloc, "gateway_unmade_test", standard).map(drop);
+    let message = "refused: 33 Io\n\
     cannot look into the folder no_such_folder: No such file or directory (os error 2). The standard's index files \
     are in /usr/share/wovelatsa/indexes, or encoding.spec.whatwg.org has them";
-    fails(&rt, alloc, unmade, 2, last_line);
+    fails(&rt, alloc, unmade, 2, message);
     assert!(rt; !fs::exists(&rt, "gateway_unmade_test").expect(&rt, "a folder"));
     let nowhere = export_file(&rt, alloc, "gateway_unmade_test", "no_such_folder", false);
     let message = "refused: 33 Io\n\
@@ -235,7 +217,7 @@ fn failure_says_what_the_system_said(rt: HostRuntime) {
     fails(&rt, alloc, nowhere, 2, message);
     let used = FileDisk::create(&rt, "gateway_used_test", 4).expect(&rt, "a file");
     let twice = open_spool(&rt, "gateway_used_test").map(drop);
-    let last_line = "refused: 38 InUse\n\
+    let message = "refused: 38 InUse\n\
     gateway_used_test is in use: stop the gateway that serves it (`fuser gateway_used_test` prints its process)";
     for ended in [
         open_spool(&rt, "gateway_used_test").map(drop),
@@ -257,4 +239,58 @@ fn failure_says_what_the_system_said(rt: HostRuntime) {
     }
     drop(used);
     fs::remove_file(&rt, "gateway_used_test").expect(&rt, "a file");
+}
+
+const RAISED: &str = "gateway_raised_test";
+
+const RAISED_SPOOL: &str = "gateway_raised_test/spool";
+
+/// Each row: the number of a new spool's first upload, the number that the spool is to get then, and the number that it
+/// has.
+static RAISES: [(Option<u64>, u64, u64); 5] = [
+    (None, 7, 7),
+    (Some(0), 0, 1),
+    (Some(42), 7, 42),
+    (Some(42), 43, 43),
+    (None, 999_000_000_000_000_000, 999_000_000_000_000_000),
+];
+
+/// A number that would leave too few.
+const TOO_LARGE: u64 = 999_000_000_000_000_001;
+
+/// What is said of it.
+const NOT_THAT_LARGE: &str =
+    "refused: 42 NumberTooLarge\nthe number is at most 999000000000000000: nothing lowers it again";
+
+#[test]
+fn next_number_is_raised(rt: HostRuntime) {
+    let alloc = rt.alloc();
+    let _ = fs::remove_dir_all(&rt, RAISED);
+    fs::create_dir(&rt, RAISED).expect(&rt, "a folder");
+    let wanted = NewSpool {
+        first: Some(TOO_LARGE),
+        ..small(RAISED)
+    };
+    let unmade = format_file(&rt, alloc, RAISED_SPOOL, wanted).map(drop);
+    fails(&rt, alloc, unmade, 2, NOT_THAT_LARGE);
+    assert!(rt; !fs::exists(&rt, RAISED_SPOOL).expect(&rt, "a folder"));
+    for (first, number, next) in RAISES.iter() {
+        let wanted = NewSpool {
+            first: *first,
+            ..small(RAISED)
+        };
+        format_file(&rt, alloc, RAISED_SPOOL, wanted).expect(&rt, "a spool");
+        let answer = raise_file(&rt, alloc, RAISED_SPOOL, *number).expect(&rt, "a number");
+        let refused = raise_file(&rt, alloc, RAISED_SPOOL, TOO_LARGE).map(drop);
+        fails(&rt, alloc, refused, 2, NOT_THAT_LARGE);
+        let disk = open_spool(&rt, RAISED_SPOOL).expect(&rt, "a spool");
+        let gateway = opened(&rt, alloc, disk);
+        assert_eq!(rt; (answer, gateway.uploads().next_number()), (*next, *next));
+        drop(gateway.into_disk());
+        fs::remove_file(&rt, RAISED_SPOOL).expect(&rt, "a file");
+    }
+    let mut lines = Vec::new(alloc);
+    report_raised(&mut lines, 42).expect(&rt, "a line");
+    assert_eq!(rt; lines.as_slice(), b"next number 42\n".as_slice());
+    fs::remove_dir_all(&rt, RAISED).expect(&rt, "a folder");
 }

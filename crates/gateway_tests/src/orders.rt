@@ -6,18 +6,31 @@ use std::process::Abort;
 
 /// Command lines, and what each one parses to: an order, a call for help, or a usage error. The errors have a word too
 /// few, a word too many, or one that isn't valid.
-static LINES: [(&str, &str); 65] = [
+static LINES: [(&str, &str); 81] = [
     (
         "gateway format new --blocks 16 --indexes idx",
-        r#"Format { spool: "new", blocks: 16, indexes: "idx", overwrite: false, standard: false }"#,
+        r#"Format { spool: "new", blocks: 16, indexes: "idx", overwrite: false, standard: false, first: None }"#,
     ),
     (
         "gateway format new --blocks 16 --indexes idx --standard-indexes",
-        r#"Format { spool: "new", blocks: 16, indexes: "idx", overwrite: false, standard: true }"#,
+        r#"Format { spool: "new", blocks: 16, indexes: "idx", overwrite: false, standard: true, first: None }"#,
     ),
     (
         "gateway format new --blocks 16 --indexes idx --overwrite",
-        r#"Format { spool: "new", blocks: 16, indexes: "idx", overwrite: true, standard: false }"#,
+        r#"Format { spool: "new", blocks: 16, indexes: "idx", overwrite: true, standard: false, first: None }"#,
+    ),
+    (
+        "gateway format new --blocks 16 --indexes idx --first 7",
+        r#"Format { spool: "new", blocks: 16, indexes: "idx", overwrite: false, standard: false, first: Some(7) }"#,
+    ),
+    (
+        "gateway format new --first=18446744073709551615 --blocks 16 --indexes idx",
+        "Format { spool: \"new\", blocks: 16, indexes: \"idx\", overwrite: false, standard: false, \
+            first: Some(18446744073709551615) }",
+    ),
+    (
+        "gateway format new --blocks 16 --indexes idx --first 0",
+        r#"Format { spool: "new", blocks: 16, indexes: "idx", overwrite: false, standard: false, first: Some(0) }"#,
     ),
     ("gateway script -", r#"Script { spool: "-" }"#),
     (
@@ -37,12 +50,20 @@ static LINES: [(&str, &str); 65] = [
     ("gateway list --json old", r#"Json { spool: "old" }"#),
     ("gateway upgrade old", r#"Upgrade { spool: "old" }"#),
     (
-        "gateway text --from koi8-r --indexes idx",
-        r#"Text { from: "koi8-r", to: "utf-8", mode: "html", indexes: "idx" }"#,
+        "gateway raise old 7",
+        r#"Raise { spool: "old", number: 7 }"#,
     ),
     (
-        "gateway text --indexes idx --mode fatal --to=latin1 --from utf-8",
-        r#"Text { from: "utf-8", to: "latin1", mode: "fatal", indexes: "idx" }"#,
+        "gateway raise old 18446744073709551615",
+        r#"Raise { spool: "old", number: 18446744073709551615 }"#,
+    ),
+    (
+        "gateway text --from koi8-r --indexes idx",
+        r#"Text { from: "koi8-r", to: "utf-8", mode: "html", indexes: "idx", strict: false }"#,
+    ),
+    (
+        "gateway text --indexes idx --mode fatal --strict --to=latin1 --from utf-8",
+        r#"Text { from: "utf-8", to: "latin1", mode: "fatal", indexes: "idx", strict: true }"#,
     ),
     (
         "gateway labels --indexes idx",
@@ -142,17 +163,40 @@ static LINES: [(&str, &str); 65] = [
         "usage",
     ),
     ("gateway up old --quiet=yes", "usage"),
+    ("gateway raise old", "usage"),
+    ("gateway raise", "usage"),
+    ("gateway raise old 7 8", "usage"),
+    ("gateway raise old seven", "usage"),
+    ("gateway raise old -7", "usage"),
+    ("gateway raise old 18446744073709551616", "usage"),
+    (
+        "gateway format new --blocks 16 --indexes idx --first",
+        "usage",
+    ),
+    (
+        "gateway format new --blocks 16 --indexes idx --first 7 --first 8",
+        "usage",
+    ),
+    (
+        "gateway format new --blocks 16 --indexes idx --first seven",
+        "usage",
+    ),
+    (
+        "gateway format new --blocks 16 --indexes idx --first 18446744073709551616",
+        "usage",
+    ),
+    ("gateway format new --first 7", "usage"),
     ("gateway nosuch", "usage"),
     ("gateway help nosuch", "usage"),
 ];
 
 /// The line that names all commands.
 const COMMANDS: &str =
-    "Commands: format, up, list, delete, export, labels, text, upgrade, serve, script";
+    "Commands: format, up, list, delete, export, labels, text, upgrade, raise, serve, script";
 
 /// Wrong command lines, and a line of each one's message: the usage of the command that was given, the names of all
 /// commands where none was, or what is wrong.
-static MESSAGES: [(&str, &str); 18] = [
+static MESSAGES: [(&str, &str); 20] = [
     (
         "gateway format",
         "Usage: gateway format --blocks <N> --indexes <DIR> <SPOOL>",
@@ -197,6 +241,8 @@ static MESSAGES: [(&str, &str); 18] = [
         "gateway delete old 3 --yes",
         "error: the argument '[NUMBER]...' cannot be used with '--yes'",
     ),
+    ("gateway raise old", "  <NUMBER>"),
+    ("gateway raise old", "Usage: gateway raise <SPOOL> <NUMBER>"),
     ("gateway nosuch", "error: unrecognized subcommand 'nosuch'"),
     ("gateway nosuch", COMMANDS),
     ("gateway help nosuch", COMMANDS),
@@ -248,19 +294,19 @@ fn message(rt: &impl Abort, alloc: Global, words: &[String]) -> String {
 
 #[test]
 fn command_lines(rt: HostRuntime) {
-    for (line, replied) in LINES.iter() {
+    for (line, order) in LINES.iter() {
         let words = words_of(&rt, rt.alloc(), line);
-        assert_eq!(rt; read(&rt, rt.alloc(), &words).as_str(), *replied, "{line}");
+        assert_eq!(rt; read(&rt, rt.alloc(), &words).as_str(), *order, "{line}");
     }
 }
 
 #[test]
 fn messages(rt: HostRuntime) {
-    for (line, replied) in MESSAGES.iter() {
+    for (line, wanted) in MESSAGES.iter() {
         let words = words_of(&rt, rt.alloc(), line);
         let message = message(&rt, rt.alloc(), &words);
         assert!(rt;
-            message.split('\n').any(|found| found == *replied),
+            message.split('\n').any(|found| found == *wanted),
             "{line}: {message}"
         );
     }

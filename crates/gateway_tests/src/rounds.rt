@@ -4,9 +4,9 @@ use crate::replies::{Wanted, replies};
 use crate::spools::{POWERS, calls_of_opening};
 use crate::talks::fresh;
 use enc_index::IndexSet;
-use gateway_rounds::{End, Round, Run, Work, endure, live_through};
+use gateway_rounds::{End, Raise, Round, Run, Work, endure, live_through};
 use spool_disk::{Crash, Disk, FuseDisk, MemoryDisk};
-use spool_image::{UpgradeError, format};
+use spool_image::{RaiseError, UpgradeError, format};
 use std::alloc::Global;
 use std::process::Abort;
 
@@ -70,6 +70,10 @@ say 1
 
 /// Asks for the upload with HEAD.
 const LOOKS: &[u8] = b"open 1\nsay 1 HEAD /files/1 HTTP/1.1\nsay 1 Tus-Resumable: 1.0.0\nsay 1\n";
+
+/// Makes an upload.
+const MAKES: &[u8] =
+    b"open 1\nsay 1 POST /files HTTP/1.1\nsay 1 Tus-Resumable: 1.0.0\nsay 1 Upload-Length: 5\nsay 1\n";
 
 /// What a HEAD shows: no such upload, an empty one, one of unknown length, and a full one.
 const NONE: Wanted = Wanted::Gone;
@@ -149,7 +153,7 @@ fn lives(
             assert!(rt; whole || first.fault.is_some());
             first.fault.is_none()
         }
-        _ => panic!(rt; "a run became an upgrade"),
+        _ => panic!(rt; "a run became another work"),
     }
 }
 
@@ -240,12 +244,54 @@ fn upgrade_is_a_round(rt: HostRuntime) {
                 written_of(&rt, alloc, Some(FULL)).as_slice()
             );
         },
-        Work::Upgrade(_) => panic!(rt; "a run became an upgrade"),
+        _ => panic!(rt; "a run became another work"),
     }
     match (&rounds[1].work, &rounds[2].work) {
         (Work::Upgrade(first), Work::Upgrade(second)) => {
             assert_eq!(rt; (*first, *second), (None, Some(UpgradeError::AlreadyNew)));
         }
-        _ => panic!(rt; "an upgrade became a run"),
+        _ => panic!(rt; "an upgrade became another work"),
+    }
+}
+
+/// A round that raises.
+fn raise_to(number: u64) -> Round<(Crash, u64)> {
+    round_of(
+        Work::Raise(Raise {
+            number,
+            fault: None,
+        }),
+        Some(Crash::Old),
+    )
+}
+
+/// A spool is filled and raised, and the next upload gets the later number.
+#[test]
+fn raise_is_a_round(rt: HostRuntime) {
+    let alloc = rt.alloc();
+    let mut rounds = [
+        run_of(&rt, alloc, FILLS.script, Crash::Old),
+        raise_to(40),
+        raise_to(7),
+        raise_to(1_000_000_000_000_000_001),
+        run_of(&rt, alloc, MAKES, Crash::Old),
+    ];
+    let disk = fresh(&rt, alloc, 16, None);
+    let _disk = live_through(alloc, FuseDisk::new(disk, NO_STOP), &mut rounds);
+    match (&rounds[1].work, &rounds[2].work, &rounds[3].work) {
+        (Work::Raise(later), Work::Raise(lower), Work::Raise(high)) => {
+            assert_eq!(rt; (later.fault, lower.fault), (None, None));
+            assert_eq!(rt; high.fault, Some(RaiseError::TooLarge));
+        }
+        _ => panic!(rt; "a raise became another work"),
+    }
+    match &rounds[4].work {
+        Work::Run(run) => {
+            assert_eq!(rt;
+                run.written.bytes.as_slice(),
+                written_of(&rt, alloc, Some(Wanted::Made(40))).as_slice()
+            );
+        },
+        _ => panic!(rt; "a run became another work"),
     }
 }

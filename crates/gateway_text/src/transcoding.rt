@@ -1,6 +1,6 @@
 //! Input as the text of an upload.
-ghost use Rattle.std.specs.Prelude.{◌≡◌, ◌<◌, ◌≤◌, [], true, false, IfErr, IfOk, IfSome, OnOk, length, option_map};
-ghost use Rattle.std.specs.Prelude.{take};
+ghost use Rattle.std.specs.Prelude.{◌≡◌, ◌<◌, ◌≤◌, [], true, false, IfErr, IfOk, IfSome, IsErrAnd, IsOk, OnOk};
+ghost use Rattle.std.specs.Prelude.{length, option_map, take};
 ghost use Rattle.std.specs.Io.KnownBytes.{Consumes, IsAtEnd};
 ghost use Rattle.enc_model.specs.Indexes.{tables};
 ghost use Rattle.enc_labels.specs.Labels.{encoding_of};
@@ -54,17 +54,34 @@ pub fn conversion_of(from: &str, to: &str, mode: &str) -> Option<Conversion>
     })
 }
 
+/// What text is wanted of standard input: as an upload with these labels and this mode has it.
+#[derive(Clone, Copy, Debug, Drop)]
+pub struct WantedText<'a> {
+    /// The label of what the bytes are in.
+    pub from: &'a str,
+    /// The label of what the text is stored in.
+    pub to: &'a str,
+    /// The mode: `html` or `fatal`.
+    pub mode: &'a str,
+    /// Whether a text that has U+FFFD is refused.
+    pub strict: bool,
+}
+
 /// Writes what an upload of standard input with these labels and this mode would be stored as, by the index files of a
 /// folder. On standard error it writes which of these aren't the standard's, and how often the text has U+FFFD.
-/// `BadLabel` where an upload with them is refused so.
+/// `BadLabel` where an upload with them is refused so; `Lost` after a text that may have no U+FFFD and has one.
 pub fn text_file<'a>(
     rt: &HostRuntime,
     alloc: Global,
-    from: &'a str,
-    to: &'a str,
-    mode: &'a str,
+    wanted: WantedText<'a>,
     folder: &'a str,
 ) -> Result<(), Failure<'a>> {
+    let WantedText {
+        from,
+        to,
+        mode,
+        strict,
+    } = wanted;
     let Some(conversion) = conversion_of(from, to, mode) else {
         return Err(refused_text(Fault::BadLabel, what_is_unknown(from, to, mode)));
     };
@@ -86,7 +103,7 @@ pub fn text_file<'a>(
             // If standard error can't be written, the count isn't reported.
             let reported = report_losses(&mut rt.stderr(), tally.losses());
             drop(reported);
-            Ok(())
+            refuse_lost(strict, from, tally.losses())
         }
         Err(Fault::Unencodable(character)) => {
             let advice = TextAdvice::Lacks(to, character, tally.bytes());
@@ -94,6 +111,17 @@ pub fn text_file<'a>(
         }
         Err(fault) => Err(Failure::on_streams(fault, input.error(), error)),
     }
+}
+
+// Refuses a text that may have no U+FFFD and has so many.
+fn refuse_lost<'a>(strict: bool, from: &'a str, losses: u64) -> Result<(), Failure<'a>>
+    ensures passes { (strict ≡ true → losses ≡ 0) → IsOk result }
+    ensures refused { strict ≡ true → 0 < losses → IsErrAnd result (λ failure. fault_in failure ≡ Fault.Lost) }
+{
+    if strict && losses > 0 {
+        return Err(refused_text(Fault::Lost, TextAdvice::Losses(from)));
+    }
+    Ok(())
 }
 
 fn refused_text<'a>(fault: Fault, advice: TextAdvice<'a>) -> Failure<'a>

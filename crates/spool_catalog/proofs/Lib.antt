@@ -4,5 +4,6 @@ pub mod Every
 pub mod Answered
 pub mod NewRecords
 pub mod Upgraded
+pub mod Raised
 pub mod numbers
 pub mod slots

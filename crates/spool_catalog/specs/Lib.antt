@@ -9,3 +9,4 @@ pub mod Rows
 pub mod TakenIn
 pub mod Longer
 pub mod TakenOut
+pub mod Raising

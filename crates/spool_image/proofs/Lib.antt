@@ -9,3 +9,4 @@ pub mod RepresentsOn
 pub mod Crashed
 pub mod Refused
 pub mod Upgraded
+pub mod Raised

@@ -4,7 +4,7 @@ use Rattle.spool_journal.specs.declared.TheConstants.{PAGE}
 use Rattle.spool_disk.specs.Disk.{IsImage}
 use Rattle.spool_disk.specs.Views.{Lasts}
 use Rattle.spool_disk.specs.declared.disk.Disk.{Ghosts}
-use Rattle.spool_disk.proofs.Firm.{lasts_more}
+use Rattle.spool_disk.proofs.Firm.{lasts_more, lasts_on}
 use Rattle.spool_journal.specs.Image.{journal_pages, all_pages, overlaid}
 use Rattle.spool_journal.specs.Phases.{ReadsAs}
 use Rattle.upload_rules.specs.Store.{Store}
@@ -44,3 +44,36 @@ pub lasts_shown : {D : Type 0} (disk : Ghosts D) (d d' : D) (n : ℕ) (m : Store
 lasts_shown disk d d' n m is lasts =
     lasts_more (lasts is.shows.view is.shows.shows.valid is.shows.is (view_room disk d n m is))
     (λ image one. ⊎_elim (λ here. inl here) (λ reads. inr (image_shows n m image (disk.current d) is.shows reads)) one)
+
+-- BY VIEWS
+
+module _ {D : Type 0} (disk : Ghosts D) where
+  -- what holds of each image by the view that a read shows, as it follows by the uploads
+  pub lasts_as : (d d' : D) (n : ℕ) (m : Store) (is : IsSpool disk d n m) (P : View → (ℕ → ℕ) → Type 0)
+      (Q : (ℕ → ℕ) → Type 0)
+      → ((v : View) → IsValid v → IsViewOf (disk.current d) v → PAGE * all_pages v.blocks ≤ disk.size d
+      → Lasts disk d d' (P v)) → ((image : ℕ → ℕ) → P is.shows.view image → Q image) → Lasts disk d d' Q
+  lasts_as d d' n m is P Q lasts more =
+      lasts_more (lasts is.shows.view is.shows.shows.valid is.shows.is (view_room disk d n m is)) more
+
+  pub lasts_or : {d d' : D} (A B C : (ℕ → ℕ) → Type 0) → ((image : ℕ → ℕ) → B image → C image)
+      → Lasts disk d d' (λ image. A image ⊎ B image) → Lasts disk d d' (λ image. A image ⊎ C image)
+  lasts_or A B C more lasts = lasts_more lasts (λ image one. ⊎_elim (λ a. inl a) (λ b. inr (more image b)) one)
+
+  module _ (d : D) (v : View) (P : (ℕ → ℕ) → Type 0) (is : IsViewOf (disk.current d) v) where
+    abbrev Read : (ℕ → ℕ) → Type 0
+    Read image = IsImage (disk.current d) (disk.unsynced d) image
+        ⊎ ReadsAs (journal_pages v.blocks) image (overlaid (disk.current d))
+
+    abbrev Viewed : (ℕ → ℕ) → Type 0
+    Viewed image = IsImage (disk.current d) (disk.unsynced d) image ⊎ IsViewOf image v ⊎ P image
+
+    -- an opening leaves its view, and a call after it this or something else
+    pub read_alone : (d' : D) → Lasts disk d d' Read → Lasts disk d d' Viewed
+    read_alone d' lasts =
+        lasts_more lasts (λ image one. ⊎_elim (λ here. inl here)
+        (λ reads. inr (inl (reads_shows image (disk.current d) v is reads))) one)
+
+    pub read_then : (mid d' : D) → Lasts disk d mid Read → Lasts disk mid d' (λ image. IsViewOf image v ⊎ P image)
+        → Lasts disk d d' Viewed
+    read_then mid d' lasts after = lasts_on (read_alone mid lasts) (lasts_more after (λ image one. inr one))

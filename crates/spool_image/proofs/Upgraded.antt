@@ -1,6 +1,6 @@
 -- What an upgrade leaves.
 use Rattle.std.proofs.Common.{◌≡◌, ◌⊎◌, ◌∙◌, inl, inr, ℕ, ◌*◌, ◌≤◌, Result, Ok, Err, IfErr, OnOk, refl, sym, ap, subst}
-use Rattle.std.proofs.Common.{⊎_elim, length}
+use Rattle.std.proofs.Common.{⊎_elim, List, length}
 use Rattle.std.specs.Result.{IsErrAnd, result_err}
 use Rattle.std.proofs.lemmas.Option.{same_Some}
 use Rattle.std.proofs.Common.{arith}
@@ -9,17 +9,16 @@ use Rattle.spool_journal.specs.declared.TheConstants.{PAGE}
 use Rattle.spool_disk.specs.Disk.{IsImage}
 use Rattle.spool_disk.specs.Views.{Lasts}
 use Rattle.spool_disk.specs.declared.disk.Disk.{Ghosts}
-use Rattle.spool_disk.proofs.Firm.{lasts_more}
-use Rattle.spool_journal.specs.Image.{all_pages, journal_pages, overlaid, page_byte, page_number, Outside}
+use Rattle.spool_journal.specs.Image.{all_pages, journal_pages, laid, overlaid, page_byte, page_number, Outside}
 use Rattle.spool_journal.specs.Phases.{Settled}
 use Rattle.spool_journal.proofs.Over.{over_same}
 use Rattle.upload_rules.specs.Store.{Store}
 use Rattle.spool_pages.specs.Changes.{upgraded}
-use Rattle.spool_pages.specs.Rests.{Rests}
+use Rattle.spool_pages.specs.Rests.{HasTexts, Rests}
 use Rattle.spool_pages.specs.View.{View, IsViewOf, AreAt, state_page, state_place, version_number}
 use Rattle.spool_pages.specs.declared.version.Version.{Version}
 use Rattle.spool_pages.specs.declared.version.Version.TheVariants.{One, Two}
-use Rattle.spool_pages.proofs.Resting.{rests_image, shut_is}
+use Rattle.spool_pages.proofs.Resting.{rests_encodes, rests_image, shut_is}
 use Rattle.spool_catalog.specs.Holding.{Holding}
 use Rattle.spool_catalog.specs.Shows.{ImageShows, IsValid}
 use Rattle.spool_catalog.specs.declared.error.OpenFault.{OpenFault}
@@ -38,7 +37,7 @@ use Rattle.spool_image.specs.Upgrade.{UpgradesBy, UpgradesOf}
 use Rattle.spool_image.specs.declared.error.UpgradeError.{UpgradeError}
 use Rattle.spool_image.specs.declared.error.UpgradeError.TheVariants.{Open}
 use Rattle.spool_image.proofs.Opening.{view_more}
-use Rattle.spool_image.proofs.Opens.{view_room}
+use Rattle.spool_image.proofs.Opens.{lasts_as}
 
 -- a recovered spool rests
 pub settled_rests : {was current : ℕ → ℕ} {unsynced : ℕ → Type 0} (v : View) (n : ℕ) → n ≡ v.blocks
@@ -110,7 +109,9 @@ pub crash_shown : {D : Type 0} (disk : Ghosts D) (d d' : D) (n : ℕ) (m : Store
     ⊎ IsViewOf image (upgraded v)))
     → Lasts disk d d' (LeftOrShows disk d n m)
 crash_shown disk d d' n m is lasts =
-    lasts_more (lasts is.shows.view is.shows.shows.valid is.shows.is (view_room disk d n m is))
+    lasts_as disk d d' n m is
+    (λ v image. IsImage (disk.current d) (disk.unsynced d) image ⊎ IsViewOf image v ⊎ IsViewOf image (upgraded v))
+    (LeftOrShows disk d n m) lasts
     (λ image one. ⊎_elim (λ here. inl here)
     (λ then. inr (⊎_elim (view_shows n m (disk.current d) image is.shows)
     (upgraded_view_shows n m (disk.current d) image is.shows) then)) one)
@@ -215,7 +216,19 @@ after_shows disk d' n m v (Err e) same honest room fine done stays old new =
     refl)))
     old
 
--- the same commit, over bytes that agree outside gate and journal
+-- the same pages, laid over bytes that agree outside gate and journal
+pub laid_over : {current : ℕ → ℕ} {unsynced : ℕ → Type 0} (n : ℕ) (pages : List (ℕ × List ℕ)) (bytes bytes' : ℕ → ℕ)
+    → ((p : ℕ) → Outside (journal_pages n) p → bytes p ≡ bytes' p)
+    → Settled (journal_pages n) (laid pages bytes) current unsynced
+    → Settled (journal_pages n) (laid pages bytes') current unsynced
+laid_over n pages bytes bytes' same settled = record {
+  is_synced = settled.is_synced;
+  closed = settled.closed;
+  same = λ p outside. settled.same p outside
+      ∙ over_same (page_number pages) (page_number pages) (page_byte pages) (page_byte pages) bytes bytes'
+      (length pages) p (λ k lt. refl) (λ k x lt below. refl) (λ none. same p outside);
+}
+
 pub commit_over : {current : ℕ → ℕ} {unsynced : ℕ → Type 0} (v : View) (bytes bytes' : ℕ → ℕ)
     → ((p : ℕ) → Outside (journal_pages v.blocks) p → bytes p ≡ bytes' p)
     → CommitOfUpgrade v bytes current unsynced → CommitOfUpgrade v bytes' current unsynced
@@ -224,12 +237,10 @@ commit_over v bytes bytes' same commit = record {
   count = commit.count;
   area = commit.area;
   changes = commit.changes;
-  settled = record {
-    is_synced = commit.settled.is_synced;
-    closed = commit.settled.closed;
-    same = λ p outside. commit.settled.same p outside
-        ∙ over_same (page_number commit.pages) (page_number commit.pages) (page_byte commit.pages)
-        (page_byte commit.pages) bytes bytes' (length commit.pages) p (λ k lt. refl) (λ k x lt below. refl)
-        (λ none. same p outside);
-  };
+  settled = laid_over v.blocks commit.pages bytes bytes' same commit.settled;
 }
+
+-- a spool at rest has its view's texts
+pub rests_texts : {current : ℕ → ℕ} {unsynced : ℕ → Type 0} (v : View) → Rests v current unsynced
+    → HasTexts current v
+rests_texts v rests = (rests_encodes rests).texts

@@ -5,5 +5,6 @@ pub mod Opening
 pub mod LeftOnly
 pub mod Texts
 pub mod Upgrade
+pub mod Raise
 pub mod Durable
 pub mod Numbers

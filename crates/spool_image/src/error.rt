@@ -1,4 +1,4 @@
-//! The errors of formatting and upgrading.
+//! The errors of formatting, upgrading and raising.
 ghost use Rattle.std.specs.Prelude.{◌≡◌};
 
 use common::Stop;
@@ -104,5 +104,59 @@ impl From<AllocError> for UpgradeError {
 
     fn from(_error: AllocError) -> UpgradeError {
         UpgradeError::Open(OpenFault::Stop(Stop::NoMemory))
+    }
+}
+
+/// Why `raise` fails.
+///
+/// A number that leaves fewer than 10^15, and a disk of zeros:
+///
+/// ```
+/// let too_large = raise(alloc, &mut disk, 999_000_000_000_000_001);
+/// assert_eq!(rt; too_large, Err(RaiseError::TooLarge));
+/// let no_spool = raise(alloc, &mut disk, 7);
+/// assert_eq!(rt; no_spool, Err(RaiseError::Open(OpenFault::NotASpool)));
+/// ```
+#[derive(Clone, Copy, Debug, PartialEq, Eq, Drop, Error)]
+pub enum RaiseError {
+    /// The spool can't be opened.
+    #[error(transparent)]
+    Open(OpenFault),
+    /// The number would leave fewer than 10^15.
+    #[error("too few numbers would be left")]
+    TooLarge,
+}
+
+impl From<OpenFault> for RaiseError {
+    ghost use Rattle.spool_image.specs.declared.error.RaiseError.{RaiseError};
+
+    ghost from_gives = { λ fault error. error ≡ RaiseError.Open fault };
+
+    fn from(fault: OpenFault) -> RaiseError {
+        RaiseError::Open(fault)
+    }
+}
+
+impl From<DiskFault> for RaiseError {
+    ghost use Rattle.common.specs.declared.stop.Stop.{Stop};
+    ghost use Rattle.spool_catalog.specs.declared.error.OpenFault.{OpenFault};
+    ghost use Rattle.spool_image.specs.declared.error.RaiseError.{RaiseError};
+
+    ghost from_gives = { λ _ error. error ≡ RaiseError.Open (OpenFault.Stop Stop.DiskFault) };
+
+    fn from(_fault: DiskFault) -> RaiseError {
+        RaiseError::Open(OpenFault::Stop(Stop::DiskFault))
+    }
+}
+
+impl From<AllocError> for RaiseError {
+    ghost use Rattle.common.specs.declared.stop.Stop.{Stop};
+    ghost use Rattle.spool_catalog.specs.declared.error.OpenFault.{OpenFault};
+    ghost use Rattle.spool_image.specs.declared.error.RaiseError.{RaiseError};
+
+    ghost from_gives = { λ _ error. error ≡ RaiseError.Open (OpenFault.Stop Stop.NoMemory) };
+
+    fn from(_error: AllocError) -> RaiseError {
+        RaiseError::Open(OpenFault::Stop(Stop::NoMemory))
     }
 }

@@ -9,8 +9,8 @@ use Rattle.spool_blocks.specs.Blocks.{Row}
 use Rattle.spool_journal.specs.Image.{IsPagePut, byte_of, journal_pages, page_number}
 use Rattle.spool_pages.specs.Changes.{page_in, UpdatedBy, state_number, record_number, row_number, EncodesState}
 use Rattle.spool_pages.specs.Changes.{EncodesSlot}
-use Rattle.spool_pages.specs.Changes.{EncodesRow, ChangesButRows, Changes, with_record, with_slot, neighbour}
-use Rattle.spool_pages.specs.Changes.{SameRowsBut}
+use Rattle.spool_pages.specs.Changes.{EncodesRow, ChangesButRows, Changes, with_next, with_record, with_slot}
+use Rattle.spool_pages.specs.Changes.{SameRowsBut, neighbour}
 use Rattle.spool_pages.specs.View.{SlotRecord, View, AreAt, slot_at, row_bytes}
 use Rattle.spool_pages.specs.declared.version.Version.{Version}
 use Rattle.spool_pages.proofs.PageIn.{in_none, in_put, in_put_else, none_same, of_found, same_page, some_length}
@@ -45,6 +45,28 @@ pub encodes_beside : (v : View) {version : Version} {own : Option SlotRecord} (s
     → v.version ≡ version → slot_at v (neighbour slot) ≡ own → EncodesSlot (neighbour slot) bytes (version, own)
     → EncodesSlot (neighbour slot) bytes (v.version, slot_at v (neighbour slot))
 encodes_beside v slot bytes version beside encodes = rw (beside, version) encodes
+
+-- THE NEXT NUMBER
+
+pub next_changes : {none one : List (ℕ × List ℕ)} {place : ℕ} {bytes : List ℕ} → none ≡ []
+    → IsPagePut none place bytes one → (v : View) (next : ℕ) → place ≡ state_number v.blocks
+    → EncodesState bytes (v.version, next) → Changes one v (with_next v next)
+next_changes {none = none} {one = one} {place = place} {bytes = bytes} empty put v next here encodes = record {
+  others = record {
+    blocks = refl;
+    indexes = refl;
+    state = rw state_in encodes;
+    slots = λ s lt. rw (none_else (record_number v.blocks s) (omega (arith, here))) refl;
+    rows = λ b lt no. refl;
+  };
+  rows = λ b lt. rw (none_else (row_number v.blocks b) (omega (arith, here))) refl;
+}
+  where
+    none_else : (q : ℕ) → (place ≡ q → ⊥) → page_in q one ≡ None
+    none_else q not = in_put_else put q not ∙ in_none q none empty
+
+    state_in : page_in (state_number v.blocks) one ≡ Some bytes
+    state_in = rw here at (in_put put (in_none place none empty))
 
 -- A NEW RECORD AND THE NEXT NUMBER
 

@@ -75,6 +75,10 @@ with_slot v slot own = record v { slots = slice_set v.slots slot own }
 abbrev pub with_record : View → ℕ → SlotRecord → View
 with_record v slot r = with_slot v slot (Some r)
 
+-- The view with another next number.
+abbrev pub with_next : View → ℕ → View
+with_next v next = record v { next = next }
+
 -- The view in version 2.
 abbrev pub upgraded : View → View
 upgraded v = record v { version = Two }

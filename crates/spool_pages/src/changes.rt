@@ -3,8 +3,8 @@ ghost use Rattle.std.specs.Prelude.{◌≡◌, ◌≢◌, ◌↔◌, ◌≤◌, 
 ghost use Rattle.std.specs.Prelude.{get_or, option_copied};
 ghost use Rattle.spool_blocks.specs.Blocks.{Row};
 ghost use Rattle.spool_journal.specs.Image.{journal_pages, InMeta, InArea};
-ghost use Rattle.spool_pages.specs.Changes.{page_in, ChangesButRows, Changes, with_record, with_slot, neighbour};
-ghost use Rattle.spool_pages.specs.Changes.{SameRowsBut};
+ghost use Rattle.spool_pages.specs.Changes.{page_in, ChangesButRows, Changes, with_next, with_record, with_slot};
+ghost use Rattle.spool_pages.specs.Changes.{SameRowsBut, neighbour};
 ghost use Rattle.spool_pages.specs.Fits.{FitsRow};
 ghost use Rattle.spool_pages.specs.View.{View, slot_at};
 
@@ -15,6 +15,27 @@ use common::{MOST_METADATA, SLOTS};
 use spool_blocks::{BlockNo, Row};
 use spool_journal::{Layout, Pages};
 use std::alloc::{AllocError, Global};
+
+/// The page of another next number: the state page alone.
+///
+/// # Errors
+///
+/// `AllocError`.
+pub fn pages_of_next(
+    alloc: Global,
+    layout: &Layout,
+    version: Version,
+    next: u64,
+) -> Result<Pages, AllocError>
+    ensures area { IfOk result (λ pages. InArea (journal_pages layout.now) pages) }
+    ensures one { IfOk result (λ pages. length pages ≡ 1) }
+    ensures changes { (v : View) → v.blocks ≡ layout.now → v.version ≡ version
+        → IfOk result (λ pages. Changes pages v (with_next v next)) }
+{
+    let mut pages = Pages::new(alloc);
+    pages.put(state_number(layout), &state_page(version, next))?;
+    Ok(pages)
+}
 
 /// The pages of a new record and a new next number. `beside` is the record in the other slot of the same page; None if
 /// that is free.

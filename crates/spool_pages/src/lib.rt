@@ -15,7 +15,7 @@ mod slot_pages;
 mod upgrading;
 mod version;
 
-pub use changes::{fill_rows, pages_of_change, pages_of_new};
+pub use changes::{fill_rows, pages_of_change, pages_of_new, pages_of_next};
 pub use changing::change;
 pub use damaged::Damaged;
 pub use laws::page_numbers;

@@ -3,7 +3,9 @@
 use crate::uploads::plain;
 use enc_index::IndexSet;
 use spool_disk::{Disk, MemoryDisk};
-use spool_image::{FormatError, OpenFault, Spool, UpgradeError, format, upgrade};
+use spool_image::{
+    FormatError, OpenFault, RaiseError, Spool, UpgradeError, format, raise, upgrade,
+};
 use std::alloc::Global;
 use std::process::Abort;
 use upload_rules::Uploads;
@@ -65,4 +67,14 @@ fn example_of_upgrade_error(rt: HostRuntime) {
     format(&mut disk, 16, &indexes).expect(rt, "a long disk");
     let new_spool = upgrade(alloc, &mut disk);
     assert_eq!(rt; new_spool, Err(UpgradeError::AlreadyNew));
+}
+
+#[test]
+fn example_of_raise_error(rt: HostRuntime) {
+    let (rt, alloc) = (&rt, rt.alloc());
+    let (_, mut disk) = blank(rt, alloc);
+    let too_large = raise(alloc, &mut disk, 999_000_000_000_000_001);
+    assert_eq!(rt; too_large, Err(RaiseError::TooLarge));
+    let no_spool = raise(alloc, &mut disk, 7);
+    assert_eq!(rt; no_spool, Err(RaiseError::Open(OpenFault::NotASpool)));
 }

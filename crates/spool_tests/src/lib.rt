@@ -11,6 +11,8 @@ mod images;
 #[cfg(test)]
 mod openings;
 #[cfg(test)]
+mod raises;
+#[cfg(test)]
 mod resumes;
 #[cfg(test)]
 mod tables;

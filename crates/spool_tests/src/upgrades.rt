@@ -12,7 +12,7 @@ use std::process::Abort;
 use upload_rules::Uploads;
 
 /// The address of the state page in a spool of 16 blocks.
-const STATE: u64 = 283 * 4096;
+pub(crate) const STATE: u64 = 283 * 4096;
 
 /// The address of its second record.
 const SECOND: u64 = 284 * 4096 + 2048;
@@ -47,7 +47,7 @@ fn form_of(rt: &impl Abort, disk: &mut MemoryDisk) -> (u8, [u8; 8], u8) {
 
 /// A disk with a spool of version 1 and three uploads: a complete one of five bytes, one of unknown length with two
 /// bytes, and one with the first byte of a byte order mark.
-fn old_spool(rt: &impl Abort, alloc: Global) -> MemoryDisk {
+pub(crate) fn old_spool(rt: &impl Abort, alloc: Global) -> MemoryDisk {
     let mut disk = fresh(rt, alloc);
     set_version(rt, &mut disk, 1);
     let mut spool = opened(rt, alloc, disk);
@@ -60,15 +60,15 @@ fn old_spool(rt: &impl Abort, alloc: Global) -> MemoryDisk {
     spool.into_disk()
 }
 
-/// Whether the three uploads are unchanged, and the next number is 4.
-fn are_there(spool: &mut Spool<MemoryDisk>) -> bool {
+/// Whether the three uploads are unchanged, and the next number is this one.
+pub(crate) fn are_there(spool: &mut Spool<MemoryDisk>, next: u64) -> bool {
     let first = spool.record(1).map(|r| (r.declared, r.accepted));
     let second = spool.record(2).map(|r| (r.declared, r.accepted));
     let third = spool.record(3).map(|r| (r.declared, r.accepted));
     first == Some((Some(5), 5))
         && second == Some((None, 2))
         && third == Some((Some(4), 1))
-        && spool.next_number() == 4
+        && spool.next_number() == next
         && has_text(spool, 1, b"hello")
         && has_text(spool, 2, b"ab")
         && has_text(spool, 3, b"")
@@ -77,7 +77,7 @@ fn are_there(spool: &mut Spool<MemoryDisk>) -> bool {
 /// Opens the spool, checks that the three uploads are unchanged, and returns the disk.
 fn looked_at(rt: &impl Abort, alloc: Global, disk: MemoryDisk) -> MemoryDisk {
     let mut spool = opened(rt, alloc, disk);
-    assert!(rt; are_there(&mut spool));
+    assert!(rt; are_there(&mut spool, 4));
     spool.into_disk()
 }
 
@@ -88,7 +88,7 @@ fn upgraded_spool_has_its_uploads_and_goes_on(rt: HostRuntime) {
     assert_eq!(rt; upgrade(rt.alloc(), &mut disk), Ok(()));
     assert_eq!(rt; form_of(&rt, &mut disk), NEW);
     let mut spool = opened(&rt, rt.alloc(), disk);
-    assert!(rt; are_there(&mut spool));
+    assert!(rt; are_there(&mut spool, 4));
     // The rest of the mark, and a letter.
     assert_eq!(rt; patched(&mut spool, 3, 1, b"\xbb\xbfA"), Ok(4));
     assert!(rt; has_text(&mut spool, 3, b"A"));

@@ -1,17 +1,18 @@
-use Rattle.std.proofs.Common.{◌≡◌, ◌∙◌, inl, inr, ℕ, ◌*◌, ◌≤◌, refl, sym, subst, rules, ⊎_elim}
+use Rattle.std.proofs.Common.{◌≡◌, ◌∙◌, ℕ, ◌*◌, ◌≤◌, refl, sym, subst, rules}
 use Rattle.std.proofs.lemmas.Result.{err_from_is_err_and}
 use Rattle.common.specs.declared.stop.Stop.TheVariants.{DiskFault}
 use Rattle.spool_journal.specs.declared.TheConstants.{PAGE}
 use Rattle.spool_disk.specs.Disk.{IsImage, Preserves}
 use Rattle.spool_disk.specs.Views.{Lasts}
-use Rattle.spool_disk.proofs.Firm.{lasts_on, lasts_more}
 use Rattle.spool_journal.specs.Image.{all_pages, journal_pages, overlaid, Outside}
 use Rattle.spool_catalog.specs.declared.error.OpenFault.TheVariants.{Stop}
+use Rattle.spool_pages.specs.Changes.{upgraded}
 use Rattle.spool_pages.specs.Rests.{Rests}
+use Rattle.spool_pages.specs.View.{IsViewOf}
 use Rattle.spool_load.proofs.Looks.{ok_no_fault}
 use Rattle.spool_load.proofs.ReadBys.{by_same}
 use Rattle.spool_image.specs.declared.error.UpgradeError.TheVariants.{Open}
-use Rattle.spool_image.proofs.Opens.{reads_shows, view_room}
+use Rattle.spool_image.proofs.Opens.{read_alone, read_then, view_room}
 use Rattle.spool_image.proofs.Refused.{opened_is_known, opened_is_old, opened_is_spool, opened_is_whole}
 use Rattle.spool_image.proofs.Refused.{upgrade_damaged, upgrade_new, upgrade_no_spool, upgrade_version}
 use Rattle.spool_image.proofs.Upgraded.{after_shows, commit_over, crash_shown, if_err, on_ok_both, on_ok_more}
@@ -22,9 +23,8 @@ use Rattle.spool_image.proofs.upgrading.upgrade.Goals as goal
 
 pub returns-in_err-catalog-clause-lasts : goal.returns-in_err-catalog-clause-lasts
 returns-in_err-catalog-clause-lasts g c honest v valid is room =
-    lasts_more (c.load_old.ensures.lasts honest v valid is room)
-    (λ image one. ⊎_elim (λ here. inl here)
-    (λ reads. inr (inl (reads_shows image (g.D.Disk.current c.args.disk.now) v is reads))) one)
+    read_alone g.D.Disk c.args.disk.now v (λ image. IsViewOf image (upgraded v)) is c.load_old.new.disk
+    (c.load_old.ensures.lasts honest v valid is room)
 
 pub returns-in_err-catalog-clause-crash : goal.returns-in_err-catalog-clause-crash
 returns-in_err-catalog-clause-crash g c n m is =
@@ -137,10 +137,9 @@ returns-clause-lasts g c honest v valid is room =
     let has_view = (c.in_ok-catalog.ensures.has honest v valid is room).0 in
     let rests = settled_rests v c.in_ok-catalog.catalog.layout has_view.blocks
     (c.in_ok-catalog.ensures.settled honest) is in
-    lasts_on (lasts_more (c.load_old.ensures.lasts honest v valid is room)
-    (λ image one. ⊎_elim (λ here. inl here)
-    (λ reads. inr (inl (reads_shows image (g.D.Disk.current c.args.disk.now) v is reads))) one))
-    (lasts_more (c.rewrite.ensures.lasts (c.load_old.ensures.honest.0 honest) v has_view rests) (λ image one. inr one))
+    read_then g.D.Disk c.args.disk.now v (λ image. IsViewOf image (upgraded v)) is c.load_old.new.disk
+    c.rewrite.new.disk (c.load_old.ensures.lasts honest v valid is room)
+    (c.rewrite.ensures.lasts (c.load_old.ensures.honest.0 honest) v has_view rests)
 
 pub returns-clause-crash : goal.returns-clause-crash
 returns-clause-crash g c n m is =
