@@ -3,12 +3,13 @@ use Rattle.std.specs.Prelude.{◌≡◌, ℕ, List, Option, Result, IsErrAnd, �
 use Rattle.common.specs.Counts.{Counts}
 use Rattle.spool_disk.specs.declared.disk.Disk.{Ghosts}
 use Rattle.gateway_orders.specs.declared.orders.Order.{Order}
-use Rattle.gateway_orders.specs.declared.orders.Order.TheVariants.{Delete, DeleteIncomplete, Upgrade}
+use Rattle.gateway_orders.specs.declared.orders.Order.TheVariants.{Delete, DeleteIncomplete, Raise, Upgrade}
 use Rattle.gateway_outside.specs.Failures.{fault_in}
 use Rattle.gateway_outside.specs.SpoolFiles.{Disks}
 use Rattle.gateway_outside.specs.declared.failures.Failure.{Failure}
 use Rattle.gateway_outside.specs.declared.faults.Fault.TheVariants.{Io}
 use Rattle.gateway_outside.specs.declared.openings.Unopened.{Unopened}
+use Rattle.gateway_format.specs.Raising.{RaisesAt}
 use Rattle.gateway_format.specs.Upgrading.{UpgradesAt}
 use Rattle.gateway_delete.specs.Deleted.{DeletesAt, FindsAt}
 
@@ -27,4 +28,6 @@ module _ {T D : Type 0} (disk : Ghosts D) (holds holds' : Disks D → Type 0) (s
       × IoByOutput refused refused' result
   Obeys (Upgrade spool) =
       UpgradesAt disk holds holds' shut shut' spool.now before after result × IoByOutput refused refused' result
+  Obeys (Raise spool number) =
+      RaisesAt disk holds holds' shut shut' spool.now before after result number × IoByOutput refused refused' result
   Obeys order = ⊤

@@ -11,7 +11,7 @@ use common::Stop;
 use gateway_delete::{delete_in, incomplete_in};
 use gateway_export::export_file;
 use gateway_format::{
-    NewSpool, format_file, raise_file, report_formatted, report_longer, report_raised, upgrade_in,
+    NewSpool, format_file, raise_in, report_formatted, report_longer, report_raised, upgrade_in,
 };
 use gateway_indexes::report_read;
 use gateway_list::{json_file, list_file};
@@ -82,6 +82,7 @@ fn obey<'a, F: SpoolFiles, W: Output, E: Output>(
             first,
         } => format_at(
             rt,
+            output,
             spool,
             NewSpool {
                 blocks,
@@ -125,13 +126,14 @@ fn obey<'a, F: SpoolFiles, W: Output, E: Output>(
             indexes,
         ),
         Order::Upgrade { spool } => upgrade_in(alloc, files, output, spool),
-        Order::Raise { spool, number } => raise(rt, spool, number),
+        Order::Raise { spool, number } => raise_in(alloc, files, output, spool, number),
     }
 }
 
 // Makes a spool, and prints what was made.
-fn format_at<'a>(
+fn format_at<'a, W: Output>(
     rt: &HostRuntime,
+    output: &mut W,
     spool: &'a str,
     wanted: NewSpool<'a>,
 ) -> Result<(), Failure<'a>> {
@@ -143,18 +145,11 @@ fn format_at<'a>(
     if let Some(len) = made.longer {
         drop(report_longer(&mut rt.stderr(), spool, len));
     }
-    report_formatted(&mut io::writer(rt), blocks, made.pages)?;
-    if let Some(first) = first {
-        report_raised(&mut io::writer(rt), first.max(1))?;
+    report_formatted(output, blocks, made.pages)?;
+    match first {
+        Some(first) => report_raised(output, first.max(1)),
+        None => Ok(()),
     }
-    Ok(())
-}
-
-// Raises the next number of a spool, and prints it.
-fn raise<'a>(rt: &HostRuntime, spool: &'a str, number: u64) -> Result<(), Failure<'a>> {
-    let next = raise_file(rt, rt.alloc(), spool, number)?;
-    report_raised(&mut io::writer(rt), next)?;
-    Ok(())
 }
 
 // Serves a spool to the end.

@@ -1,5 +1,7 @@
 -- What `raise` makes of the spool in a file.
-use Rattle.std.specs.Prelude.{◌≡◌, ◌⊎◌, ◌↔◌, ◌≤◌, ◌<◌, ◌*◌, max, ℕ, Result, Ok, Err, IfErr, IfOk}
+use Rattle.std.specs.Prelude.{◌≡◌, ◌⊎◌, ◌↔◌, ◌≤◌, ◌<◌, ◌*◌, max, ℕ, List, Option, Result, Ok, Err, IfErr, IfOk}
+use Rattle.std.specs.Prelude.{IsErrAnd, OnOk}
+use Rattle.std.specs.Io.KnownBytes.{Appends}
 use Rattle.common.specs.declared.stop.Stop.TheVariants.{DiskFault}
 use Rattle.spool_disk.specs.Disk.{Counts, IsImage, Preserves}
 use Rattle.spool_disk.specs.Views.{Lasts}
@@ -22,8 +24,12 @@ use Rattle.spool_image.specs.declared.error.RaiseError.{RaiseError}
 use Rattle.spool_image.specs.declared.error.RaiseError.TheVariants.{Open, TooLarge}
 use Rattle.gateway_outside.specs.Failures.{fault_in}
 use Rattle.gateway_outside.specs.Faults.{raise_fault}
-use Rattle.gateway_outside.specs.SpoolFiles.{OnlyRead}
+use Rattle.gateway_outside.specs.Openings.{EndsWellBut, OpensOr}
+use Rattle.gateway_outside.specs.SpoolFiles.{Disks, OnlyRead}
 use Rattle.gateway_outside.specs.declared.failures.Failure.{Failure}
+use Rattle.gateway_outside.specs.declared.faults.Fault.TheVariants.{Io}
+use Rattle.gateway_outside.specs.declared.openings.Unopened.{Unopened}
+use Rattle.gateway_format.specs.Reports.{raised_line}
 
 -- A LATER NEXT NUMBER OF A DISK and its answer: what `spool_image::raise` promises of them
 pub record Raises {D : Type 0} (disk : Ghosts D) (d d' : D) (number : ℕ) (result : Result ℕ RaiseError) : Type 0 where
@@ -56,18 +62,34 @@ pub record Raises {D : Type 0} (disk : Ghosts D) (d d' : D) (number : ℕ) (resu
   pub shows : (n : ℕ) (m : Store) → IsSpool disk d n m
       → IfOk result (λ next. (next ≡ max m.next number) × AllShow disk d' n (raised m next))
 
--- what is answered for that
+-- what is answered for that, before anything is printed
 abbrev pub FailsAs : Result ℕ RaiseError → Result ℕ Failure → Type 0
 FailsAs (Ok next) (Ok answer) = answer ≡ next
 FailsAs (Err e) (Err failure) = fault_in failure ≡ raise_fault e
 FailsAs (Ok next) (Err failure) = ⊥
 FailsAs (Err e) (Ok answer) = ⊥
 
--- THE SPOOL IN A FILE WAS RAISED, and then at most looked at
-pub record RaisedIn {D : Type 0} (disk : Ghosts D) (d : D) (number : ℕ) (result : Result ℕ Failure) (d' : D) :
-    Type 0 where
-  pub now : D
-  pub answer : Result ℕ RaiseError
-  pub raises : Raises disk d now number answer
-  pub fails_as : FailsAs answer result
-  pub reads : OnlyRead disk now d'
+-- what is answered and printed for that
+abbrev pub AnswersRaise : {T : Type 0} → Option (List ℕ) → Option (List ℕ) → Result T Failure → Result ℕ RaiseError
+    → Type 0
+AnswersRaise before after result (Ok next) =
+    EndsWellBut result Io × OnOk result (Appends before after (raised_line next))
+AnswersRaise before after result (Err e) =
+    IsErrAnd result (λ failure. fault_in failure ≡ raise_fault e) × (after ≡ before)
+
+-- THE SPOOL IN A FILE WAS RAISED, this is so of the answer, and then it was at most looked at
+pub record RaisedIn {D : Type 0} (disk : Ghosts D) (d : D) (number : ℕ) (Answers : Result ℕ RaiseError → Type 0)
+    (d' : D) : Type 0
+  where
+    pub now : D
+    pub answer : Result ℕ RaiseError
+    pub raises : Raises disk d now number answer
+    pub answers : Answers answer
+    pub reads : OnlyRead disk now d'
+
+-- WHAT THE COMMAND PROMISES of the file at a path
+abbrev pub RaisesAt : {T D : Type 0} → Ghosts D → (Disks D → Type 0) → (Disks D → Type 0) → List Unopened
+    → List Unopened → List ℕ → Option (List ℕ) → Option (List ℕ) → Result T Failure → ℕ → Type 0
+RaisesAt disk holds holds' shut shut' path before after result number =
+    OpensOr holds holds' shut shut' path before after result
+    (λ d d'. RaisedIn disk d number (AnswersRaise before after result) d')

@@ -19,7 +19,7 @@ ghost use Rattle.gateway_indexes.specs.IndexFiles.{index_files};
 ghost use Rattle.gateway_format.specs.Blanks.{IsBlank};
 
 use crate::blanks::is_blank;
-use crate::raising::{raise_in, too_large};
+use crate::raising::raise_to;
 use enc_index::IndexSet;
 use gateway_indexes::{IndexFile, IndexFiles, read_indexes, refuse_others, report_read};
 use gateway_outside::{Advice, Failure, Fault, SpoolFiles, SystemFiles, Task};
@@ -183,13 +183,13 @@ pub fn format_raised_in<'a, F: SpoolFiles>(
         → LeavesOthers (F.holds files.new) disks path.now }
 {
     if first > LATEST {
-        return Err(too_large());
+        return Err(Failure::advised(Fault::NumberTooLarge, Advice::Number));
     }
     let made = match format_in(files, path, blocks, indexes, overwrite) {
         Ok(made) => made,
         Err(failure) => return Err(failure),
     };
-    match raise_in(alloc, files, path, first) {
+    match raise_to(alloc, files, path, first) {
         Ok(_next) => Ok(made),
         Err(failure) => Err(failure),
     }

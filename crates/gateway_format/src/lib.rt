@@ -11,6 +11,6 @@ pub use blanks::is_blank;
 pub use formatting::{
     Formatted, Made, NewSpool, format_file, format_in, format_on, format_raised_in,
 };
-pub use raising::{raise_file, raise_in};
+pub use raising::raise_in;
 pub use reports::{report_formatted, report_longer, report_raised};
 pub use upgrading::upgrade_in;

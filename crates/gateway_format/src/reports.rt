@@ -1,15 +1,28 @@
-//! What is printed of a spool that was made or raised.
-ghost use Rattle.std.specs.Prelude.{OnOk};
+//! What is printed of a spool that was made, raised or upgraded.
+ghost use Rattle.std.specs.Prelude.{IsErr, OnOk};
 ghost use Rattle.std.specs.Io.KnownBytes.{Appends};
-ghost use Rattle.gateway_format.specs.Reports.{formatted_line, longer_line, raised_line};
+ghost use Rattle.spool_disk.specs.Disk.{Counts};
+ghost use Rattle.gateway_outside.specs.declared.faults.Fault.{Fault};
+ghost use Rattle.gateway_outside.specs.Openings.{EndsWellBut};
+ghost use Rattle.gateway_format.specs.Reports.{formatted_line, longer_line, raised_line, upgraded_line};
 
+use gateway_outside::{Failure, Fault, Output};
 use std::io::{self, Write};
 
-/// Prints what `format` made.
-pub fn report_formatted<W: Write>(writer: &mut W, blocks: u32, pages: u32) -> io::Result<()>
-    ensures { OnOk result (Appends (W.contents writer.old) (W.contents writer.new) (formatted_line blocks pages)) }
+/// Prints what `format` made. Refused with `Io`.
+pub fn report_formatted<'a, W: Output>(
+    output: &mut W,
+    blocks: u32,
+    pages: u32,
+) -> Result<(), Failure<'a>>
+    ensures line { OnOk result (Appends (W.contents output.old) (W.contents output.new) (formatted_line blocks pages)) }
+    ensures refused { EndsWellBut result Fault.Io }
+    ensures io { Counts (IsErr result) (W.refusals output.old) (W.refusals output.new) }
 {
-    writeln!(writer, "formatted {blocks} blocks, {pages} pages")
+    match writeln!(output, "formatted {blocks} blocks, {pages} pages") {
+        Ok(()) => Ok(()),
+        Err(_) => Err(Failure::on_streams(Fault::Io, None, output.error())),
+    }
 }
 
 /// Prints that the file of a spool that was made is longer than the spool, since it was so long before.
@@ -22,9 +35,26 @@ pub fn report_longer<W: Write>(writer: &mut W, spool: &str, len: u64) -> io::Res
     )
 }
 
-/// Prints the next number of a spool, which was raised.
-pub fn report_raised<W: Write>(writer: &mut W, next: u64) -> io::Result<()>
-    ensures { OnOk result (Appends (W.contents writer.old) (W.contents writer.new) (raised_line next)) }
+/// Prints the next number of a spool, which was raised. Refused with `Io`.
+pub fn report_raised<'a, W: Output>(output: &mut W, next: u64) -> Result<(), Failure<'a>>
+    ensures line { OnOk result (Appends (W.contents output.old) (W.contents output.new) (raised_line next)) }
+    ensures refused { EndsWellBut result Fault.Io }
+    ensures io { Counts (IsErr result) (W.refusals output.old) (W.refusals output.new) }
 {
-    writeln!(writer, "next number {next}")
+    match writeln!(output, "next number {next}") {
+        Ok(()) => Ok(()),
+        Err(_) => Err(Failure::on_streams(Fault::Io, None, output.error())),
+    }
+}
+
+/// Prints that a spool was upgraded. Refused with `Io`.
+pub(crate) fn report_upgraded<'a, W: Output>(output: &mut W) -> Result<(), Failure<'a>>
+    ensures line { OnOk result (Appends (W.contents output.old) (W.contents output.new) upgraded_line) }
+    ensures refused { EndsWellBut result Fault.Io }
+    ensures io { Counts (IsErr result) (W.refusals output.old) (W.refusals output.new) }
+{
+    match writeln!(output, "upgraded to version 2") {
+        Ok(()) => Ok(()),
+        Err(_) => Err(Failure::on_streams(Fault::Io, None, output.error())),
+    }
 }

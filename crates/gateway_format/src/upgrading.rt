@@ -1,13 +1,11 @@
 //! A spool in a file, brought to version 2.
-ghost use Rattle.std.specs.Prelude.{◌≡◌, IsErr, IsErrAnd, None, OnOk};
-ghost use Rattle.std.specs.Io.KnownBytes.{Appends};
+ghost use Rattle.std.specs.Prelude.{◌≡◌, IsErrAnd};
 ghost use Rattle.spool_disk.specs.Disk.{Counts};
 ghost use Rattle.gateway_outside.specs.declared.faults.Fault.{Fault};
 ghost use Rattle.gateway_outside.specs.Failures.{fault_in};
-ghost use Rattle.gateway_outside.specs.Openings.{EndsWellBut};
-ghost use Rattle.gateway_format.specs.Reports.{upgraded_line};
 ghost use Rattle.gateway_format.specs.Upgrading.{UpgradesAt};
 
+use crate::reports::report_upgraded;
 use gateway_outside::{Failure, Fault, Output, SpoolFiles, open_in, refused_in};
 use spool_image::upgrade;
 use std::alloc::Global;
@@ -35,20 +33,8 @@ pub fn upgrade_in<'a, F: SpoolFiles, W: Output>(
     match upgrade(alloc, &mut disk) {
         Ok(()) => {
             files.close(path, disk);
-            return tell_upgraded(output);
+            return report_upgraded(output);
         }
         Err(error) => return Err(refused_in(files, Fault::from(error), path, disk)),
-    }
-}
-
-// Prints that a spool was upgraded.
-fn tell_upgraded<'a, W: Output>(output: &mut W) -> Result<(), Failure<'a>>
-    ensures line { OnOk result (Appends (W.contents output.old) (W.contents output.new) upgraded_line) }
-    ensures refused { EndsWellBut result Fault.Io }
-    ensures io { Counts (IsErr result) (W.refusals output.old) (W.refusals output.new) }
-{
-    match writeln!(output, "upgraded to version 2") {
-        Ok(()) => Ok(()),
-        Err(_) => Err(Failure::on_streams(Fault::Io, None, output.error())),
     }
 }

@@ -72,6 +72,7 @@ impl<'a> Failure<'a> {
             Fault::Damaged => Failure::advised(fault, Advice::Damaged(path)),
             Fault::Version => Failure::advised(fault, Advice::Version(path)),
             Fault::AlreadyNew => Failure::advised(fault, Advice::AlreadyNew(path)),
+            Fault::NumberTooLarge => Failure::advised(fault, Advice::Number),
             _ => Failure::on_disk(fault, path, error),
         }
     }

@@ -5,9 +5,7 @@ use crate::steps::Step::{self, Added, Deferred, Made, Open};
 use crate::talks::Talk;
 use gateway_delete::incomplete_in;
 use gateway_export::export_file;
-use gateway_format::{
-    NewSpool, format_file, raise_file, report_formatted, report_raised, upgrade_in,
-};
+use gateway_format::{NewSpool, format_file, raise_in, report_formatted, upgrade_in};
 use gateway_indexes::report_read;
 use gateway_list::{json_file, list_file, list_on};
 use gateway_outside::{Failure, Noted, SystemFiles, open_spool};
@@ -110,10 +108,10 @@ fn spool_is_made_used_listed_and_upgraded(rt: HostRuntime) {
     fs::write(&rt, JIS0208, "0\t3000\n").expect(&rt, "a file");
     fs::write(&rt, JIS0212, "# two\n108\t02D8\n").expect(&rt, "a file");
     let made = format_file(&rt, alloc, SPOOL, small(FOLDER)).expect(&rt, "a spool");
-    let mut lines = Vec::new(alloc);
+    let mut lines = Noted::new(Vec::new(alloc));
     report_formatted(&mut lines, 16, made.pages).expect(&rt, "a line");
     report_read(&mut lines, made.files.as_slice()).expect(&rt, "lines");
-    assert!(rt; lines.starts_with(FORMATTED));
+    assert!(rt; lines.into_stream().starts_with(FORMATTED));
     let talk = Talk::new(&rt, alloc, STEPS);
     let disk = open_spool(&rt, SPOOL).expect(&rt, "a new spool");
     let (disk, fault, written) = ran(alloc, &talk, disk);
@@ -216,7 +214,6 @@ fn failure_says_what_the_system_said(rt: HostRuntime) {
     folder that is there: make it first";
     fails(&rt, alloc, nowhere, 2, message);
     let used = FileDisk::create(&rt, "gateway_used_test", 4).expect(&rt, "a file");
-    let twice = open_spool(&rt, "gateway_used_test").map(drop);
     let message = "refused: 38 InUse\n\
     gateway_used_test is in use: stop the gateway that serves it (`fuser gateway_used_test` prints its process)";
     for ended in [
@@ -235,7 +232,7 @@ fn failure_says_what_the_system_said(rt: HostRuntime) {
         ),
         json_file(&rt, alloc, "gateway_used_test"),
     ] {
-        fails(&rt, alloc, ended, 2, last_line);
+        fails(&rt, alloc, ended, 2, message);
     }
     drop(used);
     fs::remove_file(&rt, "gateway_used_test").expect(&rt, "a file");
@@ -280,17 +277,30 @@ fn next_number_is_raised(rt: HostRuntime) {
             ..small(RAISED)
         };
         format_file(&rt, alloc, RAISED_SPOOL, wanted).expect(&rt, "a spool");
-        let answer = raise_file(&rt, alloc, RAISED_SPOOL, *number).expect(&rt, "a number");
-        let refused = raise_file(&rt, alloc, RAISED_SPOOL, TOO_LARGE).map(drop);
+        let mut lines = Noted::new(Vec::new(alloc));
+        raise_in(
+            alloc,
+            &mut SystemFiles::new(&rt),
+            &mut lines,
+            RAISED_SPOOL,
+            *number,
+        )
+        .expect(&rt, "a number");
+        let line = format!(in alloc; "next number {next}\n").expect(&rt, "memory for a line");
+        let refused = raise_in(
+            alloc,
+            &mut SystemFiles::new(&rt),
+            &mut lines,
+            RAISED_SPOOL,
+            TOO_LARGE,
+        );
         fails(&rt, alloc, refused, 2, NOT_THAT_LARGE);
+        assert_eq!(rt; lines.into_stream().as_slice(), line.as_bytes());
         let disk = open_spool(&rt, RAISED_SPOOL).expect(&rt, "a spool");
         let gateway = opened(&rt, alloc, disk);
-        assert_eq!(rt; (answer, gateway.uploads().next_number()), (*next, *next));
+        assert_eq!(rt; gateway.uploads().next_number(), *next);
         drop(gateway.into_disk());
         fs::remove_file(&rt, RAISED_SPOOL).expect(&rt, "a file");
     }
-    let mut lines = Vec::new(alloc);
-    report_raised(&mut lines, 42).expect(&rt, "a line");
-    assert_eq!(rt; lines.as_slice(), b"next number 42\n".as_slice());
     fs::remove_dir_all(&rt, RAISED).expect(&rt, "a folder");
 }

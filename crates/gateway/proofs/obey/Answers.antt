@@ -12,3 +12,6 @@ returns-in-DeleteIncomplete g c =
 
 pub returns-in-Upgrade : goal.returns-in-Upgrade
 returns-in-Upgrade g c = rw c.in-Upgrade.is (c.upgrade_in.ensures.upgrades, c.upgrade_in.ensures.io)
+
+pub returns-in-Raise : goal.returns-in-Raise
+returns-in-Raise g c = rw c.in-Raise.is (c.raise_in.ensures.raises, c.raise_in.ensures.io)

@@ -22,10 +22,10 @@ returns-in-Ok-upgrade-clause-upgrades g c disks d held is =
     let holds = files.holds c.close.new.self in
     let path = c.args.path.now in
     let before = g.W.Output.contents c.args.output.now in
-    let after = g.W.Output.contents c.tell_upgraded.new.output in
+    let after = g.W.Output.contents c.report_upgraded.new.output in
     let shut = files.unopened c.args.files.now in
     let shut' = files.unopened c.close.new.self in
-    let result = c.tell_upgraded.result in
+    let result = c.report_upgraded.result in
     let now = c.upgrade.new.disk in
     let disk = g.F.File.Disk in
     leaves_as holds disks path c.in-Ok.disk d
@@ -35,13 +35,13 @@ returns-in-Ok-upgrade-clause-upgrades g c disks d held is =
       now = now;
       answer = Ok (tt {0});
       upgrades = assumption c.in-Ok-upgrade.ensures;
-      answers = (c.tell_upgraded.ensures.refused, c.tell_upgraded.ensures.line);
+      answers = (c.report_upgraded.ensures.refused, c.report_upgraded.ensures.line);
       reads = unread disk now;
     })))
 
 pub returns-in-Ok-upgrade-clause-io : goal.returns-in-Ok-upgrade-clause-io
 returns-in-Ok-upgrade-clause-io g c =
-    io_by c.tell_upgraded.result _ _ c.tell_upgraded.ensures.refused c.tell_upgraded.ensures.io
+    io_by c.report_upgraded.result _ _ c.report_upgraded.ensures.refused c.report_upgraded.ensures.io
 
 pub returns-in-Err-upgrade-clause-upgrades : goal.returns-in-Err-upgrade-clause-upgrades
 returns-in-Err-upgrade-clause-upgrades g c disks d held is =
