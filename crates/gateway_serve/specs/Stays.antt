@@ -33,6 +33,10 @@ HasPaused s = (s.longest ≡ true) × (SHORTEST_PAUSE ≤ millis_from s.moved s.
 abbrev pub IsSlow : Stay → Type 0
 IsSlow s = (LONGEST_SLOW ≤ seconds_from s.since s.time) × (s.brought / LEAST_SPEED < seconds_from s.since s.time)
 
+-- it has had its place for ten seconds, and a socket waits for one
+abbrev pub HasStayed : Stay → Type 0
+HasStayed s = (s.wanted ≡ true) × (SHORTEST_STAY ≤ seconds_from s.opened s.time)
+
 -- WHILE A SOCKET WAITS for a place, these give way: between requests, one that has paused, or that has had its place
 -- for ten seconds; a slow head or body; and a body that has come for ten seconds. A reply never does
 abbrev pub GivesWayAt : At → Stay → Type 0

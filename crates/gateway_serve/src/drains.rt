@@ -1,7 +1,8 @@
-//! Sockets whose connections the session closed. What their clients still send is read and dropped, so that none of
-//! them loses the end of its reply to a reset (RFC 9112, section 9.6).
+//! Sockets whose connections were closed, or gave way after a reply. What their clients still send is read and dropped,
+//! so that none of them loses the end of its reply to a reset (RFC 9112, section 9.6).
 
 use crate::idle::Pace;
+use crate::reasons::Reason;
 use std::alloc::Global;
 use std::io::{ErrorKind, Read};
 use std::net::{OpenStream, Shutdown};
@@ -107,9 +108,16 @@ impl<S: Drop> Drains<S> {
         }
     }
 
-    /// Adds the socket of a connection that was closed now. Where as many drain as may, the one that was closed first
-    /// is let go. Out of memory, this one is.
-    pub(crate) fn add(&mut self, stream: S, now: Duration) {
+    /// Lets a socket go, if there is one, whose connection ended now for this reason: it drains or is closed.
+    pub(crate) fn let_go(&mut self, stream: Option<S>, reason: Reason, now: Duration) {
+        if let (Some(stream), true) = (stream, reason.drains()) {
+            self.add(stream, now);
+        }
+    }
+
+    // Adds the socket of a connection that ended now. Where as many drain as may, the one that was closed first
+    // is let go. Out of memory, this one is.
+    fn add(&mut self, stream: S, now: Duration) {
         if self.sockets.len() >= MOST_DRAINING {
             drop(self.sockets.remove(0));
         }

@@ -82,9 +82,9 @@ impl<S: Read + Write> Link<S> {
     }
 
     /// A turn: what is left is written, else the next piece of a text is asked for, else bytes are read and given to
-    /// the session, and what that gives is written. Where nothing of this could be done, or a body comes, and its time
-    /// is over, the connection is lost. One that had nothing to do is passed over in some of the turns, unless the turn
-    /// before did nothing at all or took long.
+    /// the session, and what that gives is written. Where nothing of this could be done, a body comes or a reply went
+    /// whole, and its time is over, the connection is lost. One that had nothing to do is passed over in some of the
+    /// turns, unless the turn before did nothing at all or took long.
     ///
     /// Refused with `DiskFault` where the session was.
     pub(crate) fn turn<C: Connections, T: Clock>(
@@ -103,14 +103,14 @@ impl<S: Read + Write> Link<S> {
         if !self.pace.is_due(tick.busy, tick.now) {
             return Ok(Left::Idle);
         }
-        match self.go_on(clock, gateway, conn, tick.now) {
+        match self.go_on(clock, gateway, conn, tick) {
             Ok(left) => Ok(self.left_at(left, tick)),
             Err(fault) => Err(fault),
         }
     }
 
-    // What a turn leaves at its time: a connection whose socket had nothing to do, or of which a body comes, is lost if
-    // its time is over.
+    // What a turn leaves at its time: a connection whose socket had nothing to do, of which a body comes, or that is
+    // between requests, is lost if its time is over.
     #[tactic(auto, using(crate::proofs::Lost::still_lost))]
     fn left_at(&mut self, left: Left, tick: Tick) -> Left
         ensures socket { socket_of self.new ≡ socket_of self.old }
@@ -180,7 +180,7 @@ impl<S: Read + Write> Link<S> {
         clock: &T,
         gateway: &mut C,
         conn: usize,
-        now: Duration,
+        tick: Tick,
     ) -> Result<Left, DiskFault>
         ensures lost { IfOk result (λ left. IfLost left (λ gone. EndsBy gone (latest_of (socket_of self.new)))) }
         ensures stream { StaysOf S.remaining S.contents (socket_of self.old) (socket_of self.new) }
@@ -189,12 +189,12 @@ impl<S: Read + Write> Link<S> {
         ensures counts { Counts (IsErr result) (C.failures gateway.old) (C.failures gateway.new) }
     {
         if !self.output.left().is_empty() {
-            return Ok(self.write(now));
+            return Ok(self.write(tick.now));
         }
         match self.stage {
             Stage::Closed => Ok(Left::Closed),
             Stage::Giving => self.more(gateway, conn),
-            Stage::Taking => self.take(clock, gateway, conn, now),
+            Stage::Taking => self.take(clock, gateway, conn, tick),
         }
     }
 
@@ -237,7 +237,7 @@ impl<S: Read + Write> Link<S> {
         clock: &T,
         gateway: &mut C,
         conn: usize,
-        now: Duration,
+        tick: Tick,
     ) -> Result<Left, DiskFault>
         ensures lost { IfOk result (λ left. IfLost left (λ gone. EndsBy gone (latest_of (socket_of self.new)))) }
         ensures stream { StaysOf S.remaining S.contents (socket_of self.old) (socket_of self.new) }
@@ -245,8 +245,8 @@ impl<S: Read + Write> Link<S> {
         ensures unclosed { result ≢ Ok Left.Closed }
         ensures counts { Counts (IsErr result) (C.failures gateway.old) (C.failures gateway.new) }
     {
-        match self.take_in(clock, gateway, conn, now) {
-            Ok(left) => Ok(self.write_given(left, now)),
+        match self.take_in(clock, gateway, conn, tick) {
+            Ok(left) => Ok(self.write_given(left, tick.now)),
             Err(fault) => Err(fault),
         }
     }
@@ -257,7 +257,7 @@ impl<S: Read + Write> Link<S> {
         clock: &T,
         gateway: &mut C,
         conn: usize,
-        now: Duration,
+        tick: Tick,
     ) -> Result<Left, DiskFault>
         ensures lost { IfOk result (λ left. IfLost left (λ gone. EndsBy gone (latest_of (socket_of self.new)))) }
         ensures stream { StaysOf S.remaining S.contents (socket_of self.old) (socket_of self.new) }
@@ -265,10 +265,10 @@ impl<S: Read + Write> Link<S> {
         ensures unclosed { result ≢ Ok Left.Closed }
         ensures counts { Counts (IsErr result) (C.failures gateway.old) (C.failures gateway.new) }
     {
-        if let Some(left) = self.read(now) {
+        if let Some(left) = self.read(tick.now) {
             return Ok(left);
         }
-        match self.give(clock, gateway, conn, now) {
+        match self.give(clock, gateway, conn, tick) {
             Ok(()) => Ok(Left::Open),
             Err(fault) => Err(fault),
         }
@@ -312,13 +312,13 @@ impl<S: Read + Write> Link<S> {
     }
 
     // Gives the session what was read, until all is taken, enough waits to be written, a text is to be given, the
-    // connection is closed, or the turn, which began at this time, has taken long.
+    // connection is closed or gives way, or the turn has taken long.
     fn give<C: Connections, T: Clock>(
         &mut self,
         clock: &T,
         gateway: &mut C,
         conn: usize,
-        now: Duration,
+        tick: Tick,
     ) -> Result<(), DiskFault>
         ensures socket { socket_of self.new ≡ socket_of self.old }
         ensures serves { Goes C.Connections gateway.old gateway.new result self.old self.new conn }
@@ -327,25 +327,31 @@ impl<S: Read + Write> Link<S> {
         // Each call takes at least a byte.
         let mut calls = PIECE;
         while calls > 0 && self.goes_on() {
-            match self.came(gateway, conn, now) {
+            match self.came(gateway, conn, tick.now) {
                 Ok(()) => {}
                 Err(fault) => return Err(fault),
             }
-            calls = self.calls_after(clock, now, calls);
+            calls = self.calls_after(clock, tick, calls);
         }
         Ok(())
     }
 
-    // How many of the calls that were to come may follow one of them: none in a turn that has taken long.
-    fn calls_after<T: Clock>(&self, clock: &T, begun: Duration, calls: usize) -> usize
+    // How many of the calls that were to come may follow one of them: none where the connection gives way once its
+    // replies are out, and none in a turn that has taken long.
+    fn calls_after<T: Clock>(&self, clock: &T, tick: Tick, calls: usize) -> usize
         requires { 0 < calls }
         ensures { result < calls }
     {
-        if self.goes_on() && is_long(clock, begun) {
+        if self.goes_on() && (self.has_stayed(tick) || is_long(clock, tick.now)) {
             0
         } else {
             calls - 1
         }
+    }
+
+    // Whether it was given all of a request, and has had its place for long enough.
+    fn has_stayed(&self, tick: Tick) -> bool {
+        self.request.is_none() && self.stay(tick).has_stayed()
     }
 
     // Whether the session may be given more of what was read.
@@ -381,13 +387,13 @@ impl<S: Read + Write> Link<S> {
 }
 
 // Whether a connection may be lost because its time is over, after a turn that left it so: where its socket had nothing
-// to do, or while a body comes.
+// to do, while a body comes, or once no reply is owed.
 fn may_be_late(left: Left, at: At) -> bool
     ensures { IsTrue result → (left ≡ Left.Idle) ⊎ (left ≡ Left.Open) }
 {
     match left {
         Left::Idle => true,
-        Left::Open => at == At::Body,
+        Left::Open => matches!(at, At::Between | At::Body),
         Left::Closed | Left::Lost(_) => false,
     }
 }

@@ -67,7 +67,7 @@ impl<S: Read + Write + Drop> Place<S> {
     }
 
     /// The turn of the connection, if one is open. Where it ends there, its socket is put to those that ended, and if
-    /// the session closed it, to those that drain.
+    /// the session closed it, or it gave way after a reply, to those that drain.
     ///
     /// Refused with `DiskFault` where a call of the session was.
     pub(crate) fn turn<C: Connections, T: Clock>(
@@ -97,20 +97,21 @@ impl<S: Read + Write + Drop> Place<S> {
             Ok(Left::Open) => Ok(Turned::Moved),
             Ok(Left::Idle) => Ok(Turned::Idle),
             Ok(Left::Closed) => {
-                if let Some(stream) = self.free(conn, Reason::Closed, ended) {
-                    drains.add(stream, tick.now);
-                }
+                let reason = Reason::Closed;
+                drains.let_go(self.free(conn, reason, ended), reason, tick.now);
                 Ok(Turned::Closed)
             }
-            Ok(Left::Lost(gone)) => match self.end(gateway, conn, Reason::Lost(gone), ended) {
-                Ok(()) => Ok(Turned::Closed),
-                Err(fault) => Err(fault),
-            },
+            Ok(Left::Lost(gone)) => {
+                match self.end(gateway, conn, Reason::Lost(gone), ended, drains, tick.now) {
+                    Ok(()) => Ok(Turned::Closed),
+                    Err(fault) => Err(fault),
+                }
+            }
             Err(fault) => Err(fault),
         }
     }
 
-    /// Ends the connection for this reason, if one is open, and reports that to the session.
+    /// Ends the connection now for this reason, if one is open, and reports that to the session.
     ///
     /// Refused with `DiskFault` where the session was.
     pub(crate) fn end<C: Connections>(
@@ -119,6 +120,8 @@ impl<S: Read + Write + Drop> Place<S> {
         conn: usize,
         reason: Reason,
         ended: &mut Trace<Seen>,
+        drains: &mut Drains<S>,
+        now: Duration,
     ) -> Result<(), DiskFault>
         requires { MayEnd reason self.old }
         ensures ended { ended.new.items ≡ with_place conn reason self.old ended.old.items }
@@ -133,7 +136,7 @@ impl<S: Read + Write + Drop> Place<S> {
         if self.is_free() {
             return Ok(());
         }
-        drop(self.free(conn, reason, ended));
+        drains.let_go(self.free(conn, reason, ended), reason, now);
         unless_failed(gateway.ended(conn))
     }
 

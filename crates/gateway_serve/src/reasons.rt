@@ -13,6 +13,17 @@ pub enum Reason {
     Over,
 }
 
+impl Reason {
+    /// Whether the client may still send something, and what was sent to it last may be under way: its socket drains.
+    pub(crate) fn drains(&self) -> bool {
+        match self {
+            Reason::Closed => true,
+            Reason::Lost(Gone::Late(stay)) => stay.has_just_moved(),
+            Reason::Lost(Gone::Ended | Gone::Failed(_) | Gone::Stuck) | Reason::Over => false,
+        }
+    }
+}
+
 /// Why a connection was lost.
 #[derive(Clone, Copy, Drop)]
 pub enum Gone {
@@ -22,6 +33,6 @@ pub enum Gone {
     Failed(ErrorKind),
     /// A write took nothing.
     Stuck,
-    /// Its time was over, and its socket had nothing to do.
+    /// Its time was over.
     Late(Stay),
 }

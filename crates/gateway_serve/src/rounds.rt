@@ -153,11 +153,13 @@ pub(crate) fn turn_each<S: Read + Write + Drop, C: Connections, T: Clock>(
     Ok(())
 }
 
-/// Ends the connections that are open, in order.
+/// Ends the connections that are open now, in order.
 pub(crate) fn end_each<S: Read + Write + Drop, C: Connections>(
     places: &mut [Place<S>],
     gateway: &mut C,
     ended: &mut Trace<Seen>,
+    drains: &mut Drains<S>,
+    now: Duration,
 ) -> Result<(), DiskFault>
     ensures streams { AllPreserve S.remaining S.contents places.old places.new ended.old.items ended.new.items }
     ensures once { AtMostOnce ended.old.items ended.new.items }
@@ -170,7 +172,7 @@ pub(crate) fn end_each<S: Read + Write + Drop, C: Connections>(
     ensures counts { Counts (IsErr result) (C.failures gateway.old) (C.failures gateway.new) }
 {
     for (conn, place) in places.iter_mut().enumerate() {
-        match place.end(gateway, conn, Reason::Over, ended) {
+        match place.end(gateway, conn, Reason::Over, ended, drains, now) {
             Ok(()) => {}
             Err(fault) => return Err(fault),
         }

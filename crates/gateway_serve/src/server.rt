@@ -129,7 +129,13 @@ impl<S: Read + Write + OpenStream + Drop> Server<S> {
             }
             left -= 1;
         }
-        end_each(&mut self.places, gateway, &mut self.ended)
+        end_each(
+            &mut self.places,
+            gateway,
+            &mut self.ended,
+            &mut self.drains,
+            self.watch.now,
+        )
     }
 
     // A turn: the listener's, then that of the client who waits, then each connection's, in order, and then that of the

@@ -1,6 +1,6 @@
 //! How long a connection has its place.
 ghost use Rattle.std.specs.Prelude.{◌≡◌, ◌↔◌, IsTrue};
-ghost use Rattle.gateway_serve.specs.Stays.{HasIdled, HasPaused, IsSlow, GivesWay, IsOver, seconds_from};
+ghost use Rattle.gateway_serve.specs.Stays.{HasIdled, HasPaused, HasStayed, IsSlow, GivesWay, IsOver, seconds_from};
 
 use std::time::Duration;
 
@@ -62,6 +62,18 @@ impl Stay {
         ensures { IsTrue result ↔ IsOver self.now }
     {
         self.has_idled() || (self.wanted && self.gives_way())
+    }
+
+    /// Whether it has had its place for ten seconds while a socket waits for one: it gives way once no reply is owed.
+    pub(crate) fn has_stayed(&self) -> bool
+        ensures { IsTrue result ↔ HasStayed self.now }
+    {
+        self.wanted && seconds_from(self.opened, self.time) >= SHORTEST_STAY
+    }
+
+    /// Whether it is between requests and something came or went just now: more may be under way.
+    pub(crate) fn has_just_moved(&self) -> bool {
+        self.at == At::Between && self.moved == self.time
     }
 
     // Whether nothing came or went for too long, or the head of a request isn't whole.

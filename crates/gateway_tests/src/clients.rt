@@ -164,10 +164,10 @@ impl Clock for Steps {
 
 /// Serves `clients` over a new spool of `blocks` blocks for `turns` turns, and returns how many connections were
 /// closed. No test reaches the limit of `MOST_OPEN + 2` connections.
-pub(crate) fn served<L: OpenListener>(
+pub(crate) fn served<L: OpenListener, T: Clock>(
     rt: &impl Abort,
     alloc: Global,
-    clock: &Steps,
+    clock: &T,
     clients: &L,
     blocks: u32,
     turns: u64,
