@@ -7,7 +7,9 @@ a byte comes each second, or bodies of 200 or 5,000 bytes a second, and begin ag
 kind an honest client connects anew, asks once, and does so again for some seconds: the longest that it waits is told,
 and asserted: two seconds for each sixteen slow ones before it, and ten for each sixteen fast ones. Then some send
 PATCHes of a byte without waiting for the replies, with places free and syncs that take a while: a new client waits for
-two commits of each. Last, twenty read a long text slowly, which the server never cuts: all of them get all of it.
+two commits of each. Then sixteen that never pause have all places, of several kinds, with syncs of two milliseconds: a
+new one waits ten seconds at most, and each of the sixteen that gives way has had its replies whole, sees the end of its
+stream and goes on. Last, twenty read a long text slowly, which the server never cuts: all of them get all of it.
 """
 
 import os
@@ -17,7 +19,7 @@ import threading
 import time
 from pathlib import Path
 
-from harness import OCTETS, Client, Sample, Server, build_library, format_spool, holds, indexes_in, parser_of, same
+from harness import OCTETS, TUS, Client, Sample, Server, build_library, format_spool, holds, indexes_in, parser_of, same
 from slow import Crowd, request
 
 # How many seconds an honest client may wait beside keepers.
@@ -36,6 +38,17 @@ KINDS = [
 BUSY = [(4, 1), (15, 1), (4, 8), (15, 8)]
 SYNCS = 4
 TEXT = 3_000_000
+# Those that have all places and never pause: what each does, how many bytes its pieces have, and for how many
+# milliseconds it thinks behind a reply.
+RESTLESS = [
+    ("heads ahead", 0, 0),
+    ("pieces ahead", 1, 0),
+    ("pieces", 3000, 0),
+    ("pieces", 3000, 50),
+    ("pieces", 8000, 0),
+    ("stories", 3000, 0),
+]
+PLACES, AHEAD = 16, 50
 
 SLOW_SYNC = """
 #define _GNU_SOURCE
@@ -149,6 +162,98 @@ class Busy:
         self.over.set()
 
 
+class Restless(threading.Thread):
+    """A client that never pauses: where it is ended it connects again, and goes on. It counts what it was answered."""
+
+    def __init__(self, port, kind, size, think):
+        super().__init__(daemon=True)
+        self.port, self.size, self.think = port, size, think / 1000
+        self.talk = {"heads ahead": self.heads, "pieces ahead": self.ahead, "pieces": self.pieces,
+                     "stories": self.stories}[kind]
+        self.over, self.replies, self.ends, self.wrong = threading.Event(), 0, 0, []
+        client = Client(port)
+        self.path = client.create(Sample("utf-8", b"a" * TEXT * 10, b""))
+        client.close()
+        self.start()
+
+    def run(self):
+        while not self.over.is_set():
+            with socket.create_connection(("127.0.0.1", self.port), timeout=90) as raw:
+                self.raw, self.file = raw, raw.makefile("rb")
+                try:
+                    self.talk()
+                except EOFError:
+                    self.ends += 1
+                except OSError as error:
+                    self.wrong.append(f"{self.talk.__name__}: {error!r}")
+
+    def send(self, method, path, headers, body=b""):
+        """Sends a request. One that the server ended meanwhile is noticed where its replies are read."""
+        try:
+            self.raw.sendall(request(method, path, headers) + body)
+        except (BrokenPipeError, ConnectionResetError):
+            pass
+
+    def reply(self, wanted):
+        """The headers of the next reply, whole. The end of the stream comes between two replies alone."""
+        line = self.file.readline()
+        if not line:
+            raise EOFError
+        headers = {}
+        while (field := self.file.readline()) not in (b"\r\n", b""):
+            name, _, value = field.decode().partition(":")
+            headers[name] = value.strip()
+        if not line.startswith(f"HTTP/1.1 {wanted} ".encode()) or field == b"":
+            self.wrong.append(f"{line!r} {headers}")
+        self.replies += 1
+        return headers
+
+    def offset(self):
+        self.send("HEAD", self.path, TUS)
+        return int(self.reply(200)["Upload-Offset"])
+
+    def piece(self, offset):
+        headers = {**OCTETS, "Upload-Offset": str(offset), "Content-Length": str(self.size)}
+        self.send("PATCH", self.path, headers, b"a" * self.size)
+
+    def heads(self):
+        """HEADs, many before the replies."""
+        for _ in range(AHEAD):
+            self.send("HEAD", self.path, TUS)
+        while not self.over.is_set():
+            self.reply(200)
+            self.send("HEAD", self.path, TUS)
+
+    def ahead(self):
+        """Pieces, many before the replies."""
+        offset = self.offset()
+        for n in range(AHEAD):
+            self.piece(offset + n * self.size)
+        while not self.over.is_set():
+            offset += self.size
+            same("the offset that a reply tells", int(self.reply(204)["Upload-Offset"]), offset)
+            self.piece(offset + (AHEAD - 1) * self.size)
+
+    def pieces(self):
+        """Pieces, each after the reply to the one before."""
+        offset = self.offset()
+        while not self.over.is_set():
+            self.piece(offset)
+            offset = int(self.reply(204)["Upload-Offset"])
+            time.sleep(self.think)
+
+    def stories(self):
+        """Uploads that are made, filled, asked for and deleted, each request after the reply to the one before."""
+        while not self.over.is_set():
+            self.send("POST", "/files", {**TUS, "Upload-Length": "3000"})
+            self.path = self.reply(201)["Location"]
+            self.piece(0)
+            self.reply(204)
+            self.offset()
+            self.send("DELETE", self.path, TUS)
+            self.reply(204)
+
+
 class Reader(threading.Thread):
     """Reads a text slowly, and counts what came."""
 
@@ -194,6 +299,36 @@ def beside_busy(words, folder, indexes):
         most = 2 * count * SYNCS * (millis + 0.5) / 1000 + 0.15
         wait = waits[count, millis]
         holds(f"{wait:.2f} s beside {count} busy ones and syncs of {millis} ms, at most {most:.2f}", wait <= most)
+    return waits
+
+
+def beside_restless(words, folder, indexes):
+    """The waits of a new client beside sixteen that never pause, and how many of these gave way."""
+    library = build_library(folder, "slow_sync", SLOW_SYNC)
+    waits = {}
+    for kind, size, think in RESTLESS:
+        spool = Path(folder, f"restless-{kind}-{size}-{think}")
+        format_spool(words.program, spool, 2048, indexes)
+        server = Server(words.program, spool, {**os.environ, "LD_PRELOAD": str(library), "SYNC_MILLIS": "2"})
+        try:
+            client = Client(server.port)
+            path = client.create(Sample("utf-8", b"a", b""))
+            client.close()
+            restless = [Restless(server.port, kind, size, think) for _ in range(PLACES)]
+            time.sleep(2)
+            wait = longest_wait(server.port, path, max(words.seconds, 2 * FAST))
+            for it in restless:
+                it.over.set()
+            for it in restless:
+                it.join(30)
+        finally:
+            server.kill()
+        what = f"{kind} of {size} bytes with {think} ms between"
+        same(f"what is wrong of {what}", [wrong for it in restless for wrong in it.wrong][:5], [])
+        holds(f"each of {what} is answered", min(it.replies for it in restless) > 0)
+        ends = sum(it.ends for it in restless)
+        waits[what] = (wait, ends)
+        holds(f"{wait:.2f} s beside {what}, {ends} of which gave way", wait <= FAST + MORE and ends > 0)
     return waits
 
 
@@ -244,11 +379,14 @@ def main():
         finally:
             server.kill()
         busy = beside_busy(words, folder, indexes)
+        restless = beside_restless(words, folder, indexes)
     print(f"longest waits: {keepers:.2f} s beside a hundred keepers")
     for (kind, speed, count), wait in slow.items():
         print(f"{wait:.2f} s beside {count} {kind} of {speed} bytes a second")
     for (count, millis), wait in busy.items():
         print(f"{wait:.2f} s beside {count} that send PATCHes one after the other, with syncs of {millis} ms")
+    for what, (wait, ends) in restless.items():
+        print(f"{wait:.2f} s beside sixteen that never pause: {what}; {ends} gave way")
     print(f"twenty slow readers got all of {TEXT} bytes in {read:.1f} s")
 
 
