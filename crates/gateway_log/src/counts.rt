@@ -4,6 +4,8 @@
 #[derive(Clone, Copy, Drop)]
 pub(crate) struct Counts {
     pub(crate) connections: u64,
+    /// Clients that couldn't be accepted: the listener failed.
+    pub(crate) unaccepted: u64,
     pub(crate) requests: u64,
     /// Replies with a status of 200 to 399.
     pub(crate) served: u64,
@@ -19,6 +21,7 @@ impl Counts {
     /// No traffic.
     pub(crate) const NONE: Counts = Counts {
         connections: 0,
+        unaccepted: 0,
         requests: 0,
         served: 0,
         refused: 0,
@@ -29,12 +32,17 @@ impl Counts {
 
     /// Whether there was no traffic.
     pub(crate) fn is_none(&self) -> bool {
-        self.connections == 0 && self.bytes_in == 0 && self.bytes_out == 0
+        self.connections == 0 && self.unaccepted == 0 && self.bytes_in == 0 && self.bytes_out == 0
     }
 
     /// Counts an accepted connection.
     pub(crate) fn add_connection(&mut self) {
         self.connections = self.connections.saturating_add(1);
+    }
+
+    /// Counts a client that couldn't be accepted.
+    pub(crate) fn add_unaccepted(&mut self) {
+        self.unaccepted = self.unaccepted.saturating_add(1);
     }
 
     /// Counts a request whose head came.

@@ -2,7 +2,7 @@
 
 use crate::streams::LoggedStream;
 use crate::writing::Log;
-use std::io::{self, Write};
+use std::io::{self, ErrorKind, Write};
 use std::net::{OpenListener, SocketAddr};
 use std::time::Clock;
 
@@ -21,12 +21,25 @@ impl<'a, L, T: Clock, W: Write + Drop> Logged<'a, L, T, W> {
     }
 }
 
+impl<L, T: Clock, W: Write + Drop> Logged<'_, L, T, W> {
+    // The listener failed so: unless nobody was there, that is counted.
+    fn unaccepted(&self, error: io::Error) -> io::Error {
+        if error.kind() != ErrorKind::WouldBlock {
+            self.log.count_unaccepted();
+        }
+        error
+    }
+}
+
 impl<'a, L: OpenListener, T: Clock, W: Write + Drop> OpenListener for Logged<'a, L, T, W> {
     type Stream = LoggedStream<'a, L::Stream, T, W>;
 
     fn accept(&self) -> io::Result<(LoggedStream<'a, L::Stream, T, W>, SocketAddr)> {
         self.log.turn();
-        let (stream, address) = self.listener.accept()?;
+        let (stream, address) = match self.listener.accept() {
+            Ok(accepted) => accepted,
+            Err(error) => return Err(self.unaccepted(error)),
+        };
         let client = self.log.accept(address);
         Ok((LoggedStream::new(stream, self.log, client), address))
     }

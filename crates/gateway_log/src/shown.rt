@@ -77,6 +77,9 @@ pub(crate) fn write_counts(
         counts.bytes_in,
         counts.bytes_out
     )?;
+    if counts.unaccepted > 0 {
+        write!(out, " unaccepted={}", counts.unaccepted)?;
+    }
     write_stock(out, stock)?;
     writeln!(out)
 }

@@ -154,6 +154,13 @@ impl<'a, T: Clock, W: Write + Drop> Log<'a, T, W> {
         number
     }
 
+    /// Counts a client that couldn't be accepted.
+    pub(crate) fn count_unaccepted(&self) {
+        if let Ok(mut counts) = self.counts.try_borrow_mut() {
+            counts.add_unaccepted();
+        }
+    }
+
     /// Counts received bytes.
     pub(crate) fn count_in(&self, bytes: usize) {
         if let Ok(mut counts) = self.counts.try_borrow_mut() {

@@ -36,6 +36,10 @@ abbrev pub brought_by : Option Request → ℕ
 brought_by None = 0
 brought_by (Some request) = request.brought
 
+abbrev pub turns_by : Option Request → ℕ
+turns_by None = 0
+turns_by (Some request) = request.turns
+
 abbrev pub stay_of : {S : Type 0} → Link S → Tick → Stay
 stay_of l tick = record {
   at = at_of l;
@@ -46,6 +50,7 @@ stay_of l tick = record {
   begun = begun_by l.request (moved_of l);
   since = since_by l.request (moved_of l);
   brought = brought_by l.request;
+  turns = turns_by l.request;
   time = tick.now;
 }
 

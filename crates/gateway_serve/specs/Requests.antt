@@ -25,7 +25,7 @@ part_at at.Text = None
 
 -- A REQUEST AT ITS TIME: the part that comes begins
 abbrev pub request_from : Part → Duration → Request
-request_from part now = record { part = part; begun = now; since = now; brought = 0 }
+request_from part now = record { part = part; begun = now; since = now; brought = 0; turns = 0 }
 
 -- so many bytes more of it came
 abbrev pub with_more : Request → ℕ → Request
@@ -34,18 +34,29 @@ with_more r n = record {
   begun = r.begun;
   since = r.since;
   brought = min (r.brought + n) 18_446_744_073_709_551_615;
+  turns = r.turns;
+}
+
+-- its socket was asked in one more turn
+abbrev pub with_turn : Request → Request
+with_turn r = record {
+  part = r.part;
+  begun = r.begun;
+  since = r.since;
+  brought = r.brought;
+  turns = min (r.turns + 1) 18_446_744_073_709_551_615;
 }
 
 -- its speed is measured anew after two seconds in which it was fast enough
 abbrev pub measured_anew : Request → Duration → Request
 measured_anew r now =
-    if nat_le 2 (seconds_from r.since now) && nat_le (seconds_from r.since now) (r.brought / LEAST_SPEED)
-    then record { part = r.part; begun = r.begun; since = now; brought = 0 }
+    if nat_le 2 (seconds_from r.since now) && nat_le (min (seconds_from r.since now) r.turns) (r.brought / LEAST_SPEED)
+    then record { part = r.part; begun = r.begun; since = now; brought = 0; turns = 0 }
     else r
 
 abbrev pub measured_by : Option Request → Duration → Option Request
 measured_by None now = None
-measured_by (Some request) now = Some (measured_anew request now)
+measured_by (Some request) now = Some (measured_anew (with_turn request) now)
 
 -- THE REQUEST that a connection is in, after so many bytes were taken and the session said what it is at: the one that
 -- it was in, if that part of it still comes, or another one that begins now

@@ -1,5 +1,5 @@
 -- How long a connection has its place.
-use Rattle.std.specs.Prelude.{◌≡◌, ◌⊎◌, ℕ, ◌<◌, ◌≤◌, ◌-◌, ◌/◌, true}
+use Rattle.std.specs.Prelude.{◌≡◌, ◌⊎◌, ℕ, ◌<◌, ◌≤◌, ◌-◌, ◌/◌, min, true}
 use Rattle.std.specs.Duration.{as_nanos}
 use Rattle.std.specs.declared.time.Duration.{Duration}
 use Rattle.gateway_serve.specs.declared.stays.Stay.{Stay}
@@ -29,9 +29,11 @@ HasIdled s = HasIdledAt s.at s
 abbrev pub HasPaused : Stay → Type 0
 HasPaused s = (s.longest ≡ true) × (SHORTEST_PAUSE ≤ millis_from s.moved s.time)
 
--- its request brought less than the least speed, in bytes a second, for two seconds or more
+-- its request brought less than the least speed, in bytes a second, for two seconds or more, and less than as many
+-- bytes in each of its turns
 abbrev pub IsSlow : Stay → Type 0
-IsSlow s = (LONGEST_SLOW ≤ seconds_from s.since s.time) × (s.brought / LEAST_SPEED < seconds_from s.since s.time)
+IsSlow s =
+    (LONGEST_SLOW ≤ seconds_from s.since s.time) × (s.brought / LEAST_SPEED < min (seconds_from s.since s.time) s.turns)
 
 -- it has had its place for ten seconds, and a socket waits for one
 abbrev pub HasStayed : Stay → Type 0

@@ -2,6 +2,8 @@
 ghost use Rattle.std.specs.Prelude.{◌≡◌, [], ◌∷◌, List, Bool, is_some};
 
 use common::Trace;
+use std::io::{self, ErrorKind};
+use std::mem;
 use std::net::{OpenListener, OpenStream};
 
 /// A listener that is asked for clients, one at a time, and never waits for one. Its ghost record has each answer.
@@ -15,6 +17,11 @@ pub trait Acceptor {
     /// The stream of a client that connected. `None` where there is none, and where accepting failed.
     fn accept(&mut self) -> Option<Self::Stream>
         ensures { answers self.new ≡ is_some result ∷ answers self.old };
+
+    /// Whether the latest call of `accept` failed, as it does where no more files may be open: a client may be there
+    /// nevertheless. That is told once.
+    fn take_failure(&mut self) -> bool
+        ensures { answers self.new ≡ answers self.old };
 }
 
 /// A listener of the operating system, or one in its place. That each call of `accept` makes one of the inner
@@ -25,6 +32,8 @@ pub struct Listening<'a, L> {
     listener: &'a L,
     /// whether it could be made not to wait
     asks: bool,
+    /// whether the latest call failed
+    failed: bool,
     answers: Trace<bool>,
 }
 
@@ -38,6 +47,7 @@ impl<'a, L: OpenListener> Listening<'a, L> {
         Listening {
             listener,
             asks: listener.set_nonblocking(true).is_ok(),
+            failed: false,
             answers: Trace::new(),
         }
     }
@@ -48,13 +58,13 @@ where
     L::Stream: OpenStream,
 {
     // The stream of the next client: one call of the listener. A stream that can't be made not to wait is closed.
-    fn next(&self) -> Option<L::Stream> {
+    fn next(&self) -> io::Result<L::Stream> {
         if !self.asks {
-            return None;
+            return Err(io::Error::from(ErrorKind::WouldBlock));
         }
-        let (stream, _peer) = self.listener.accept().ok()?;
-        stream.set_nonblocking(true).ok()?;
-        Some(stream)
+        let (stream, _peer) = self.listener.accept()?;
+        stream.set_nonblocking(true)?;
+        Ok(stream)
     }
 }
 
@@ -69,8 +79,16 @@ where
     ghost answers = { answers_of };
 
     fn accept(&mut self) -> Option<L::Stream> {
-        let client = self.next();
+        let next = self.next();
+        self.failed = next
+            .as_ref()
+            .is_err_and(|error| error.kind() != ErrorKind::WouldBlock);
+        let client = next.ok();
         self.answers = self.answers.and(&client.is_some());
         client
+    }
+
+    fn take_failure(&mut self) -> bool {
+        mem::replace(&mut self.failed, false)
     }
 }

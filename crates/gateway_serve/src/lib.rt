@@ -20,6 +20,7 @@ mod stays;
 
 pub use acceptors::{Acceptor, Listening};
 pub use doors::{AtDoor, Clients};
+pub use drains::MOST_DRAINING;
 pub use laws::known_talks;
 pub use reasons::{Gone, Reason};
 pub use serving::{Outcome, serve_on};

@@ -145,6 +145,7 @@ impl<S: Read + Write> Link<S> {
             begun: request.begun,
             since: request.since,
             brought: request.brought,
+            turns: request.turns,
             time: tick.now,
         }
     }

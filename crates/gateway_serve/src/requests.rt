@@ -1,7 +1,7 @@
 //! What serving measures of a request: since when its head or its body comes, and how fast.
 ghost use Rattle.std.specs.Prelude.{◌≡◌};
 ghost use Rattle.gateway_serve.specs.Requests.{at_in, measured_anew, part_at, request_by, request_from};
-ghost use Rattle.gateway_serve.specs.Requests.{with_more};
+ghost use Rattle.gateway_serve.specs.Requests.{with_more, with_turn};
 
 use crate::stays::{At, LEAST_SPEED};
 use std::time::Duration;
@@ -28,6 +28,8 @@ pub(crate) struct Request {
     pub(crate) since: Duration,
     /// How many bytes came since then.
     pub(crate) brought: u64,
+    /// In how many turns its socket was asked since then.
+    pub(crate) turns: u64,
 }
 
 impl Request {
@@ -40,6 +42,7 @@ impl Request {
             begun: now,
             since: now,
             brought: 0,
+            turns: 0,
         }
     }
 
@@ -60,14 +63,16 @@ impl Request {
         self.brought = self.brought.saturating_add(count as u64);
     }
 
-    /// Measures its speed anew, where it was fast enough for two seconds.
+    /// Its socket was asked in one more turn. Its speed is measured anew, where it was fast enough for two seconds.
     pub(crate) fn measure(&mut self, now: Duration)
-        ensures { self.new ≡ measured_anew self.old now }
+        ensures { self.new ≡ measured_anew (with_turn self.old) now }
     {
+        self.turns = self.turns.saturating_add(1);
         let seconds = now.saturating_sub(self.since).as_secs();
-        if seconds >= MEASURED && self.brought / LEAST_SPEED >= seconds {
+        if seconds >= MEASURED && self.brought / LEAST_SPEED >= seconds.min(self.turns) {
             self.since = now;
             self.brought = 0;
+            self.turns = 0;
         }
     }
 }

@@ -168,6 +168,7 @@ impl<S: Read + Write + OpenStream + Drop> Server<S> {
         let (now, opened) = (self.watch.now, self.door.clients.opened);
         self.times = self.times.and(&now);
         self.door.ask(acceptor, self.busy, now);
+        self.drains.make_room(acceptor.take_failure());
         self.seat(gateway)?;
         let mut round = self.round(now, opened, connections);
         let taken = turn_each(
@@ -178,7 +179,7 @@ impl<S: Read + Write + OpenStream + Drop> Server<S> {
             &mut self.drains,
             &mut round,
         );
-        let flows = self.drains.turn(now, self.busy);
+        let flows = self.drains.turn(clock, now, self.busy);
         self.busy = round.busy || flows;
         self.closed = round.closed;
         taken

@@ -47,13 +47,15 @@ pub struct Outcome<C> {
 /// A connection that the session closed is closed once all is written, and its place is free. Its socket drains: the
 /// writing side is shut down, and what still comes is read and dropped (RFC 9112, section 9.6), so that the client
 /// doesn't lose the reply to a reset. The socket is let go at its end, after two seconds in which nothing came, after
-/// ten if something came before, after 1,073,741,824 bytes, once 64 others were closed after it, and at the end.
+/// ten if something came before, after a minute, after 1,073,741,824 bytes, once 64 others were closed after it, or if
+/// it is the oldest when the listener fails, as it does where no more files may be open; and at the end.
 ///
 /// If all are open, one more client is taken in and waits for a place. Meanwhile a connection gives way. One whose
-/// socket has nothing to do: the one that has been between requests longest, after 20 milliseconds; any between
-/// requests that has had its place for ten seconds; a head or a body that brought less than 4,096 bytes a second for
-/// two seconds. And a body that has come for ten seconds, however fast. A reply never does. A socket that still waits
-/// when serving ends is closed.
+/// socket has nothing to do: the one that has been between requests longest, after 20 milliseconds; a head or a body
+/// that brought less than 4,096 bytes a second for two seconds, and less than as many in each of its turns. And whether
+/// there is something to do or not, a body that has come for ten seconds, and any that has had its place for ten
+/// seconds once no reply is owed: what was read of a next request is dropped, and the socket drains if something came
+/// or went just before. A reply never gives way. A socket that still waits when serving ends is closed.
 ///
 /// While there is something to do, the listener and each connection that had nothing are passed over in more and more
 /// turns, in at most 31 one after the other and for at most some 10 milliseconds. A connection whose time is over is
@@ -92,8 +94,7 @@ where
 
     // Each of these sockets had a stream of its own, as it was accepted. Until its connection was closed that was read
     // and written and nothing else: what the reads gave is what came, what the writes took is what went, and the latest
-    // of these calls answered so. What comes behind the last reply of a connection that the session closed is dropped,
-    // however much it is.
+    // of these calls answered so. What comes behind the last reply of a connection that the session closed is dropped.
     ensures streams { AllHad A.Stream.remaining A.Stream.contents result.ended.items }
 
     // Each of them ended for the reason that it has:

@@ -13,7 +13,8 @@ const SHORTEST_STAY: u64 = 10;
 /// For so many seconds a request may be slow while a socket waits for a place.
 const LONGEST_SLOW: u64 = 2;
 
-/// So many bytes a second a request brings that isn't slow.
+/// So many bytes a second a request brings that isn't slow, and where turns take longer so many a turn: no turn reads
+/// more of a socket.
 pub(crate) const LEAST_SPEED: u64 = 4096;
 
 /// For so many milliseconds at least a connection may be between requests.
@@ -51,6 +52,8 @@ pub struct Stay {
     pub since: Duration,
     /// How many bytes of it came since then.
     pub brought: u64,
+    /// In how many turns before this one its socket was asked since then.
+    pub turns: u64,
     /// The time.
     pub time: Duration,
 }
@@ -112,7 +115,7 @@ impl Stay {
         ensures { IsTrue result ↔ IsSlow self.now }
     {
         let seconds = seconds_from(self.since, self.time);
-        seconds >= LONGEST_SLOW && self.brought / LEAST_SPEED < seconds
+        seconds >= LONGEST_SLOW && self.brought / LEAST_SPEED < seconds.min(self.turns)
     }
 }
 

@@ -22,6 +22,19 @@ struct Talker {
     shut: Cell<usize>,
 }
 
+impl Talker {
+    /// It has so many bytes to send behind its head.
+    fn new(left: usize) -> Self {
+        Talker {
+            connected: Cell::new(false),
+            head: Cell::new(NOT_HTTP),
+            left: Cell::new(left),
+            told: Cell::new(0),
+            shut: Cell::new(0),
+        }
+    }
+}
+
 /// Its socket.
 #[derive(Drop)]
 struct Socket<'a> {
@@ -74,10 +87,11 @@ impl OpenStream for Socket<'_> {
     }
 }
 
-/// A listener at which it connects, once.
+/// A listener at which it connects, once. Then it fails so.
 #[derive(Drop)]
 struct Door<'a> {
     talker: &'a Talker,
+    then: ErrorKind,
 }
 
 impl<'a> OpenListener for Door<'a> {
@@ -85,7 +99,7 @@ impl<'a> OpenListener for Door<'a> {
 
     fn accept(&self) -> io::Result<(Socket<'a>, SocketAddr)> {
         if self.talker.connected.replace(true) {
-            return Err(io::Error::from(ErrorKind::WouldBlock));
+            return Err(io::Error::from(self.then));
         }
         let socket = Socket {
             talker: self.talker,
@@ -100,17 +114,37 @@ impl<'a> OpenListener for Door<'a> {
 
 #[test]
 fn closed_connection_is_read_to_its_end(rt: HostRuntime) {
-    let talker = Talker {
-        connected: Cell::new(false),
-        head: Cell::new(NOT_HTTP),
-        left: Cell::new(100_000),
-        told: Cell::new(0),
-        shut: Cell::new(0),
+    let talker = Talker::new(100_000);
+    let door = Door {
+        talker: &talker,
+        then: ErrorKind::WouldBlock,
     };
-    let door = Door { talker: &talker };
     served(&rt, rt.alloc(), &Steps::new(1000), &door, 16, 60);
     assert_eq!(rt;
         (talker.told.get(), talker.shut.get(), talker.left.get()),
         (MALFORMED.len(), 1, 0)
     );
+}
+
+/// Each row: how the listener fails, the microseconds between two readings of the clock, and how many pieces of 16,384
+/// bytes are dropped at most of a client that never stops: those of a minute, or of two turns.
+const ENDLESS: [(ErrorKind, u64, usize); 2] = [
+    (ErrorKind::WouldBlock, 1_000_000, 60),
+    (ErrorKind::Other, 1000, 2),
+];
+
+#[test]
+fn drain_ends(rt: HostRuntime) {
+    for (then, step, most) in ENDLESS.iter() {
+        let all = 1_000_000_000;
+        let talker = Talker::new(all);
+        let door = Door {
+            talker: &talker,
+            then: *then,
+        };
+        served(&rt, rt.alloc(), &Steps::new(*step), &door, 16, 200);
+        let dropped = all - talker.left.get();
+        assert!(rt; dropped > 0 && dropped <= *most * 16_384, "{dropped} bytes");
+        assert_eq!(rt; talker.shut.get(), 1);
+    }
 }

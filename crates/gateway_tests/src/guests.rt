@@ -129,6 +129,10 @@ fn client_that_never_pauses_gives_way(rt: HostRuntime) {
         let opened = served(&rt, rt.alloc(), &hall, &door, 16, 20);
         assert_eq!(rt; (opened, hall.shut.get()), (MOST_OPEN as u64 + 1, 1));
         assert!(rt; hall.last.get() > 0, "the one that waited is answered");
-        assert_eq!(rt; hall.first.get() % NO_CONTENT.len(), 0, "each reply went whole");
+        assert_eq!(rt;
+            hall.first.get() % NO_CONTENT.len(),
+            0,
+            "each reply went whole"
+        );
     }
 }

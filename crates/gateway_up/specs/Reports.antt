@@ -22,3 +22,9 @@ abbrev pub few_line : ℕ → List ℕ
 few_line connections =
     codes "warning: as few files may be open (ulimit -n), "
     ++ (decimal connections ++ codes " of 16 connections can be served at once\n")
+
+-- and so many sockets of these, of one that waits and of those that drain
+abbrev pub few_sockets_line : ℕ → List ℕ
+few_sockets_line sockets =
+    codes "warning: as few files may be open (ulimit -n), "
+    ++ (decimal sockets ++ codes " of 81 sockets can be: refused clients may see resets\n")

@@ -5,6 +5,6 @@ mod reports;
 mod serving;
 mod watched;
 
-pub use reports::{report_few, report_open, report_served, report_up};
+pub use reports::{report_few, report_few_sockets, report_open, report_served, report_up};
 pub use serving::{Reporting, Served, serve_file, serve_up};
 pub use watched::Watched;

@@ -1,7 +1,7 @@
 //! What is printed of serving.
 ghost use Rattle.std.specs.Prelude.{OnOk};
 ghost use Rattle.std.specs.Io.KnownBytes.{Appends};
-ghost use Rattle.gateway_up.specs.Reports.{few_line, open_line, served_line, up_line};
+ghost use Rattle.gateway_up.specs.Reports.{few_line, few_sockets_line, open_line, served_line, up_line};
 
 use common::SLOTS;
 use gateway_indexes::Survey;
@@ -38,6 +38,17 @@ pub fn report_open<W: Write>(writer: &mut W, address: &str) -> io::Result<()>
     writeln!(
         writer,
         "warning: {address} is open to other machines, and there are no passwords"
+    )
+}
+
+/// Warns that so many sockets at most can be open at once, of those of connections, of one that waits and of those that
+/// drain, since no more files may be open.
+pub fn report_few_sockets<W: Write>(writer: &mut W, sockets: usize) -> io::Result<()>
+    ensures { OnOk result (Appends (W.contents writer.old) (W.contents writer.new) (few_sockets_line sockets)) }
+{
+    writeln!(
+        writer,
+        "warning: as few files may be open (ulimit -n), {sockets} of 81 sockets can be: refused clients may see resets"
     )
 }
 

@@ -11,7 +11,7 @@ ghost use Rattle.gateway_outside.specs.SpoolFiles.{IsJustOpened};
 ghost use Rattle.gateway_up.specs.Addresses.{IsLocal};
 ghost use Rattle.gateway_up.specs.Serving.{IsUnopened, ReportsFaults};
 
-use crate::reports::{report_few, report_open, report_served, report_up};
+use crate::reports::{report_few, report_few_sockets, report_open, report_served, report_up};
 use crate::watched::Watched;
 use common::Stop;
 use gateway_engine::{Connections, Gateway};
@@ -19,7 +19,7 @@ use gateway_indexes::{Survey, open_surveyed};
 use gateway_log::{Log, Logged};
 use gateway_orders::Service;
 use gateway_outside::{Failure, Fault, Task, files_to_open, open_spool, refused_spool};
-use gateway_serve::{Acceptor, Listening, Outcome, serve_on};
+use gateway_serve::{Acceptor, Listening, MOST_DRAINING, Outcome, serve_on};
 use spool_disk::{DiskFault, FileDisk};
 use spool_image::{OpenFault, Spool};
 use std::alloc::Global;
@@ -244,12 +244,17 @@ pub fn serve_up<'a>(
     Ok(outcome(served, spool, gateway.into_disk()))
 }
 
-// Warns if fewer files may be opened than there may be connections.
+// So many sockets may be open at once: those of connections, one that waits, and those that drain.
+const MOST_SOCKETS: usize = MOST_OPEN + 1 + MOST_DRAINING;
+
+// Warns if fewer files may be opened than there may be connections, or sockets.
 fn warn_of_few(rt: &HostRuntime, alloc: Global) {
-    let files = files_to_open(rt, alloc, MOST_OPEN);
+    let files = files_to_open(rt, alloc, MOST_SOCKETS);
+    // If standard error can't be written, the warning is lost.
     if files < MOST_OPEN {
-        // If standard error can't be written, the warning is lost.
         drop(report_few(&mut rt.stderr(), files));
+    } else if files < MOST_SOCKETS {
+        drop(report_few_sockets(&mut rt.stderr(), files));
     }
 }
 

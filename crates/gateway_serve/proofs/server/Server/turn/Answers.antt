@@ -27,13 +27,13 @@ returns-clause-serves g c = λ sure before st past went joins.
 
 pub returns-clause-clients : goal.returns-clause-clients
 returns-clause-clients g c = λ before turns lets.
-    c.seat.ensures.clients before (g.A.Acceptor.answers c.ask.new.acceptor) (turns + 1)
-    (c.ask.ensures.clients before turns lets)
+    c.seat.ensures.clients before (g.A.Acceptor.answers c.take_failure.new.self) (turns + 1)
+    (rw c.take_failure.ensures (c.ask.ensures.clients before turns lets))
 
 pub returns-in_err-seat-clause-clients : goal.returns-in_err-seat-clause-clients
 returns-in_err-seat-clause-clients g c = λ before turns lets.
-    c.seat.ensures.clients before (g.A.Acceptor.answers c.ask.new.acceptor) (turns + 1)
-    (c.ask.ensures.clients before turns lets)
+    c.seat.ensures.clients before (g.A.Acceptor.answers c.take_failure.new.self) (turns + 1)
+    (rw c.take_failure.ensures (c.ask.ensures.clients before turns lets))
 
 pub returns-clause-closed : goal.returns-clause-closed
 returns-clause-closed g c same most =
