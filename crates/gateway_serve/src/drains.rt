@@ -142,7 +142,8 @@ impl<S: Drop> Drains<S> {
     // Adds the socket of a connection that ended now. Where as many drain as may, the one that was closed first
     // is let go. Out of memory, this one is.
     fn add(&mut self, stream: S, now: Duration) {
-        self.make_room(self.sockets.len() >= MOST_DRAINING);
+        let full = self.sockets.len() >= MOST_DRAINING;
+        self.make_room(full);
         let added = self.sockets.push(Drain {
             stream,
             shut: None,
