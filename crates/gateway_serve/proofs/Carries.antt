@@ -27,17 +27,17 @@ module _ {S : Type 0} (remaining contents : S → Option (List ℕ)) where
       → Carried remaining contents accepted s came' went' last' spell'
   carried_by accepted s came came' went went' last last' spell spell' e f h i k = rw (e, f, h, i) k
 
-  pub read_stays : (old new : Socket S) (bytes : List ℕ) (n : ℕ) (now : Duration)
-      → bytes_come new ≡ bytes_come old ++ bytes → went_of new ≡ went_of old → latest_of new ≡ Was.Read n
+  pub read_stays : (old new : Socket S) (bytes : List ℕ) (n room : ℕ) (now : Duration)
+      → bytes_come new ≡ bytes_come old ++ bytes → went_of new ≡ went_of old → latest_of new ≡ Was.Read n room
       → spell_of new ≡ moved_at now (spell_of old) → length bytes ≡ n
       → Consumes (remaining (stream_of old)) (remaining (stream_of new)) bytes
       → StaysOf remaining contents old new
-  read_stays old new bytes n now e f last spell count does = λ accepted k.
+  read_stays old new bytes n room now e f last spell count does = λ accepted k.
       carried_by accepted (stream_of new) (bytes_come old ++ bytes) (bytes_come new) (went_of old) (went_of new)
-      (Was.Read (length bytes)) (latest_of new) (moved_at now (spell_of old)) (spell_of new) e f
-      (last ∙ ap Was.Read (sym count)) spell
-      (read (stream_of old) (stream_of new) (bytes_come old) (went_of old) bytes (latest_of old) (spell_of old) now k
-      does)
+      (Was.Read (length bytes) room) (latest_of new) (moved_at now (spell_of old)) (spell_of new) e f
+      (last ∙ ap (λ k. Was.Read k room) (sym count)) spell
+      (read (stream_of old) (stream_of new) (bytes_come old) (went_of old) bytes room (latest_of old) (spell_of old)
+      now k does)
 
   pub not_read_stays : (old new : Socket S) (kind : ErrorKind) → bytes_come new ≡ bytes_come old
       → went_of new ≡ went_of old → latest_of new ≡ Was.Failed kind → spell_of new ≡ spell_of old
@@ -49,17 +49,17 @@ module _ {S : Type 0} (remaining contents : S → Option (List ℕ)) where
       (not_read (stream_of old) (stream_of new) (bytes_come old) (went_of old) (latest_of old) (spell_of old) kind k
       does)
 
-  pub written_stays : (old new : Socket S) (bytes : List ℕ) (n : ℕ) (now : Duration)
-      → bytes_come new ≡ bytes_come old → went_of new ≡ went_of old ++ bytes → latest_of new ≡ Was.Written n
+  pub written_stays : (old new : Socket S) (bytes : List ℕ) (n offered : ℕ) (now : Duration)
+      → bytes_come new ≡ bytes_come old → went_of new ≡ went_of old ++ bytes → latest_of new ≡ Was.Written n offered
       → spell_of new ≡ moved_at now (spell_of old) → length bytes ≡ n
       → Appends (contents (stream_of old)) (contents (stream_of new)) bytes
       → StaysOf remaining contents old new
-  written_stays old new bytes n now e f last spell count does = λ accepted k.
+  written_stays old new bytes n offered now e f last spell count does = λ accepted k.
       carried_by accepted (stream_of new) (bytes_come old) (bytes_come new) (went_of old ++ bytes) (went_of new)
-      (Was.Written (length bytes)) (latest_of new) (moved_at now (spell_of old)) (spell_of new) e f
-      (last ∙ ap Was.Written (sym count)) spell
-      (written (stream_of old) (stream_of new) (bytes_come old) (went_of old) bytes (latest_of old) (spell_of old) now
-      k does)
+      (Was.Written (length bytes) offered) (latest_of new) (moved_at now (spell_of old)) (spell_of new) e f
+      (last ∙ ap (λ k. Was.Written k offered) (sym count)) spell
+      (written (stream_of old) (stream_of new) (bytes_come old) (went_of old) bytes offered (latest_of old)
+      (spell_of old) now k does)
 
   pub not_written_stays : (old new : Socket S) (kind : ErrorKind) → bytes_come new ≡ bytes_come old
       → went_of new ≡ went_of old → latest_of new ≡ Was.Failed kind → spell_of new ≡ spell_of old

@@ -1,5 +1,5 @@
 -- Why a socket is given up.
-use Rattle.std.specs.Prelude.{◌≡◌, ◌≢◌, ◌⊎◌, ℕ, List, [], ◌∷◌, Result, Ok, Err}
+use Rattle.std.specs.Prelude.{◌≡◌, ◌≢◌, ◌⊎◌, ◌<◌, ℕ, List, [], ◌∷◌, Result, Ok, Err}
 use Rattle.std.specs.declared.time.Duration.{Duration}
 use Rattle.std.specs.IoError.{error_kind}
 use Rattle.std.specs.declared.io.Error.{Error}
@@ -19,13 +19,13 @@ abbrev pub IsFailure : ErrorKind → Type 0
 IsFailure kind = (kind ≢ Kind.WouldBlock) × (kind ≢ Kind.Interrupted)
 
 -- THE LATEST CALL of a stream, as a read or a write answered
-abbrev pub after_read : Result ℕ Error → Latest
-after_read (Ok n) = Was.Read n
-after_read (Err e) = Was.Failed (error_kind e)
+abbrev pub after_read : ℕ → Result ℕ Error → Latest
+after_read room (Ok n) = Was.Read n room
+after_read room (Err e) = Was.Failed (error_kind e)
 
-abbrev pub after_write : Result ℕ Error → Latest
-after_write (Ok n) = Was.Written n
-after_write (Err e) = Was.Failed (error_kind e)
+abbrev pub after_write : ℕ → Result ℕ Error → Latest
+after_write offered (Ok n) = Was.Written n offered
+after_write offered (Err e) = Was.Failed (error_kind e)
 
 -- and its times: it was opened, and something last came or went
 abbrev pub opened_at : Duration → Spell
@@ -38,12 +38,12 @@ abbrev pub moved_by : Result ℕ Error → Duration → Spell → Spell
 moved_by (Ok n) now spell = moved_at now spell
 moved_by (Err e) now spell = spell
 
--- THE REASONS by what the latest call of the stream answered: a read gave nothing, a read or write failed, or a write
--- took nothing. That a connection's time is over is none of the stream's
+-- THE REASONS by what the latest call of the stream answered: a read that had room gave nothing, a read or write
+-- failed, or a write that was offered something took nothing. That a connection's time is over is none of the stream's
 abbrev pub EndsBy : Gone → Latest → Type 0
-EndsBy Ended latest = latest ≡ Was.Read 0
+EndsBy Ended latest = (room : ℕ) × (0 < room) × (latest ≡ Was.Read 0 room)
 EndsBy (Failed kind) latest = (latest ≡ Was.Failed kind) × IsFailure kind
-EndsBy Stuck latest = latest ≡ Was.Written 0
+EndsBy Stuck latest = (offered : ℕ) × (0 < offered) × (latest ≡ Was.Written 0 offered)
 EndsBy (Late stay) latest = ⊥
 
 -- a time that the clock showed

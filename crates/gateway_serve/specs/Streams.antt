@@ -16,21 +16,22 @@ use Rattle.gateway_serve.specs.declared.places.Place.TheVariants.{Free, Open}
 
 -- THE STREAM was accepted so, and is so now. Since then it was read and written and nothing else: the reads gave all
 -- these bytes, and the writes took all those, each in order. What it has left and what it holds are as it gives them.
--- The latest of these calls answered so: it gave or took so many bytes, or failed. It was opened then, and something
--- last came or went then
+-- The latest of these calls answered so: it gave or took so many bytes of so many, or failed. It was opened then, and
+-- something last came or went then
 pub data Carried {S : Type 0} (remaining contents : S → Option (List ℕ)) (accepted : S)
     : S → List ℕ → List ℕ → Latest → Spell → Type 0 where
   untouched : (now : Duration) → Carried remaining contents accepted accepted [] [] Was.None (opened_at now)
-  read : (s s' : S) (came went bytes : List ℕ) (before : Latest) (spell : Spell) (now : Duration)
+  read : (s s' : S) (came went bytes : List ℕ) (room : ℕ) (before : Latest) (spell : Spell) (now : Duration)
       → Carried remaining contents accepted s came went before spell
       → Consumes (remaining s) (remaining s') bytes
-      → Carried remaining contents accepted s' (came ++ bytes) went (Was.Read (length bytes)) (moved_at now spell)
+      → Carried remaining contents accepted s' (came ++ bytes) went (Was.Read (length bytes) room) (moved_at now spell)
   not_read : (s s' : S) (came went : List ℕ) (before : Latest) (spell : Spell) (kind : ErrorKind)
       → Carried remaining contents accepted s came went before spell → Keeps (remaining s) (remaining s')
       → Carried remaining contents accepted s' came went (Was.Failed kind) spell
-  written : (s s' : S) (came went bytes : List ℕ) (before : Latest) (spell : Spell) (now : Duration)
+  written : (s s' : S) (came went bytes : List ℕ) (offered : ℕ) (before : Latest) (spell : Spell) (now : Duration)
       → Carried remaining contents accepted s came went before spell → Appends (contents s) (contents s') bytes
-      → Carried remaining contents accepted s' came (went ++ bytes) (Was.Written (length bytes)) (moved_at now spell)
+      → Carried remaining contents accepted s' came (went ++ bytes) (Was.Written (length bytes) offered)
+      (moved_at now spell)
   not_written : (s s' : S) (came went : List ℕ) (before : Latest) (spell : Spell) (kind : ErrorKind)
       → Carried remaining contents accepted s came went before spell → Keeps (contents s) (contents s')
       → Carried remaining contents accepted s' came went (Was.Failed kind) spell

@@ -77,7 +77,7 @@ impl Input {
         ensures went { went_of socket.new ≡ went_of socket.old }
         ensures same { OnErr result (bytes_come socket.new ≡ bytes_come socket.old) }
         ensures none { OnErr result (self.new ≡ []) }
-        ensures latest { latest_of socket.new ≡ after_read result }
+        ensures latest { latest_of socket.new ≡ after_read PIECE result }
         ensures spell { spell_of socket.new ≡ moved_by result now (spell_of socket.old) }
         ensures bytes { IfOk result (λ n.
             Consumes (S.remaining (stream_of socket.old)) (S.remaining (stream_of socket.new)) self.new) }
@@ -161,7 +161,7 @@ impl Output {
         ensures came { bytes_come socket.new ≡ bytes_come socket.old }
         ensures none { OnErr result (went_of socket.new ≡ went_of socket.old) }
         ensures same { OnErr result (self.new ≡ self.old) }
-        ensures latest { latest_of socket.new ≡ after_write result }
+        ensures latest { latest_of socket.new ≡ after_write (length self.old) result }
         ensures spell { spell_of socket.new ≡ moved_by result now (spell_of socket.old) }
         ensures bytes { IfOk result (λ n.
             Appends (S.contents (stream_of socket.old)) (S.contents (stream_of socket.new)) (take n self.old)) }

@@ -202,6 +202,7 @@ impl<S: Read + Write> Link<S> {
     // Writes of what is left as much as the socket takes.
     #[tactic(auto, using(crate::proofs::Lost::failed_lost))]
     fn write(&mut self, now: Duration) -> Left
+        requires { 0 < length (joint_of self.old).output }
         ensures lost { IfLost result (λ gone. EndsBy gone (latest_of (socket_of self.new))) }
         ensures stream { StaysOf S.remaining S.contents (socket_of self.old) (socket_of self.new) }
         ensures part { WritesPiece (joint_of self.old) (joint_of self.new) }

@@ -1,6 +1,6 @@
 //! Sockets, with all bytes that came from each and all that went to it. Only clauses read these: they take no memory,
 //! and keeping them does nothing when it runs.
-ghost use Rattle.std.specs.Prelude.{◌≡◌, [], ◌++◌, take, IfOk, OnErr};
+ghost use Rattle.std.specs.Prelude.{◌≡◌, [], ◌++◌, length, take, IfOk, OnErr};
 ghost use Rattle.std.specs.Io.{ReadsAtMost, WritesAtMost};
 ghost use Rattle.std.specs.Io.KnownBytes.{ReadConsumes, WriteAppends};
 
@@ -15,10 +15,10 @@ use std::time::Duration;
 pub enum Latest {
     /// There was none.
     None,
-    /// A read gave so many bytes.
-    Read(usize),
-    /// A write took so many bytes.
-    Written(usize),
+    /// A read gave so many bytes, and had room for so many.
+    Read { count: usize, room: usize },
+    /// A write took so many bytes of those that it was offered.
+    Written { count: usize, offered: usize },
     /// A read or a write failed.
     Failed(ErrorKind),
 }
@@ -85,15 +85,16 @@ impl<S: Read + Write> Socket<S> {
         ensures came { IfOk result (λ n. bytes_come self.new ≡ bytes_come self.old ++ take n buf.new) }
         ensures none { OnErr result (bytes_come self.new ≡ bytes_come self.old) }
         ensures went { went_of self.new ≡ went_of self.old }
-        ensures latest { latest_of self.new ≡ after_read result }
+        ensures latest { latest_of self.new ≡ after_read (length buf.old) result }
         ensures spell { spell_of self.new ≡ moved_by result now (spell_of self.old) }
         ensures bytes { ReadConsumes (S.remaining (stream_of self.old)) (S.remaining (stream_of self.new)) result
             buf.new }
     {
+        let room = buf.len();
         match self.stream.read(buf) {
             Ok(count) => {
                 self.came = self.came.then(&buf[..count]);
-                self.latest = Latest::Read(count);
+                self.latest = Latest::Read { count, room };
                 self.spell.moved = now;
                 Ok(count)
             }
@@ -110,15 +111,16 @@ impl<S: Read + Write> Socket<S> {
         ensures went { IfOk result (λ n. went_of self.new ≡ went_of self.old ++ take n bytes.now) }
         ensures none { OnErr result (went_of self.new ≡ went_of self.old) }
         ensures came { bytes_come self.new ≡ bytes_come self.old }
-        ensures latest { latest_of self.new ≡ after_write result }
+        ensures latest { latest_of self.new ≡ after_write (length bytes.now) result }
         ensures spell { spell_of self.new ≡ moved_by result now (spell_of self.old) }
         ensures bytes { WriteAppends (S.contents (stream_of self.old)) (S.contents (stream_of self.new)) result
             bytes.now }
     {
+        let offered = bytes.len();
         match self.stream.write(bytes) {
             Ok(count) => {
                 self.went = self.went.then(&bytes[..count]);
-                self.latest = Latest::Written(count);
+                self.latest = Latest::Written { count, offered };
                 self.spell.moved = now;
                 Ok(count)
             }
