@@ -4,9 +4,10 @@ usage: closes.py [--program PATH] [--indexes DIR] [--seed N] [--trials N] [--sho
 
 Clients ask for a close, send a PATCH at a wrong offset with its whole body of 1, 5 and 20 MB, and only then read: each
 of them gets its 409, beside forty that keep asking. Texts are asked for over HTTP/1.0, and two more bytes follow the
-request: each is whole. A socket whose client says nothing after a close is let go. Unless it is to be short, at the
-same time: a refused body of 10,000 bytes a second on a kept connection comes whole, longer than a minute, and gets its
-409; and heads that aren't whole, with empty lines before them or not, are ended after a minute.
+request: each is whole. A socket whose client says nothing after a close is let go. Where few files may be open, and
+more sockets drain than these are, a new client is answered at once. Unless it is to be short, at the same time: a
+refused body of 10,000 bytes a second on a kept connection comes whole, longer than a minute, and gets its 409; and
+heads that aren't whole, with empty lines before them or not, are ended after a minute.
 """
 
 import http.client
@@ -75,6 +76,37 @@ def let_go_after(server):
         while descriptors(server) > before and time.monotonic() - began < 30:
             time.sleep(0.1)
     return time.monotonic() - began
+
+
+class Crowded(Server):
+    """A server that may have forty files open."""
+
+    def start(self):
+        words = self.words
+        self.words = ["sh", "-c", 'ulimit -n 40; exec "$0" "$@"', *words]
+        super().start()
+        self.words = words
+
+
+def longest_where_few(program, spool):
+    """The longest wait of new clients where few files may be open, and the sockets of others drain, who still send."""
+    server, drained, waits = Crowded(program, spool), [], []
+    try:
+        for _ in range(45):
+            raw = socket.create_connection(("127.0.0.1", server.port), timeout=90)
+            raw.sendall(b"BAD\r\n\r\nand more")
+            drained.append(raw)
+        for _ in range(10):
+            began = time.monotonic()
+            client = Client(server.port)
+            client.ask(204, "OPTIONS", "/files", {})
+            client.close()
+            waits.append(time.monotonic() - began)
+    finally:
+        server.kill()
+        for raw in drained:
+            raw.close()
+    return max(waits)
 
 
 class Body(threading.Thread):
@@ -162,6 +194,8 @@ def main():
             same("an honest one afterwards", Client(server.port).offset(path), TEXT)
         finally:
             server.kill()
+        wait = longest_where_few(words.program, spool)
+        holds(f"a new client waits {wait:.2f} s where few files may be open", wait < 1)
     print(f"{words.trials} refused bodies each of {SIZES} bytes: every client saw its 409; three texts whole")
 
 

@@ -10,10 +10,11 @@ prefix of the output; or with status 0, where one connection got `! N 0` in plac
 and the others got what they get without it; or with status 0 and all answers, where less memory was asked for at once
 and granted. Afterwards each upload that was told (also before the run) is there, with at least
 the bytes that were told to be accepted, at status 0 exactly these, and exactly their text; no other is there; one whose
-deletion was told is gone; and a length that came with an upload's last bytes is known where they are there. Last comes
-an upgrade of a spool of version 1: it ends with status 2 and `refused: 0 NoMemory`, and no byte of the spool is
-another; or it is done, and the spool has the bytes that it had in version 2 before. The status is 0 where all was so,
-and no case refuses fewer allocations than were counted in it (COUNTED; with --every, which tries one in N, a part).
+deletion was told is gone; and a length that came with an upload's last bytes is known where they are there. Last come
+an upgrade of a spool of version 1 and a raise: each ends with status 2 and `refused: 0 NoMemory`, and no byte of the
+spool is another; or it is done, and the spool has the bytes that it had in version 2 before, or those that it has after
+a raise without a refusal. The status is 0 where all was so, and no case refuses fewer allocations than were counted in
+it (COUNTED; with --every, which tries one in N, a part).
 """
 
 import base64
@@ -28,18 +29,20 @@ from pathlib import Path
 
 from harness import build_library, format_spool, holds, indexes_in, make_old, parser_of, same, state_page, version_of
 from harness import Wrong
+from spools import next_number
 
 # How many allocations each case makes: a run that refuses fewer left some out, or the program has come to ask less
 # often, and the case's number here follows.
 COUNTED = {
-    "stored run": 322,
-    "two connections": 372,
-    "metadata": 316,
-    "one winner": 321,
-    "long GET": 325,
-    "deletion": 342,
-    "deferred length": 350,
-    "upgrade": 263,
+    "stored run": 345,
+    "two connections": 395,
+    "metadata": 339,
+    "one winner": 344,
+    "long GET": 348,
+    "deletion": 365,
+    "deferred length": 373,
+    "upgrade": 286,
+    "raise": 284,
 }
 LIBRARY = r"""
 #define _GNU_SOURCE
@@ -213,7 +216,7 @@ CASES = {
 class Run:
     """A script, or another command, over a spool, with one allocation refused, if any."""
 
-    def __init__(self, program, spool, lines, library=None, number=0, command="script"):
+    def __init__(self, program, spool, lines, library=None, number=0, command="script", more=()):
         env = dict(os.environ, REFUSED=str(number))
         if library:
             env["LD_PRELOAD"] = str(library)
@@ -222,7 +225,7 @@ class Run:
         os.close(write)
         given = "".join(f"{line}\n" for line in lines).encode()
         how = {"input": given, "capture_output": True, "env": env, "pass_fds": [9], "timeout": 60}
-        ran = subprocess.run([program, command, str(spool)], **how)
+        ran = subprocess.run([program, command, str(spool), *more], **how)
         os.close(9)
         self.reached = os.read(read, 1) == b"!"
         os.close(read)
@@ -424,18 +427,46 @@ def try_upgrade(program, folder, library, every):
     return wrong
 
 
+def try_raise(program, folder, library, every):
+    """Each allocation of a raise, refused in turn: what went wrong."""
+    before, _ = make_both(program, folder)
+    after, spool = folder / "after", folder / "spool"
+    shutil.copyfile(before, after)
+    same("a raise", Run(program, after, [], command="raise", more=["1000"]).out, b"next number 1000\n")
+
+    def run_at(number):
+        shutil.copyfile(before, spool)
+        return Run(program, spool, [], library, number, "raise", ["1000"])
+
+    def judge(run):
+        if run.status == 2:
+            same("what is said", (run.said, run.out), ("refused: 0 NoMemory\n", b""))
+            holds("a byte of the spool is another", spool.read_bytes() == before.read_bytes())
+        else:
+            same("what is said", (run.status, run.out), (0, b"next number 1000\n"))
+            same("the next number", next_number(spool), 1000)
+            holds("a byte isn't that of a raised spool", but_journal(spool) == but_journal(after))
+
+    wrong = each_refused("raise", every, run_at, judge)
+    judge(run_at(0))
+    return wrong
+
+
+COMMANDS = {"upgrade": try_upgrade, "raise": try_raise}
+
+
 def main():
     words = parser_of(__doc__)
     words.add_argument("--every", type=int, default=1, help="refuses one allocation in so many (1)")
-    words.add_argument("cases", nargs="*", help="`upgrade`, or a case's name, in place of all")
+    words.add_argument("cases", nargs="*", help="`upgrade`, `raise`, or a case's name, in place of all")
     given = words.parse_args()
     wrong = []
     with tempfile.TemporaryDirectory() as name:
         folder = Path(name)
         library = build_library(folder, "growths", LIBRARY)
         format_spool(given.program, folder / "empty", 64, indexes_in(folder, given.indexes))
-        for case in given.cases or [*CASES, "upgrade"]:
-            trial = try_upgrade if case == "upgrade" else lambda *words: try_case(*words, case)
+        for case in given.cases or [*CASES, *COMMANDS]:
+            trial = COMMANDS.get(case) or (lambda *words: try_case(*words, case))
             try:
                 wrong += trial(given.program, folder, library, given.every)
             except (Wrong, subprocess.SubprocessError) as error:

@@ -22,7 +22,7 @@ HERE = Path(__file__).resolve().parent
 COUNTS = {
     "clients.py": ["--clients", "4", "--at-once"],
     "kills.py": ["--kills", "10", "--clients", "5"],
-    "growths.py": ["--every", "25", "stored run", "deletion"],
+    "growths.py": ["--every", "25", "stored run", "deletion", "raise"],
     "hostile.py": ["--spools", "25", "--heads", "3", "--files", "10"],
     "syncs.py": ["--changes", "20"],
     "power.py": ["--runs", "1", "--changes", "8", "--images", "1", "--places", "30"],
@@ -46,6 +46,7 @@ WANTED = [
     ("a commit told as refused", "kills.py", "507, X-Refusal 17"),
     ("a commit told as out of memory", "growths.py", "bytes, told were"),
     ("no library reaches it", "growths.py", "0 allocations were refused, at least"),
+    ("a raise that does nothing", "growths.py", "the next number"),
     ("an upload lost at an opening", "growths.py", "the uploads before|the replies"),
     ("an upload lost at an opening", "kills.py", "404, X-Refusal 8"),
     ("an upload lost at an opening", "power.py", "changes were acknowledged, not|the uploads"),

@@ -514,7 +514,7 @@ def try_refusals(program):
     cases = [("refused: 13 AlreadySpool", "whole is a spool, and stays as it is", "format", "whole", *formats)]
     cases += [("refused: 14 Size", "16 to 65536", "format", "new", "--blocks", 8, "--indexes", "idx")]
     cases += [("refused: 35 AlreadyNew", "whole is of version 2", "upgrade", "whole")]
-    for words in ["raise", "whole"], ["raise", "mistyped"], ["format", "new", *formats, "--first"]:
+    for words in ["raise", "whole"], ["format", "new", *formats, "--first"]:
         cases += [("refused: 42 NumberTooLarge", f"the number is at most {MOST}", *words, MOST + 1)]
     for name, line, refusal in ("form", b"0\tx\n", "3 Line"), ("twice", b"0\t0xA0\n0\t0xA0\n", "5 Twice"):
         shutil.copytree(folder / "idx", folder / name)

@@ -29,7 +29,7 @@ from growths import Run, ask, list_of, post
 from harness import Wrong, format_spool, has_open_gate, holds, indexes_in, make_old, memory, parser_of, rng_of, same
 from harness import version_of
 from history import History, text_of
-from spools import PAGE, Spool, number as number_in
+from spools import PAGE, next_number
 
 BLOCKS = 64
 SECTOR = 512
@@ -190,13 +190,6 @@ def try_recoveries(images):
                 return state, number
 
             images.each(name, image, calls, judge)
-
-
-def next_number(path):
-    """The next number of a spool, by its bytes, with its journal replayed."""
-    spool = Spool(path.read_bytes()).recovered()
-    holds("the journal is out of form", spool)
-    return number_in(spool.data, spool.state + 4, 8)
 
 
 def try_raise(images, changes, left):

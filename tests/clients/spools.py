@@ -120,13 +120,13 @@ def found(data):
 def is_sound(spool):
     """Whether all stands that an opening checks, but for what the state bytes say."""
     data = spool.data
-    next_number, numbers = number(data, spool.state + 4, 8), [record.number for record in spool.records()]
+    later, numbers = number(data, spool.state + 4, 8), [record.number for record in spool.records()]
     return (
         not any(data[12:PAGE])
         and not any(data[spool.state + 12 : spool.state + PAGE])
-        and 1 <= next_number <= 10**18
+        and 1 <= later <= 10**18
         and len(numbers) == len(set(numbers))
-        and all(it < next_number for it in numbers)
+        and all(it < later for it in numbers)
         and are_indexes(data[spool.indexes : spool.state])
         and all(is_record(spool, slot) for slot in range(512))
         and are_rows(spool)
@@ -185,3 +185,9 @@ def are_rows(spool):
         and all(sorted(them) == list(range(len(them))) for them in ordinals.values())
         and not any(rest)
     )
+
+
+def next_number(path):
+    """The next number of a spool, by its bytes, with its journal replayed. None where that is out of form."""
+    spool = Spool(path.read_bytes()).recovered()
+    return number(spool.data, spool.state + 4, 8) if spool else None

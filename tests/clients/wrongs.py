@@ -519,7 +519,7 @@ DEEDS = {
     "a raise that does nothing": (raises_nothing, "raise"),
     "a loss passed as none": (passes_losses, "text"),
     "a spool's indexes not told": (tells_no_indexes, "list"),
-    "no library reaches it": (is_out_of_reach, "format serve script list upgrade"),
+    "no library reaches it": (is_out_of_reach, "format serve script list upgrade raise"),
     "a server that ends by itself": (ends_by_itself, "serve"),
     "a request logged that never was": (logs_what_never_was, "up"),
     "a cut body logged without its upload": (logs_no_progress, "up"),
