@@ -3,12 +3,13 @@ use Rattle.std.specs.Prelude.{◌≡◌, ℕ, List, Option, Result, IsErrAnd, �
 use Rattle.common.specs.Counts.{Counts}
 use Rattle.spool_disk.specs.declared.disk.Disk.{Ghosts}
 use Rattle.gateway_orders.specs.declared.orders.Order.{Order}
-use Rattle.gateway_orders.specs.declared.orders.Order.TheVariants.{Delete, DeleteIncomplete, Raise, Upgrade}
+use Rattle.gateway_orders.specs.declared.orders.Order.TheVariants.{Delete, DeleteIncomplete, Format, Raise, Upgrade}
 use Rattle.gateway_outside.specs.Failures.{fault_in}
 use Rattle.gateway_outside.specs.SpoolFiles.{Disks}
 use Rattle.gateway_outside.specs.declared.failures.Failure.{Failure}
 use Rattle.gateway_outside.specs.declared.faults.Fault.TheVariants.{Io}
 use Rattle.gateway_outside.specs.declared.openings.Unopened.{Unopened}
+use Rattle.gateway_format.specs.Formatting.{FormatsAt}
 use Rattle.gateway_format.specs.Raising.{RaisesAt}
 use Rattle.gateway_format.specs.Upgrading.{UpgradesAt}
 use Rattle.gateway_delete.specs.Deleted.{DeletesAt, FindsAt}
@@ -18,9 +19,11 @@ abbrev pub IoByOutput : {T : Type 0} → ℕ → ℕ → Result T Failure → Ty
 IoByOutput refused refused' result = Counts (IsErrAnd result (λ failure. fault_in failure ≡ Io)) refused refused'
 
 -- of the other orders nothing is said here yet
-module _ {T D : Type 0} (disk : Ghosts D) (holds holds' : Disks D → Type 0) (shut shut' : List Unopened)
-    (before after : Option (List ℕ)) (refused refused' : ℕ) (result : Result T Failure) where
+module _ {D : Type 0} (disk : Ghosts D) (holds holds' : Disks D → Type 0) (shut shut' : List Unopened)
+    (before after : Option (List ℕ)) (refused refused' : ℕ) (result : Result (Unit {0}) Failure) where
   abbrev pub Obeys : Order → Type 0
+  Obeys (Format spool blocks indexes overwrite standard first) =
+      FormatsAt disk holds holds' spool.now before after result blocks overwrite standard first
   Obeys (Delete spool numbers) = DeletesAt disk holds holds' shut shut' spool.now before after result numbers.items
       × IoByOutput refused refused' result
   Obeys (DeleteIncomplete spool but sure) =

@@ -10,10 +10,7 @@ use clap::error::ErrorKind;
 use common::Stop;
 use gateway_delete::{delete_in, incomplete_in};
 use gateway_export::export_file;
-use gateway_format::{
-    NewSpool, format_file, raise_in, report_formatted, report_longer, report_raised, upgrade_in,
-};
-use gateway_indexes::report_read;
+use gateway_format::{NewSpool, format_at, raise_in, upgrade_in};
 use gateway_list::{json_file, list_file};
 use gateway_orders::{Order, Service, USAGE, read_order, report_usage};
 use gateway_outside::{
@@ -80,18 +77,16 @@ fn obey<'a, F: SpoolFiles, W: Output, E: Output>(
             overwrite,
             standard,
             first,
-        } => format_at(
-            rt,
-            output,
-            spool,
-            NewSpool {
+        } => {
+            let wanted = NewSpool {
                 blocks,
                 indexes,
                 overwrite,
                 standard,
                 first,
-            },
-        ),
+            };
+            format_at(rt, alloc, files, output, spool, wanted)
+        }
         Order::Script { spool } => run_script(rt, alloc, spool),
         Order::Serve(service) => serve(rt, service),
         Order::Up {
@@ -127,28 +122,6 @@ fn obey<'a, F: SpoolFiles, W: Output, E: Output>(
         ),
         Order::Upgrade { spool } => upgrade_in(alloc, files, output, spool),
         Order::Raise { spool, number } => raise_in(alloc, files, output, spool, number),
-    }
-}
-
-// Makes a spool, and prints what was made.
-fn format_at<'a, W: Output>(
-    rt: &HostRuntime,
-    output: &mut W,
-    spool: &'a str,
-    wanted: NewSpool<'a>,
-) -> Result<(), Failure<'a>> {
-    let (blocks, first) = (wanted.blocks, wanted.first);
-    let made = format_file(rt, rt.alloc(), spool, wanted)?;
-    // First what warns, since it has to be seen whatever becomes of the rest. If standard error can't be written,
-    // neither the index files nor the file's length are reported.
-    drop(report_read(&mut rt.stderr(), made.files.as_slice()));
-    if let Some(len) = made.longer {
-        drop(report_longer(&mut rt.stderr(), spool, len));
-    }
-    report_formatted(output, blocks, made.pages)?;
-    match first {
-        Some(first) => report_raised(output, first.max(1)),
-        None => Ok(()),
     }
 }
 

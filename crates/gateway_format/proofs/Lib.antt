@@ -1,3 +1,4 @@
 mod Blank
 mod Upgraded
 mod Raised
+mod Reasons

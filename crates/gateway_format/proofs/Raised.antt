@@ -1,5 +1,5 @@
 -- The uploads of a spool that was raised.
-use Rattle.std.proofs.Common.{◌≡◌, ◌∙◌, ◌⊎◌, ap, inl, inr, refl, subst, sym, ℕ, max, List, Option, Result, Ok, Err}
+use Rattle.std.proofs.Common.{◌≡◌, ◌∙◌, ◌⊎◌, inl, inr, refl, subst, sym, ℕ, max, List, Option, Result, Ok, Err}
 use Rattle.std.proofs.Common.{IfOk}
 use Rattle.std.specs.Prelude.{OnOk}
 use Rattle.std.specs.Io.KnownBytes.{Appends}
@@ -7,10 +7,9 @@ use Rattle.spool_disk.specs.declared.disk.Disk.{Ghosts}
 use Rattle.upload_rules.specs.Store.{Store}
 use Rattle.spool_catalog.specs.Raising.{raised}
 use Rattle.spool_image.specs.LeftOnly.{AllShow, IsSpool}
-use Rattle.spool_catalog.specs.declared.error.OpenFault.TheVariants as opens
+use Rattle.spool_catalog.specs.declared.error.OpenFault.TheVariants as openings
 use Rattle.spool_image.specs.declared.error.RaiseError.{RaiseError}
 use Rattle.spool_image.specs.declared.error.RaiseError.TheVariants.{Open, TooLarge}
-use Rattle.gateway_outside.specs.Failures.{fault_in}
 use Rattle.gateway_outside.specs.Faults.{raise_fault}
 use Rattle.gateway_outside.specs.Openings.{EndsWellBut}
 use Rattle.gateway_outside.specs.SpoolFiles.{OnlyRead}
@@ -61,10 +60,10 @@ show_raised disk d d' n number next m shown so = elim so [
 
 -- what a raise is refused for is never told as a stream's
 pub never_io : (e : RaiseError) (fault : Fault) → fault ≡ raise_fault e → fault ≡ Io → ⊥
-never_io (Open opens.NotASpool) fault is io = absurd (cc)
-never_io (Open opens.Damaged) fault is io = absurd (cc)
-never_io (Open opens.Version) fault is io = absurd (cc)
-never_io (Open (opens.Stop stop)) fault is io = absurd (cc)
+never_io (Open openings.NotASpool) fault is io = absurd (cc)
+never_io (Open openings.Damaged) fault is io = absurd (cc)
+never_io (Open openings.Version) fault is io = absurd (cc)
+never_io (Open (openings.Stop stop)) fault is io = absurd (cc)
 never_io TooLarge fault is io = absurd (cc)
 
 -- what is printed is the number that was answered

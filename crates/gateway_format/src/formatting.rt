@@ -1,8 +1,10 @@
 //! A new spool in a file.
-ghost use Rattle.std.specs.Prelude.{◌≡◌, ◌↔◌, ◌<◌, ℕ, Err, IfErr, IfOk, IsErr, IsErrAnd, IsOk, OnOk, Some};
-ghost use Rattle.std.specs.Prelude.{max, true, false};
+ghost use Rattle.std.specs.Prelude.{◌≡◌, ◌⊎◌, ◌↔◌, ◌<◌, ◌≤◌, ℕ, Bool, Err, IfErr, IfOk, IsErr, IsErrAnd, IsOk, OnOk};
+ghost use Rattle.std.specs.Prelude.{Some, max, true, false};
+ghost use Rattle.std.specs.Io.KnownBytes.{Appends};
 ghost use Rattle.std.specs.IoError.{error_kind};
 ghost use Rattle.std.specs.declared.io.ErrorKind.{ErrorKind};
+ghost use Rattle.common.specs.declared.limits.TheConstants.{LEAST_BLOCKS, MOST_BLOCKS};
 ghost use Rattle.spool_disk.specs.Disk.{Counts, IsImage, Preserves};
 ghost use Rattle.spool_disk.specs.Views.{Lasts};
 ghost use Rattle.spool_journal.specs.Image.{all_pages};
@@ -11,18 +13,22 @@ ghost use Rattle.spool_catalog.specs.Raising.{raised};
 ghost use Rattle.spool_image.specs.Format.{FitsSpool, HasMagic, IsRefusal, LeftByFormat};
 ghost use Rattle.spool_image.specs.LeftOnly.{AllShow};
 ghost use Rattle.spool_image.specs.Raise.{latest};
+ghost use Rattle.gateway_outside.specs.declared.faults.Fault.{Fault};
 ghost use Rattle.gateway_outside.specs.Failures.{fault_in};
-ghost use Rattle.gateway_outside.specs.Faults.{creating_fault};
+ghost use Rattle.gateway_outside.specs.Faults.{creating_fault, opening_fault};
+ghost use Rattle.gateway_outside.specs.Openings.{EndsWellBut};
 ghost use Rattle.gateway_outside.specs.SpoolFiles.{Disks, Leaves, LeavesOthers, OnlyRead};
-ghost use Rattle.gateway_indexes.specs.Found.{AreStandard, all_standard, row_for, row_of};
-ghost use Rattle.gateway_indexes.specs.IndexFiles.{index_files};
+ghost use Rattle.gateway_indexes.specs.Found.{all_standard};
 ghost use Rattle.gateway_format.specs.Blanks.{IsBlank};
+ghost use Rattle.gateway_format.specs.Formatting.{Formats, FormatsAt, IsHonestAt, IsReason, IsRefusedFor};
+ghost use Rattle.gateway_format.specs.Reports.{formatted_lines};
 
 use crate::blanks::is_blank;
 use crate::raising::raise_to;
+use crate::reports::{report_formatted, report_longer};
 use enc_index::IndexSet;
 use gateway_indexes::{IndexFile, IndexFiles, read_indexes, refuse_others, report_read};
-use gateway_outside::{Advice, Failure, Fault, SpoolFiles, SystemFiles, Task};
+use gateway_outside::{Advice, Failure, Fault, Output, SpoolFiles, Task};
 use spool_disk::{CreateError, Disk};
 use spool_image::{FormatError, LATEST, format, is_spool, pages_of};
 use spool_journal::PAGE;
@@ -42,17 +48,6 @@ pub struct NewSpool<'a> {
     pub standard: bool,
     /// The number of its first upload. Without one, and for 0, that is 1.
     pub first: Option<u64>,
-}
-
-/// A spool that was made.
-#[derive(Drop)]
-pub struct Formatted {
-    /// How many pages it has.
-    pub pages: u32,
-    /// The length of the file that was there, in bytes, if it is longer than these pages. So long it is still.
-    pub longer: Option<u64>,
-    /// The index files, and what was found of each.
-    pub files: Vec<IndexFile>,
 }
 
 /// Makes a spool without uploads on a disk, of so many text blocks, as `spool_image::format` does: how many pages it
@@ -88,41 +83,51 @@ pub fn format_on<D: Disk>(disk: &mut D, blocks: u32, indexes: &IndexSet) -> Resu
     pages_of(blocks).ok_or(FormatError::Size)
 }
 
-/// Makes a spool without uploads in a file, which is made or lengthened. One that is a spool stays as it is, and so
-/// does one that has a byte other than zero, unless it may be overwritten. With `standard` the index files have to be
-/// the standard's: if some aren't, they are reported on standard error, and the file isn't even opened.
-pub fn format_file<'a>(
+/// Makes a spool without uploads in the file at this path, which is made or lengthened, and prints that. One that is a
+/// spool stays as it is, and so does one that has a byte other than zero, unless it may be overwritten. With `standard`
+/// the index files have to be the standard's: if some aren't, the file isn't even opened. What warns is told first, on
+/// standard error: of the index files, and of a file that is longer than the spool.
+pub fn format_at<'a, F: SpoolFiles, W: Output>(
     rt: &HostRuntime,
     alloc: Global,
-    spool: &'a str,
+    files: &mut F,
+    output: &mut W,
+    path: &'a str,
     wanted: NewSpool<'a>,
-) -> Result<Formatted, Failure<'a>>
-    ensures pages { IfOk result (λ made. made.pages ≡ all_pages wanted.entry.blocks) }
-    ensures standard { wanted.entry.standard ≡ true → IfOk result (λ made. AreStandard made.files.items) }
+) -> Result<(), Failure<'a>>
+    ensures { FormatsAt F.File.Disk (F.holds files.old) (F.holds files.new) path.now (W.contents output.old)
+        (W.contents output.new) result wanted.entry.blocks wanted.entry.overwrite wanted.entry.standard
+        wanted.entry.first }
 {
-    let IndexFiles { set, files } = read_indexes(rt, alloc, wanted.indexes)?;
-    if wanted.standard {
-        wants_standard(rt, &files, wanted.indexes)?;
+    let read = match read_indexes(rt, alloc, wanted.indexes) {
+        Ok(read) => read,
+        Err(failure) => return Err(failure),
+    };
+    let IndexFiles { set, files: found } = read;
+    match refuse_unless(rt, wanted.standard, &found, wanted.indexes) {
+        Ok(()) => {}
+        Err(failure) => return Err(failure),
     }
-    let made = format_wanted(alloc, &mut SystemFiles::new(rt), spool, &wanted, &set)?;
-    let Made { pages, there } = made;
-    let longer = there.filter(|len| *len > PAGE as u64 * pages as u64);
-    Ok(Formatted {
-        pages,
-        longer,
-        files,
-    })
+    match format_wanted(alloc, files, path, &wanted, &set) {
+        Ok(made) => return tell_made(rt, output, path, &wanted, made, &found),
+        Err(failure) => return Err(failure),
+    }
 }
 
-// Refuses index files some of which aren't the standard's. Then they are reported on standard error.
-fn wants_standard<'a>(
+// Refuses index files some of which aren't the standard's, if they have to be. Then they are reported on standard
+// error.
+fn refuse_unless<'a>(
     rt: &HostRuntime,
+    standard: bool,
     files: &[IndexFile],
     folder: &'a str,
 ) -> Result<(), Failure<'a>>
-    ensures standard { IsOk result ↔ (all_standard files.now ≡ true) }
+    ensures standard { IsOk result → standard ≡ true → all_standard files.now ≡ true }
     ensures fault { IfErr result (λ failure. fault_in failure ≡ Fault.OtherIndexes) }
 {
+    if !standard {
+        return Ok(());
+    }
     let refused = refuse_others(files, folder);
     if refused.is_err() {
         // If standard error can't be written, they aren't reported.
@@ -139,14 +144,44 @@ fn format_wanted<'a, F: SpoolFiles>(
     wanted: &NewSpool<'a>,
     indexes: &IndexSet,
 ) -> Result<Made, Failure<'a>>
-    ensures pages { IfOk result (λ made. made.pages ≡ all_pages wanted.now.blocks) }
+    ensures { Formats F.File.Disk (F.holds files.old) (F.holds files.new) path.now wanted.now.blocks indexes.now
+        wanted.now.overwrite wanted.now.first result }
 {
-    let blocks = wanted.blocks;
+    let (blocks, overwrite) = (wanted.blocks, wanted.overwrite);
     match wanted.first {
-        Some(first) => {
-            format_raised_in(alloc, files, path, blocks, indexes, wanted.overwrite, first)
+        Some(first) => return format_raised_in(
+            alloc, files, path, blocks, indexes, overwrite, first,
+        ),
+        None => return format_in(files, path, blocks, indexes, overwrite),
+    }
+}
+
+// Tells of a spool that was made. First what warns, since it has to be seen whatever becomes of the rest.
+fn tell_made<'a, W: Output>(
+    rt: &HostRuntime,
+    output: &mut W,
+    path: &str,
+    wanted: &NewSpool,
+    made: Made,
+    files: &[IndexFile],
+) -> Result<(), Failure<'a>>
+    ensures line { OnOk result (Appends (W.contents output.old) (W.contents output.new)
+        (formatted_lines wanted.now.blocks made.pages wanted.now.first)) }
+    ensures refused { EndsWellBut result Fault.Io }
+{
+    // If standard error can't be written, neither the index files nor the file's length are reported.
+    drop(report_read(&mut rt.stderr(), files));
+    drop(warn_of_length(rt, path, made));
+    report_formatted(output, wanted.blocks, made.pages, wanted.first)
+}
+
+// Tells of a file that is longer than the spool that was made in it.
+fn warn_of_length(rt: &HostRuntime, path: &str, made: Made) -> io::Result<()> {
+    match made.there {
+        Some(len) if len > PAGE as u64 * made.pages as u64 => {
+            report_longer(&mut rt.stderr(), path, len)
         }
-        None => format_in(files, path, blocks, indexes, wanted.overwrite),
+        _ => Ok(()),
     }
 }
 
@@ -236,13 +271,23 @@ pub fn format_in<'a, F: SpoolFiles>(
     // Refused or not, the other files stay.
     ensures others { (disks : Disks F.File) → F.holds files.old disks
         → LeavesOthers (F.holds files.new) disks path.now }
+
+    // Each refusal has its reason.
+    ensures reasons { (disks : Disks F.File) → F.holds files.old disks → IsHonestAt F.File.Disk disks path.now
+        → IfErr result (λ failure. IsReason F.File.Disk (F.holds files.new) disks path.now blocks overwrite
+        (fault_in failure)) }
 {
     let Some(pages) = pages_of(blocks) else {
         return Err(Failure::advised(Fault::Size, Advice::Blocks));
     };
-    let there = look(files, path, overwrite)?;
-    make_spool(files, path, there.is_none(), pages, blocks, indexes)?;
-    Ok(Made { pages, there })
+    let there = match look(files, path, overwrite) {
+        Ok(there) => there,
+        Err(failure) => return Err(failure),
+    };
+    match make_spool(files, path, there.is_none(), pages, blocks, indexes) {
+        Ok(()) => Ok(Made { pages, there }),
+        Err(failure) => Err(failure),
+    }
 }
 
 // Refuses a file that may not become a spool, before it is lengthened. The length of the file, where there is one.
@@ -259,6 +304,9 @@ fn look<'a, F: SpoolFiles>(
         → IsErr result × Leaves (F.holds files.new) disks path.now (OnlyRead F.File.Disk d) }
     ensures others { (disks : Disks F.File) → F.holds files.old disks
         → LeavesOthers (F.holds files.new) disks path.now }
+    ensures reasons { (disks : Disks F.File) (blocks : ℕ) → F.holds files.old disks
+        → IsHonestAt F.File.Disk disks path.now → IfErr result (λ failure. IsReason F.File.Disk (F.holds files.new)
+        disks path.now blocks overwrite (fault_in failure)) }
 {
     let mut disk = match files.open(path) {
         Ok(disk) => disk,
@@ -280,6 +328,7 @@ fn refuse_bytes<D: Disk>(disk: &mut D, overwrite: bool) -> Result<(), Fault>
     ensures spool { D.honest disk.old → HasMagic (D.size disk.old) (D.current disk.old) → IsErr result }
     ensures foreign { D.honest disk.old → (IsBlank (D.size disk.old) (D.current disk.old) → ⊥) → overwrite ≡ false
         → IsErr result }
+    ensures reasons { D.honest disk.old → IfErr result (IsRefusedFor (D.size disk.old) (D.current disk.old) overwrite) }
 {
     if is_spool(disk)? {
         return Err(Fault::AlreadySpool);
@@ -303,7 +352,8 @@ fn refused_bytes<'a>(fault: Fault, path: &'a str, error: Option<io::Error>) -> F
 
 // A file wasn't opened: that is well where there is none.
 fn if_missing<'a>(path: &'a str, error: io::Error) -> Result<Option<u64>, Failure<'a>>
-    ensures { IsOk result → error_kind error ≡ ErrorKind.NotFound }
+    ensures missing { IsOk result → error_kind error ≡ ErrorKind.NotFound }
+    ensures fault { IfErr result (λ failure. fault_in failure ≡ opening_fault (error_kind error)) }
 {
     match error.kind() {
         ErrorKind::NotFound => Ok(None),
@@ -320,10 +370,16 @@ fn make_spool<'a, F: SpoolFiles>(
     blocks: u32,
     indexes: &IndexSet,
 ) -> Result<(), Failure<'a>>
+    requires least { LEAST_BLOCKS ≤ blocks }
+    requires most { blocks ≤ MOST_BLOCKS }
+    requires pages { pages ≡ all_pages blocks }
     ensures made { (disks : Disks F.File) → F.holds files.old disks → OnOk result (Leaves (F.holds files.new) disks
         path.now (λ d. AllShow F.File.Disk d blocks (no_uploads indexes.now))) }
     ensures others { (disks : Disks F.File) → F.holds files.old disks
         → LeavesOthers (F.holds files.new) disks path.now }
+    ensures reasons { (disks : Disks F.File) (overwrite : Bool) → F.holds files.old disks
+        → IfErr result (λ failure. IsReason F.File.Disk (F.holds files.new) disks path.now blocks overwrite
+        (fault_in failure)) }
 {
     let mut disk = match files.create(path, PAGE as u64 * pages as u64) {
         Ok(disk) => disk,
@@ -370,6 +426,7 @@ fn not_made<'a, F: SpoolFiles>(
 ) -> Failure<'a>
     ensures others { (disks : Disks F.File) → F.holds files.old disks
         → LeavesOthers (F.holds files.new) disks path.now }
+    ensures told { ((result ≡ failure.entry) × (files.new ≡ files.old)) ⊎ (fault_in result ≡ Fault.CannotOpen) }
 {
     let Some(error) = error else {
         return failure;

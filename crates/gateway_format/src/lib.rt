@@ -8,9 +8,6 @@ mod reports;
 mod upgrading;
 
 pub use blanks::is_blank;
-pub use formatting::{
-    Formatted, Made, NewSpool, format_file, format_in, format_on, format_raised_in,
-};
+pub use formatting::{Made, NewSpool, format_at, format_in, format_on, format_raised_in};
 pub use raising::raise_in;
-pub use reports::{report_formatted, report_longer, report_raised};
 pub use upgrading::upgrade_in;

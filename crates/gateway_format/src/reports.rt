@@ -4,29 +4,52 @@ ghost use Rattle.std.specs.Io.KnownBytes.{Appends};
 ghost use Rattle.spool_disk.specs.Disk.{Counts};
 ghost use Rattle.gateway_outside.specs.declared.faults.Fault.{Fault};
 ghost use Rattle.gateway_outside.specs.Openings.{EndsWellBut};
-ghost use Rattle.gateway_format.specs.Reports.{formatted_line, longer_line, raised_line, upgraded_line};
+ghost use Rattle.gateway_format.specs.Reports.{formatted_lines, longer_line, raised_line, upgraded_line};
 
-use gateway_outside::{Failure, Fault, Output};
+use gateway_outside::{Failure, Fault, Output, Refused};
 use std::io::{self, Write};
 
-/// Prints what `format` made. Refused with `Io`.
-pub fn report_formatted<'a, W: Output>(
+/// Prints what `format` made, and the number of the first upload, if it was given. Refused with `Io`.
+pub(crate) fn report_formatted<'a, W: Output>(
     output: &mut W,
     blocks: u32,
     pages: u32,
+    first: Option<u64>,
 ) -> Result<(), Failure<'a>>
-    ensures line { OnOk result (Appends (W.contents output.old) (W.contents output.new) (formatted_line blocks pages)) }
+    ensures line { OnOk result
+        (Appends (W.contents output.old) (W.contents output.new) (formatted_lines blocks pages first)) }
     ensures refused { EndsWellBut result Fault.Io }
-    ensures io { Counts (IsErr result) (W.refusals output.old) (W.refusals output.new) }
 {
-    match writeln!(output, "formatted {blocks} blocks, {pages} pages") {
+    match write_formatted(output, blocks, pages, first) {
         Ok(()) => Ok(()),
         Err(_) => Err(Failure::on_streams(Fault::Io, None, output.error())),
     }
 }
 
+// Writes what `format` made: all of it, or refuses.
+fn write_formatted<W: Output>(
+    output: &mut W,
+    blocks: u32,
+    pages: u32,
+    first: Option<u64>,
+) -> Result<(), Refused>
+    ensures { OnOk result
+        (Appends (W.contents output.old) (W.contents output.new) (formatted_lines blocks pages first)) }
+{
+    match first {
+        Some(first) => {
+            let first = first.max(1);
+            writeln!(
+                output,
+                "formatted {blocks} blocks, {pages} pages\nnext number {first}"
+            )
+        }
+        None => writeln!(output, "formatted {blocks} blocks, {pages} pages"),
+    }
+}
+
 /// Prints that the file of a spool that was made is longer than the spool, since it was so long before.
-pub fn report_longer<W: Write>(writer: &mut W, spool: &str, len: u64) -> io::Result<()>
+pub(crate) fn report_longer<W: Write>(writer: &mut W, spool: &str, len: u64) -> io::Result<()>
     ensures { OnOk result (Appends (W.contents writer.old) (W.contents writer.new) (longer_line spool.now len)) }
 {
     writeln!(
@@ -36,7 +59,7 @@ pub fn report_longer<W: Write>(writer: &mut W, spool: &str, len: u64) -> io::Res
 }
 
 /// Prints the next number of a spool, which was raised. Refused with `Io`.
-pub fn report_raised<'a, W: Output>(output: &mut W, next: u64) -> Result<(), Failure<'a>>
+pub(crate) fn report_raised<'a, W: Output>(output: &mut W, next: u64) -> Result<(), Failure<'a>>
     ensures line { OnOk result (Appends (W.contents output.old) (W.contents output.new) (raised_line next)) }
     ensures refused { EndsWellBut result Fault.Io }
     ensures io { Counts (IsErr result) (W.refusals output.old) (W.refusals output.new) }

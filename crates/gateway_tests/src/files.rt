@@ -5,13 +5,14 @@ use crate::steps::Step::{self, Added, Deferred, Made, Open};
 use crate::talks::Talk;
 use gateway_delete::incomplete_in;
 use gateway_export::export_file;
-use gateway_format::{NewSpool, format_file, raise_in, report_formatted, upgrade_in};
-use gateway_indexes::report_read;
+use gateway_format::{NewSpool, format_at, raise_in, upgrade_in};
+use gateway_indexes::{IndexFiles, read_indexes, report_read};
 use gateway_list::{json_file, list_file, list_on};
 use gateway_outside::{Failure, Noted, SystemFiles, open_spool};
 use spool_disk::{Disk, FileDisk};
 use std::alloc::Global;
 use std::fs;
+use std::io::Write;
 use std::process::Abort;
 use upload_rules::Uploads;
 
@@ -107,11 +108,12 @@ fn spool_is_made_used_listed_and_upgraded(rt: HostRuntime) {
     fs::create_dir(&rt, FOLDER).expect(&rt, "a folder");
     fs::write(&rt, JIS0208, "0\t3000\n").expect(&rt, "a file");
     fs::write(&rt, JIS0212, "# two\n108\t02D8\n").expect(&rt, "a file");
-    let made = format_file(&rt, alloc, SPOOL, small(FOLDER)).expect(&rt, "a spool");
-    let mut lines = Noted::new(Vec::new(alloc));
-    report_formatted(&mut lines, 16, made.pages).expect(&rt, "a line");
-    report_read(&mut lines, made.files.as_slice()).expect(&rt, "lines");
-    assert!(rt; lines.into_stream().starts_with(FORMATTED));
+    let (made, mut lines) = formatted(&rt, alloc, SPOOL, small(FOLDER));
+    made.expect(&rt, "a spool");
+    let IndexFiles { set, files } = read_indexes(&rt, alloc, FOLDER).expect(&rt, "index files");
+    report_read(&mut lines, files.as_slice()).expect(&rt, "lines");
+    drop(set);
+    assert!(rt; lines.starts_with(FORMATTED));
     let talk = Talk::new(&rt, alloc, STEPS);
     let disk = open_spool(&rt, SPOOL).expect(&rt, "a new spool");
     let (disk, fault, written) = ran(alloc, &talk, disk);
@@ -131,10 +133,29 @@ fn spool_is_made_used_listed_and_upgraded(rt: HostRuntime) {
         standard: true,
         ..small(FOLDER)
     };
-    let other = format_file(&rt, alloc, OTHER, standard).map(drop);
+    let (other, _) = formatted(&rt, alloc, OTHER, standard);
     fails(&rt, alloc, other, 2, OTHERS);
     assert!(rt; !fs::exists(&rt, OTHER).expect(&rt, "a folder"));
     fs::remove_dir_all(&rt, FOLDER).expect(&rt, "a folder");
+}
+
+/// Makes a spool in a file: how that ended, and what was printed.
+fn formatted<'a>(
+    rt: &HostRuntime,
+    alloc: Global,
+    path: &'a str,
+    wanted: NewSpool<'a>,
+) -> (Result<(), Failure<'a>>, Vec<u8>) {
+    let mut output = Noted::new(Vec::new(alloc));
+    let ended = format_at(
+        rt,
+        alloc,
+        &mut SystemFiles::new(rt),
+        &mut output,
+        path,
+        wanted,
+    );
+    (ended, output.into_stream())
 }
 
 /// Upgrades the spool in a file.
@@ -156,7 +177,8 @@ fn spool_stays_as_it_is(rt: HostRuntime) {
     let _ = fs::remove_dir_all(&rt, AGAIN);
     fs::create_dir(&rt, AGAIN).expect(&rt, "a folder");
     fs::write(&rt, "gateway_again_test/spool", "no spool").expect(&rt, "a file");
-    let foreign = format_file(&rt, alloc, "gateway_again_test/spool", small(AGAIN)).map(drop);
+    let (foreign, printed) = formatted(&rt, alloc, "gateway_again_test/spool", small(AGAIN));
+    assert!(rt; printed.is_empty());
     let message = "refused: 40 NotEmpty\n\
     gateway_again_test/spool isn't empty, and no spool: take another path, or --overwrite if nobody needs it. \
     An interrupted format leaves such a file; a damaged spool is one too: see docs/FORMAT.md";
@@ -165,17 +187,21 @@ fn spool_stays_as_it_is(rt: HostRuntime) {
         overwrite: true,
         ..small(AGAIN)
     };
-    let made = format_file(&rt, alloc, "gateway_again_test/spool", over).expect(&rt, "a spool");
-    assert_eq!(rt; (made.pages, made.longer), (557, None));
+    let (made, printed) = formatted(&rt, alloc, "gateway_again_test/spool", over);
+    made.expect(&rt, "a spool");
+    assert_eq!(rt;
+        printed.as_slice(),
+        b"formatted 16 blocks, 557 pages\n".as_slice()
+    );
     let before = fs::read(&rt, "gateway_again_test/spool").expect(&rt, "its bytes");
     let longer = NewSpool { blocks: 32, ..over };
-    let again = format_file(&rt, alloc, "gateway_again_test/spool", longer).map(drop);
+    let (again, _) = formatted(&rt, alloc, "gateway_again_test/spool", longer);
     let message = "refused: 13 AlreadySpool\n\
     gateway_again_test/spool is a spool, and stays as it is: take another path, or remove it yourself";
     fails(&rt, alloc, again, 2, message);
     let index = "gateway_again_test/index-jis0212.txt";
     fs::write(&rt, index, "0\t3000\n8836\t3000\n").expect(&rt, "a file");
-    let unread = format_file(&rt, alloc, "gateway_again_test/other", small(AGAIN)).map(drop);
+    let (unread, _) = formatted(&rt, alloc, "gateway_again_test/other", small(AGAIN));
     fails(
         &rt,
         alloc,
@@ -202,7 +228,7 @@ fn failure_says_what_the_system_said(rt: HostRuntime) {
         standard: true,
         ..small("no_such_folder")
     };
-    let unmade = format_file(&rt, alloc, "gateway_unmade_test", standard).map(drop);
+    let (unmade, _) = formatted(&rt, alloc, "gateway_unmade_test", standard);
     let message = "refused: 33 Io\n\
     cannot look into the folder no_such_folder: No such file or directory (os error 2). The standard's index files \
     are in /usr/share/wovelatsa/indexes, or encoding.spec.whatwg.org has them";
@@ -259,6 +285,21 @@ const TOO_LARGE: u64 = 999_000_000_000_000_001;
 const NOT_THAT_LARGE: &str =
     "refused: 42 NumberTooLarge\nthe number is at most 999000000000000000: nothing lowers it again";
 
+/// What is printed of a new spool whose first upload gets this number.
+fn printed_of(rt: &impl Abort, alloc: Global, first: Option<u64>) -> Vec<u8> {
+    let mut lines = Vec::new(alloc);
+    let written = match first {
+        Some(first) => writeln!(
+            &mut lines,
+            "formatted 16 blocks, 557 pages\nnext number {}",
+            first.max(1)
+        ),
+        None => writeln!(&mut lines, "formatted 16 blocks, 557 pages"),
+    };
+    written.expect(rt, "memory for lines");
+    lines
+}
+
 #[test]
 fn next_number_is_raised(rt: HostRuntime) {
     let alloc = rt.alloc();
@@ -268,7 +309,7 @@ fn next_number_is_raised(rt: HostRuntime) {
         first: Some(TOO_LARGE),
         ..small(RAISED)
     };
-    let unmade = format_file(&rt, alloc, RAISED_SPOOL, wanted).map(drop);
+    let (unmade, _) = formatted(&rt, alloc, RAISED_SPOOL, wanted);
     fails(&rt, alloc, unmade, 2, NOT_THAT_LARGE);
     assert!(rt; !fs::exists(&rt, RAISED_SPOOL).expect(&rt, "a folder"));
     for (first, number, next) in RAISES.iter() {
@@ -276,7 +317,12 @@ fn next_number_is_raised(rt: HostRuntime) {
             first: *first,
             ..small(RAISED)
         };
-        format_file(&rt, alloc, RAISED_SPOOL, wanted).expect(&rt, "a spool");
+        let (made, printed) = formatted(&rt, alloc, RAISED_SPOOL, wanted);
+        made.expect(&rt, "a spool");
+        assert_eq!(rt;
+            printed.as_slice(),
+            printed_of(&rt, alloc, *first).as_slice()
+        );
         let mut lines = Noted::new(Vec::new(alloc));
         raise_in(
             alloc,

@@ -17,6 +17,7 @@ mod fair_places;
 mod faults;
 #[cfg(test)]
 mod files;
+#[cfg(test)]
 mod guests;
 #[cfg(test)]
 mod labels;

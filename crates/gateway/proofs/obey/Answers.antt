@@ -15,3 +15,6 @@ returns-in-Upgrade g c = rw c.in-Upgrade.is (c.upgrade_in.ensures.upgrades, c.up
 
 pub returns-in-Raise : goal.returns-in-Raise
 returns-in-Raise g c = rw c.in-Raise.is (c.raise_in.ensures.raises, c.raise_in.ensures.io)
+
+pub returns-in-Format : goal.returns-in-Format
+returns-in-Format g c = rw c.in-Format.is c.format_at.ensures

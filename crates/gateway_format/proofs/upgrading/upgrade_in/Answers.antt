@@ -1,6 +1,6 @@
 use Rattle.std.proofs.Common.{◌≡◌, ◌∙◌, ◌⊎◌, None, Ok, Err, inl, inr, refl}
 use Rattle.std.specs.Prelude.{IsErrAnd}
-use Rattle.gateway_outside.specs.Counted.{counts_as, counts_none}
+use Rattle.gateway_outside.specs.Counted.{counts_none}
 use Rattle.gateway_outside.specs.Held.{leaves_again, leaves_as, leaves_put, leaves_same, unread}
 use Rattle.gateway_outside.specs.Openings.{StaysShut}
 use Rattle.gateway_format.specs.Upgrading.{UpgradedIn}
