@@ -133,18 +133,21 @@ const ENDLESS: [(ErrorKind, u64, usize); 2] = [
     (ErrorKind::Other, 1000, 2),
 ];
 
+/// More bytes than are dropped in a minute.
+const ALL: usize = 1_000_000_000;
+
 #[test]
 fn drain_ends(rt: HostRuntime) {
     for (then, step, most) in ENDLESS.iter() {
-        let all = 1_000_000_000;
-        let talker = Talker::new(all);
+        let talker = Talker::new(ALL);
         let door = Door {
             talker: &talker,
             then: *then,
         };
         served(&rt, rt.alloc(), &Steps::new(*step), &door, 16, 200);
-        let dropped = all - talker.left.get();
-        assert!(rt; dropped > 0 && dropped <= *most * 16_384, "{dropped} bytes");
+        let dropped = ALL.saturating_sub(talker.left.get());
+        let most = most.saturating_mul(16_384);
+        assert!(rt; dropped > 0 && dropped <= most, "{dropped} bytes");
         assert_eq!(rt; talker.shut.get(), 1);
     }
 }
