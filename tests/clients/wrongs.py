@@ -227,9 +227,13 @@ def takes_other_indexes(program):
 
 
 def deletes_what_is_kept(program):
-    """Uploads that were to be kept are deleted."""
-    if "--incomplete" in program.words:
-        program.words = [word for word in program.words if not (word.isdigit() or word.startswith("--but"))]
+    """Uploads that were to be kept are deleted. A number without an upload is refused."""
+    words = program.words
+    if "--incomplete" in words:
+        program.words = [word for word in words if word != "--yes"]
+        if program.ran().returncode == 0:
+            words = [word for word in words if not (word.isdigit() or word.startswith("--but"))]
+    program.words = words
     program.go()
 
 
