@@ -4,15 +4,16 @@ usage: closes.py [--program PATH] [--indexes DIR] [--seed N] [--trials N] [--sho
 
 Clients ask for a close, send a PATCH at a wrong offset with its whole body of 1, 5 and 20 MB, and only then read: each
 of them gets its 409, beside forty that keep asking. Texts are asked for over HTTP/1.0, and two more bytes follow the
-request: each is whole. A socket whose client says nothing after a close is let go. Where few files may be open, and
-more sockets drain than these are, a new client is answered at once. Unless it is to be short, at the same time: a
-refused body of 10,000 bytes a second on a kept connection comes whole, longer than a minute, and gets its 409; and
-heads that aren't whole, with empty lines before them or not, are ended after a minute.
+request: each is whole. A socket whose client says nothing after a close is let go. Where few files may be open, `up`
+warns, and though more sockets drain than these are, a new client is answered at once. Unless it is to be short, at the
+same time: a refused body of 10,000 bytes a second on a kept connection comes whole, longer than a minute, and gets its
+409; and heads that aren't whole, with empty lines before them or not, are ended after a minute.
 """
 
 import http.client
 import os
 import socket
+import subprocess
 import tempfile
 import threading
 import time
@@ -109,6 +110,26 @@ def longest_where_few(program, spool):
     return max(waits)
 
 
+def warned(program, spool, most):
+    """What `up` warns of where so many files may be open."""
+    words = ["sh", "-c", f'ulimit -n {most}; exec "$0" "$@"', program, "up", str(spool), "--listen", "127.0.0.1:0"]
+    with subprocess.Popen(words, stdout=subprocess.PIPE, stderr=subprocess.PIPE, text=True) as server:
+        server.stdout.readline()
+        # It warns behind that line, before it takes a client.
+        time.sleep(0.5)
+        server.kill()
+        return server.stderr.read()
+
+
+def try_warnings(program, spool):
+    """`up` warns where so few files may be open that clients can't be served, or refused ones may see resets."""
+    few = "warning: as few files may be open (ulimit -n), "
+    same("the warning with 20", warned(program, spool, 20), few + "15 of 16 connections can be served at once\n")
+    told = "35 of 81 sockets can be: refused clients may see resets\n"
+    same("the warning with 40", warned(program, spool, 40), few + told)
+    same("the warning with 88", warned(program, spool, 88), "")
+
+
 class Body(threading.Thread):
     """Sends the body of a refused PATCH at 10,000 bytes a second, and reads its reply then."""
 
@@ -194,6 +215,7 @@ def main():
             same("an honest one afterwards", Client(server.port).offset(path), TEXT)
         finally:
             server.kill()
+        try_warnings(words.program, spool)
         wait = longest_where_few(words.program, spool)
         holds(f"a new client waits {wait:.2f} s where few files may be open", wait < 1)
     print(f"{words.trials} refused bodies each of {SIZES} bytes: every client saw its 409; three texts whole")
