@@ -5,6 +5,7 @@ use Rattle.std.specs.declared.io.ErrorKind.{ErrorKind}
 use Rattle.gateway_serve.specs.declared.sockets.Seen.{Seen}
 use Rattle.gateway_serve.specs.Bytes.{latest_of, current}
 use Rattle.std.specs.declared.time.Duration.{Duration}
+use Rattle.gateway_serve.specs.Counted.{count_closed, one_before}
 use Rattle.gateway_serve.specs.Gone.{EndsBy, EndsInTime, IfLost, IsAmong, IsFailure}
 use Rattle.gateway_serve.specs.Joined.{with_place}
 use Rattle.gateway_serve.specs.Reasons.{EndedOnce, none, free, one_more, AtMostOnce, AllReasoned, HasReason, IsLostBy}
@@ -77,6 +78,18 @@ pub all_with_time : (now : Duration) (times : List Duration) (ended : List Seen)
 all_with_time now times [] all = all
 all_with_time now times (s ∷ ended) all =
     (reason_with_time now times s s.reason all.0, all_with_time now times ended all.1)
+
+-- WHILE SERVING GOES ON all that ended were closed
+one_reasoned : (times : List Duration) (s : Seen) (reason : Reason) → HasReason times s reason → one_before reason ≡ 1
+one_reasoned times s Why.Closed is = refl
+one_reasoned times s (Why.Lost gone) is = refl
+one_reasoned times s Over is = absurd is
+
+pub all_closed : (times : List Duration) (ended : List Seen) → AllReasoned times ended
+    → count_closed ended ≡ length ended
+unfolding count_closed
+all_closed times [] all = refl
+all_closed times (s ∷ ended) all = omega (arith, one_reasoned times s s.reason all.0, all_closed times ended all.1)
 
 -- WHEN SERVING IS OVER
 one_ended : {S : Type 0} (before : List Seen) (n : ℕ) (p : Place S) (ended : List Seen) → EndedOnce before n ended

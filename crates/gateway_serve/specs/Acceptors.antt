@@ -87,13 +87,14 @@ abbrev pub LetsInBy : {S : Type 0} → List Bool → List Bool → ℕ → Door 
 LetsInBy before answers turns d =
     LetsIn before answers turns (done_of d) d.clients (is_some d.waiting) (passes_of d.pace)
 
--- WHILE IT SERVES, for all of its turns unless it ended before: the disk failed, or so many connections were closed
+-- WHILE IT SERVES, for all of its turns unless it ended before: the disk failed, or so many connections were closed,
+-- without those that its own end closes
 pub record TakesTurns (before answers : List Bool) (turns connections : ℕ) (done : List AtDoor) (clients : Clients)
     (ended : List Seen) (failed : Type 0) : Type 0 where
   pub taken : ℕ
   pub waits : Bool
   pub lets : LetsIn before answers taken done clients waits 0
-  pub all : failed ⊎ (connections ≤ length ended) ⊎ (taken ≡ turns)
+  pub all : failed ⊎ (connections ≤ count_closed ended) ⊎ (taken ≡ turns)
 
 -- WHEN IT HAS SERVED: each client that got a connection has a socket that ended, and it served no more once so many
 -- connections were closed

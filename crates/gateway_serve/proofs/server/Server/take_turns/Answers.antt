@@ -4,9 +4,9 @@ use Rattle.gateway_serve.specs.Joined.{places_of, ended_of}
 use Rattle.tus_session.proofs.Counting.{uncounted}
 use Rattle.gateway_serve.proofs.NextTurn.{counts_on, next_turn, taken_so}
 use Rattle.gateway_serve.proofs.Counted.{count_most, counted_by, none_counted}
-use Rattle.gateway_serve.proofs.Lost.{none_more}
+use Rattle.gateway_serve.proofs.Lost.{all_closed, none_more}
 use Rattle.gateway_serve.specs.Acceptors.{done_of, passes_of}
-use Rattle.gateway_serve.specs.Turns.{door_of, refused_by}
+use Rattle.gateway_serve.specs.Turns.{door_of, refused_by, times_of}
 use Rattle.gateway_serve.proofs.server.Server.take_turns.Goals.{then-loop-left-test+else-self-connections}
 use Rattle.gateway_serve.proofs.server.Server.take_turns.Goals.{else-loop-left-test}
 use Rattle.gateway_serve.proofs.server.Server.take_turns.Goals as goal
@@ -111,7 +111,9 @@ returns-clause-clients g c = record {
       arith,
       w.if-self-connections,
       c.loop-left.invariant.6,
-      c.end_each.ensures.more,
+      all_closed (times_of c.loop-left.self) (ended_of c.loop-left.self)
+          (c.loop-left.invariant.3 (rw c.requires.2 tt)),
+      c.end_each.ensures.before,
     )))
     | else-loop-left-test w ↦ inr (inr (omega (arith, w.loop-left-test, c.loop-left.invariant.4)))
   ];
