@@ -10,13 +10,13 @@ use Rattle.gateway_serve.specs.Gone.{opened_at, moved_at}
 use Rattle.gateway_serve.specs.declared.sockets.Spell.{Spell}
 use Rattle.gateway_serve.specs.Joined.{Joint, joint_of, nothing_yet}
 use Rattle.gateway_serve.specs.Streams.{Carried, untouched, read, not_read, written, not_written}
-use Rattle.gateway_serve.specs.Streams.{IsOf, StaysOf, PlaceHas, PlacePreserves, AllHave, AllPreserve}
+use Rattle.gateway_serve.specs.Streams.{IsOf, StaysOf, PlaceIsOf, PlaceHas, PlacePreserves, AllHave, AllPreserve}
 use Rattle.gateway_serve.specs.declared.sockets.Latest.{Latest}
 use Rattle.gateway_serve.specs.declared.sockets.Latest.TheVariants as Was
 use Rattle.gateway_serve.specs.declared.sockets.Socket.{Socket}
 use Rattle.gateway_serve.specs.declared.links.Link.{Link}
 use Rattle.gateway_serve.specs.declared.places.Place.{Place}
-use Rattle.gateway_serve.specs.declared.places.Place.TheVariants.{Free}
+use Rattle.gateway_serve.specs.declared.places.Place.TheVariants.{Free, Open}
 use Rattle.gateway_serve.proofs.All.{set_all}
 
 module _ {S : Type 0} (remaining contents : S → Option (List ℕ)) where
@@ -81,16 +81,23 @@ module _ {S : Type 0} (remaining contents : S → Option (List ℕ)) where
       (ap (λ (j : Joint). j.went) new) last spell (rw is (untouched now))
 
   -- ALL PLACES
-  pub set_has : (places : List (Place S)) (n : ℕ) (p' : Place S) → n < length places → PlaceHas remaining contents p'
-      → AllHave remaining contents places → AllHave remaining contents (set places n p')
-  set_has places n p' inside here all =
-      set_all (λ p k. PlaceHas remaining contents p) places n p' inside here (λ k ne. all k)
+  module _ (times : List Duration) where
+    pub is_of_has : (accepted : S) (p : Place S) → PlaceIsOf remaining contents times accepted p
+        → PlaceHas remaining contents times p
+    is_of_has accepted Free is = absurd is
+    is_of_has accepted (Open l) is = (accepted, is.0, is.1)
 
-  pub among_preserve : (first places : List (Place S)) (n : ℕ) (d p' : Place S) (was ended ended' : List Seen)
-      → AllPreserve remaining contents first places was ended → n < length places
-      → PlacePreserves remaining contents (get_or places n d) p' ended ended'
-      → AllPreserve remaining contents first (set places n p') was ended'
-  among_preserve first places n d p' was ended ended' keep inside after_is = λ have had.
-      let s = keep have had in
-      let now = after_is (rw (get_or_default places n Free d inside) at (s.0 n)) s.1 in
-      (set_has places n p' inside now.0 s.0, now.1)
+    pub set_has : (places : List (Place S)) (n : ℕ) (p' : Place S) → n < length places
+        → PlaceHas remaining contents times p'
+        → AllHave remaining contents times places → AllHave remaining contents times (set places n p')
+    set_has places n p' inside here all =
+        set_all (λ p k. PlaceHas remaining contents times p) places n p' inside here (λ k ne. all k)
+
+    pub among_preserve : (first places : List (Place S)) (n : ℕ) (d p' : Place S) (was ended ended' : List Seen)
+        → AllPreserve remaining contents times first places was ended → n < length places
+        → PlacePreserves remaining contents times (get_or places n d) p' ended ended'
+        → AllPreserve remaining contents times first (set places n p') was ended'
+    among_preserve first places n d p' was ended ended' keep inside after_is = λ have had.
+        let s = keep have had in
+        let now = after_is (rw (get_or_default places n Free d inside) at (s.0 n)) s.1 in
+        (set_has places n p' inside now.0 s.0, now.1)

@@ -9,4 +9,5 @@ mod Lost
 mod Pauses
 mod Steps
 mod Talks
+mod Times
 mod Known

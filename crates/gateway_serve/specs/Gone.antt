@@ -51,6 +51,10 @@ abbrev pub IsAmong : Duration → List Duration → Type 0
 IsAmong now [] = ⊥
 IsAmong now (time ∷ times) = (now ≡ time) ⊎ IsAmong now times
 
+-- the times of a connection are among these
+abbrev pub IsTimed : List Duration → Spell → Type 0
+IsTimed times spell = IsAmong spell.opened times × IsAmong spell.moved times
+
 -- AND BY THE CLOCK: the time of a connection was over, which was opened and moved then, at one of these times
 abbrev pub EndsInTime : List Duration → Spell → Gone → Type 0
 EndsInTime times spell Ended = ⊥

@@ -12,5 +12,6 @@ pub mod Served
 pub mod Sockets
 pub mod Stays
 pub mod Streams
+pub mod Times
 pub mod Turns
 pub mod Waiting

@@ -5,7 +5,8 @@ use Rattle.gateway_serve.specs.declared.sockets.Seen.{Seen}
 use Rattle.std.specs.declared.io.ErrorKind.{ErrorKind}
 use Rattle.std.specs.declared.time.Duration.{Duration}
 use Rattle.gateway_serve.specs.Bytes.{bytes_come, went_of, stream_of, latest_of, spell_of}
-use Rattle.gateway_serve.specs.Gone.{opened_at, moved_at}
+use Rattle.gateway_serve.specs.Gone.{IsTimed, opened_at, moved_at}
+use Rattle.gateway_serve.specs.Times.{IsLinkTimed}
 use Rattle.gateway_serve.specs.declared.sockets.Spell.{Spell}
 use Rattle.gateway_serve.specs.declared.sockets.Latest.{Latest}
 use Rattle.gateway_serve.specs.declared.sockets.Latest.TheVariants as Was
@@ -46,34 +47,36 @@ module _ {S : Type 0} (remaining contents : S → Option (List ℕ)) where
   abbrev pub StaysOf : Socket S → Socket S → Type 0
   StaysOf old new = (accepted : S) → IsOf accepted old → IsOf accepted new
 
-  -- the place of a stream that was accepted
-  abbrev pub PlaceIsOf : S → Place S → Type 0
-  PlaceIsOf accepted Free = ⊥
-  PlaceIsOf accepted (Open l) = IsOf accepted l.socket
+  module _ (times : List Duration) where
+    -- the place of a stream that was accepted. The times of its connection are among these
+    abbrev pub PlaceIsOf : S → Place S → Type 0
+    PlaceIsOf accepted Free = ⊥
+    PlaceIsOf accepted (Open l) = IsOf accepted l.socket × IsLinkTimed times l
 
-  abbrev pub PlaceHas : Place S → Type 0
-  PlaceHas Free = Unit {0}
-  PlaceHas (Open l) = (accepted : S) × IsOf accepted l.socket
+    abbrev pub PlaceHas : Place S → Type 0
+    PlaceHas Free = Unit {0}
+    PlaceHas (Open l) = (accepted : S) × IsOf accepted l.socket × IsLinkTimed times l
 
-  -- A SOCKET THAT ENDED had a stream that was accepted
-  abbrev pub Had : Seen → Type 0
-  Had s = (accepted : S) × (gone : S) × Carried remaining contents accepted gone s.came.items s.went.items s.latest
-      s.spell
+    -- A SOCKET THAT ENDED had a stream that was accepted, and times of these
+    abbrev pub Had : Seen → Type 0
+    Had s = (accepted : S) × (gone : S) × Carried remaining contents accepted gone s.came.items s.went.items s.latest
+        s.spell
+        × IsTimed times s.spell
 
-  -- each of them had its own
-  abbrev pub AllHad : List Seen → Type 0
-  AllHad [] = Unit {0}
-  AllHad (s ∷ ended) = Had s × AllHad ended
+    -- each of them had its own
+    abbrev pub AllHad : List Seen → Type 0
+    AllHad [] = Unit {0}
+    AllHad (s ∷ ended) = Had s × AllHad ended
 
-  -- what a place and the sockets that ended have, after what was done there
-  abbrev pub PlacePreserves : Place S → Place S → List Seen → List Seen → Type 0
-  PlacePreserves p p' ended ended' = PlaceHas p → AllHad ended → PlaceHas p' × AllHad ended'
+    -- what a place and the sockets that ended have, after what was done there
+    abbrev pub PlacePreserves : Place S → Place S → List Seen → List Seen → Type 0
+    PlacePreserves p p' ended ended' = PlaceHas p → AllHad ended → PlaceHas p' × AllHad ended'
 
-  abbrev pub AllHave : List (Place S) → Type 0
-  AllHave places = (n : ℕ) → PlaceHas (get_or places n Free)
+    abbrev pub AllHave : List (Place S) → Type 0
+    AllHave places = (n : ℕ) → PlaceHas (get_or places n Free)
 
-  abbrev pub AllPreserve : List (Place S) → List (Place S) → List Seen → List Seen → Type 0
-  AllPreserve places places' ended ended' = AllHave places → AllHad ended → AllHave places' × AllHad ended'
+    abbrev pub AllPreserve : List (Place S) → List (Place S) → List Seen → List Seen → Type 0
+    AllPreserve places places' ended ended' = AllHave places → AllHad ended → AllHave places' × AllHad ended'
 
 abbrev pub socket_of : {S : Type 0} → Link S → Socket S
 socket_of l = l.socket

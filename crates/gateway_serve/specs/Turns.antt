@@ -1,10 +1,11 @@
 -- What a server has when a turn begins.
 use Rattle.std.specs.Prelude.{◌≡◌, ◌≢◌, ◌⊎◌, ◌<◌, ◌≤◌, ◌+◌, ◌^◌, ℕ, List, [], length, get_or, Bool}
-use Rattle.std.specs.Prelude.{vec_capacity, vec_len}
+use Rattle.std.specs.Prelude.{Option, vec_capacity, vec_len}
 use Rattle.tus_session.specs.declared.session.TheConstants.{MOST_OPEN}
 use Rattle.gateway_serve.specs.Counted.{open_in}
 use Rattle.gateway_serve.specs.Joined.{places_of, ended_of}
 use Rattle.gateway_serve.specs.Acceptors.{LetsInBy}
+use Rattle.gateway_serve.specs.Streams.{AllHad, AllHave}
 use Rattle.std.specs.declared.time.Duration.{Duration}
 use Rattle.gateway_serve.specs.declared.doors.Clients.{Clients}
 use Rattle.gateway_serve.specs.declared.doors.Door.{Door}
@@ -32,6 +33,11 @@ refused_by s = (door_of s).clients.refused
 abbrev pub IsCounted : {S : Type 0} → Server S → Type 0
 IsCounted s = opened_by s ≡ length (ended_of s) + open_in (places_of s)
 
+-- each connection has the stream that was accepted, and each socket that ended had one. Their times are those of turns
+abbrev pub HasStreams : {S : Type 0} → (S → Option (List ℕ)) → (S → Option (List ℕ)) → Server S → Type 0
+HasStreams remaining contents s = AllHave remaining contents (times_of s) (places_of s)
+    × AllHad remaining contents (times_of s) (ended_of s)
+
 -- nobody came yet
 abbrev pub IsUnvisited : {S : Type 0} → Server S → Type 0
 IsUnvisited s =
@@ -57,3 +63,4 @@ pub record RestStays {S : Type 0} (s s' : Server S) : Type 0 where
   pub ended : s'.ended.items ≡ s.ended.items
   pub closed : closed_of s' ≡ closed_of s
   pub times : times_of s' ≡ times_of s
+  pub watch : s'.watch ≡ s.watch

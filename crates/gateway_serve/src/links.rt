@@ -8,6 +8,7 @@ ghost use Rattle.gateway_serve.specs.Joined.{at_of};
 ghost use Rattle.gateway_serve.specs.Waiting.{FewWait, HasRoom};
 ghost use Rattle.gateway_serve.specs.Bytes.{stream_of, latest_of, spell_of};
 ghost use Rattle.gateway_serve.specs.Streams.{StaysOf, socket_of};
+ghost use Rattle.gateway_serve.specs.Times.{StaysTimed};
 ghost use Rattle.gateway_serve.specs.Gone.{EndsBy, IfLost, opened_at};
 ghost use Rattle.gateway_serve.specs.declared.sockets.Latest.{Latest};
 ghost use Rattle.gateway_serve.specs.Longest.{link_between_since};
@@ -96,6 +97,7 @@ impl<S: Read + Write> Link<S> {
     ) -> Result<Left, DiskFault>
         ensures lost { IfOk result (λ left. IfLost left (λ gone. IsLostBy self.new tick gone)) }
         ensures stream { StaysOf S.remaining S.contents (socket_of self.old) (socket_of self.new) }
+        ensures times { StaysTimed tick.now self.old self.new }
         ensures serves { Goes C.Connections gateway.old gateway.new result self.old self.new conn }
         ensures over { result ≡ Ok Left.Closed → IsOver (joint_of self.new) }
         ensures counts { Counts (IsErr result) (C.failures gateway.old) (C.failures gateway.new) }
@@ -114,6 +116,7 @@ impl<S: Read + Write> Link<S> {
     #[tactic(auto, using(crate::proofs::Lost::still_lost))]
     fn left_at(&mut self, left: Left, tick: Tick) -> Left
         ensures socket { socket_of self.new ≡ socket_of self.old }
+        ensures times { StaysTimed tick.now self.old self.new }
         ensures same { joint_of self.new ≡ joint_of self.old }
         ensures over { result ≡ Left.Closed → left ≡ Left.Closed }
         ensures lost { IfLost result (λ gone. (left ≡ Left.Lost gone) ⊎ IsOutOfTime self.new tick gone) }
@@ -185,6 +188,7 @@ impl<S: Read + Write> Link<S> {
     ) -> Result<Left, DiskFault>
         ensures lost { IfOk result (λ left. IfLost left (λ gone. EndsBy gone (latest_of (socket_of self.new)))) }
         ensures stream { StaysOf S.remaining S.contents (socket_of self.old) (socket_of self.new) }
+        ensures times { StaysTimed tick.now self.old self.new }
         ensures serves { Goes C.Connections gateway.old gateway.new result self.old self.new conn }
         ensures over { result ≡ Ok Left.Closed → IsOver (joint_of self.new) }
         ensures counts { Counts (IsErr result) (C.failures gateway.old) (C.failures gateway.new) }
@@ -205,6 +209,7 @@ impl<S: Read + Write> Link<S> {
         requires { 0 < length (joint_of self.old).output }
         ensures lost { IfLost result (λ gone. EndsBy gone (latest_of (socket_of self.new))) }
         ensures stream { StaysOf S.remaining S.contents (socket_of self.old) (socket_of self.new) }
+        ensures times { StaysTimed now self.old self.new }
         ensures part { WritesPiece (joint_of self.old) (joint_of self.new) }
         ensures unclosed { result ≢ Left.Closed }
     {
@@ -243,6 +248,7 @@ impl<S: Read + Write> Link<S> {
     ) -> Result<Left, DiskFault>
         ensures lost { IfOk result (λ left. IfLost left (λ gone. EndsBy gone (latest_of (socket_of self.new)))) }
         ensures stream { StaysOf S.remaining S.contents (socket_of self.old) (socket_of self.new) }
+        ensures times { StaysTimed tick.now self.old self.new }
         ensures serves { Goes C.Connections gateway.old gateway.new result self.old self.new conn }
         ensures unclosed { result ≢ Ok Left.Closed }
         ensures counts { Counts (IsErr result) (C.failures gateway.old) (C.failures gateway.new) }
@@ -263,6 +269,7 @@ impl<S: Read + Write> Link<S> {
     ) -> Result<Left, DiskFault>
         ensures lost { IfOk result (λ left. IfLost left (λ gone. EndsBy gone (latest_of (socket_of self.new)))) }
         ensures stream { StaysOf S.remaining S.contents (socket_of self.old) (socket_of self.new) }
+        ensures times { StaysTimed tick.now self.old self.new }
         ensures serves { Goes C.Connections gateway.old gateway.new result self.old self.new conn }
         ensures unclosed { result ≢ Ok Left.Closed }
         ensures counts { Counts (IsErr result) (C.failures gateway.old) (C.failures gateway.new) }
@@ -281,6 +288,7 @@ impl<S: Read + Write> Link<S> {
         ensures lost { IfLost left (λ gone. EndsBy gone (latest_of (socket_of self.old)))
             → IfLost result (λ gone. EndsBy gone (latest_of (socket_of self.new))) }
         ensures stream { StaysOf S.remaining S.contents (socket_of self.old) (socket_of self.new) }
+        ensures times { StaysTimed now self.old self.new }
         ensures part { MayWrite (joint_of self.old) (joint_of self.new) }
         ensures unclosed { result ≡ Left.Closed → left ≡ Left.Closed }
     {
@@ -300,6 +308,7 @@ impl<S: Read + Write> Link<S> {
     fn read(&mut self, now: Duration) -> Option<Left>
         ensures lost { IfSome result (λ left. IfLost left (λ gone. EndsBy gone (latest_of (socket_of self.new)))) }
         ensures stream { StaysOf S.remaining S.contents (socket_of self.old) (socket_of self.new) }
+        ensures times { StaysTimed now self.old self.new }
         ensures part { ReadsPiece (joint_of self.old) (joint_of self.new) }
         ensures unclosed { IfSome result (λ left. left ≢ Left.Closed) }
     {
@@ -323,6 +332,7 @@ impl<S: Read + Write> Link<S> {
         tick: Tick,
     ) -> Result<(), DiskFault>
         ensures socket { socket_of self.new ≡ socket_of self.old }
+        ensures times { StaysTimed tick.now self.old self.new }
         ensures serves { Goes C.Connections gateway.old gateway.new result self.old self.new conn }
         ensures counts { Counts (IsErr result) (C.failures gateway.old) (C.failures gateway.new) }
     {
@@ -372,6 +382,7 @@ impl<S: Read + Write> Link<S> {
     ) -> Result<(), DiskFault>
         requires { HasRoom (joint_of self.old).output }
         ensures socket { socket_of self.new ≡ socket_of self.old }
+        ensures times { StaysTimed now self.old self.new }
         ensures serves { Goes C.Connections gateway.old gateway.new result self.old self.new conn }
         ensures counts { Counts (IsErr result) (C.failures gateway.old) (C.failures gateway.new) }
     {

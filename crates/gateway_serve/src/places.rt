@@ -1,7 +1,9 @@
 //! A place for a connection.
-ghost use Rattle.std.specs.Prelude.{◌≡◌, ◌≢◌, ◌↔◌, ◌+◌, IsTrue, IsErr, IsErrOf, IfOk, Ok, length};
+ghost use Rattle.std.specs.Prelude.{◌≡◌, ◌≢◌, ◌↔◌, ◌+◌, IsTrue, IsErr, IsErrOf, IfOk, Ok, List, length};
+ghost use Rattle.std.specs.declared.time.Duration.{Duration};
 ghost use Rattle.upload_rules.specs.Answers.{Counts};
 ghost use Rattle.gateway_serve.specs.Counted.{one_if_open};
+ghost use Rattle.gateway_serve.specs.Gone.{IsAmong};
 ghost use Rattle.gateway_serve.specs.Joined.{GoesAt, OthersStay, IsNew, MayEnd, PlaceWaits, with_place};
 ghost use Rattle.gateway_serve.specs.Streams.{PlaceIsOf, PlacePreserves};
 ghost use Rattle.gateway_serve.specs.Reasons.{StayReasoned};
@@ -43,7 +45,8 @@ pub(crate) enum Turned {
 impl<S: Read + Write + Drop> Place<S> {
     /// A connection that was opened now for a socket.
     pub(crate) fn open(alloc: Global, accepted: Untouched<S>, now: Duration) -> Self
-        ensures stream { PlaceIsOf S.remaining S.contents accepted result }
+        ensures stream { (times : List Duration) → IsAmong now times
+            → PlaceIsOf S.remaining S.contents times accepted result }
         ensures none { IsNew result }
     {
         Place::Open(Link::new(alloc, accepted, now))
@@ -80,7 +83,8 @@ impl<S: Read + Write + Drop> Place<S> {
         drains: &mut Drains<S>,
     ) -> Result<Turned, DiskFault>
         ensures reasons { StayReasoned tick.now ended.old.items ended.new.items }
-        ensures streams { PlacePreserves S.remaining S.contents self.old self.new ended.old.items ended.new.items }
+        ensures streams { (times : List Duration) → IsAmong tick.now times
+            → PlacePreserves S.remaining S.contents times self.old self.new ended.old.items ended.new.items }
         ensures serves { GoesAt C.Connections gateway.old gateway.new result self.old self.new
             ended.old.items ended.new.items conn }
         ensures others { OthersStay conn ended.old.items ended.new.items }
@@ -125,7 +129,8 @@ impl<S: Read + Write + Drop> Place<S> {
     ) -> Result<(), DiskFault>
         requires { MayEnd reason self.old }
         ensures ended { ended.new.items ≡ with_place conn reason self.old ended.old.items }
-        ensures streams { PlacePreserves S.remaining S.contents self.old self.new ended.old.items ended.new.items }
+        ensures streams { (times : List Duration)
+            → PlacePreserves S.remaining S.contents times self.old self.new ended.old.items ended.new.items }
         ensures serves { GoesAt C.Connections gateway.old gateway.new result self.old self.new
             ended.old.items ended.new.items conn }
         ensures free { self.new ≡ Place.Free }
@@ -144,7 +149,8 @@ impl<S: Read + Write + Drop> Place<S> {
     /// session.
     pub(crate) fn free(&mut self, conn: usize, reason: Reason, ended: &mut Trace<Seen>) -> Option<S>
         ensures waiting { PlaceWaits self.old }
-        ensures streams { PlacePreserves S.remaining S.contents self.old self.new ended.old.items ended.new.items }
+        ensures streams { (times : List Duration)
+            → PlacePreserves S.remaining S.contents times self.old self.new ended.old.items ended.new.items }
         ensures free { self.new ≡ Place.Free }
         ensures ended { ended.new.items ≡ with_place conn reason self.old ended.old.items }
         ensures kept { length ended.new.items ≡ length ended.old.items + one_if_open self.old }

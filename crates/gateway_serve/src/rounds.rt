@@ -1,9 +1,11 @@
 //! Turns of all places.
 ghost use Rattle.std.specs.Prelude.{◌≡◌, ◌≢◌, ◌⊎◌, ◌↔◌, ◌<◌, ◌≤◌, ◌+◌, ℕ, List, Bool, length};
 ghost use Rattle.std.specs.Prelude.{IfSome, IsErr, IsFalse, IsNone, IsSomeAnd, IsTrue, OnOk};
+ghost use Rattle.std.specs.declared.time.Duration.{Duration};
 ghost use Rattle.upload_rules.specs.Answers.{Counts};
 ghost use Rattle.tus_session.specs.History.{State, Marked};
 ghost use Rattle.gateway_serve.specs.Counted.{Adds, count_closed, open_in};
+ghost use Rattle.gateway_serve.specs.Gone.{IsAmong};
 ghost use Rattle.gateway_serve.specs.Joined.{AllFell, StaysJoined, AllEnded, IsFreeAt};
 ghost use Rattle.gateway_serve.specs.Longest.{BeganBy, IsLongest, pause_of, since_of};
 ghost use Rattle.gateway_serve.specs.Reasons.{StayReasoned, AtMostOnce};
@@ -128,7 +130,8 @@ pub(crate) fn turn_each<S: Read + Write + Drop, C: Connections, T: Clock>(
     drains: &mut Drains<S>,
     round: &mut Round,
 ) -> Result<(), DiskFault>
-    ensures streams { AllPreserve S.remaining S.contents places.old places.new ended.old.items ended.new.items }
+    ensures streams { (times : List Duration) → IsAmong round.old.now times
+        → AllPreserve S.remaining S.contents times places.old places.new ended.old.items ended.new.items }
     ensures reasons { StayReasoned round.old.now ended.old.items ended.new.items }
     ensures serves { (refused : ℕ) → StaysJoined C.Connections gateway.old gateway.new result places.old places.new
         ended.old.items ended.new.items refused refused }
@@ -161,7 +164,8 @@ pub(crate) fn end_each<S: Read + Write + Drop, C: Connections>(
     drains: &mut Drains<S>,
     now: Duration,
 ) -> Result<(), DiskFault>
-    ensures streams { AllPreserve S.remaining S.contents places.old places.new ended.old.items ended.new.items }
+    ensures streams { (times : List Duration)
+        → AllPreserve S.remaining S.contents times places.old places.new ended.old.items ended.new.items }
     ensures once { AtMostOnce ended.old.items ended.new.items }
     ensures kept { Adds places.old places.new ended.old.items ended.new.items }
     ensures more { length ended.old.items ≤ length ended.new.items }
@@ -182,7 +186,8 @@ pub(crate) fn end_each<S: Read + Write + Drop, C: Connections>(
 
 /// Lets all sockets go. Nothing is reported to the session.
 pub(crate) fn free_each<S: Read + Write + Drop>(places: &mut [Place<S>], ended: &mut Trace<Seen>)
-    ensures streams { AllPreserve S.remaining S.contents places.old places.new ended.old.items ended.new.items }
+    ensures streams { (times : List Duration)
+        → AllPreserve S.remaining S.contents times places.old places.new ended.old.items ended.new.items }
     ensures once { AtMostOnce ended.old.items ended.new.items }
     ensures kept { length ended.new.items ≡ length ended.old.items + open_in places.old }
     ensures before { count_closed ended.new.items ≡ count_closed ended.old.items }

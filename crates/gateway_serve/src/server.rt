@@ -4,12 +4,13 @@ ghost use Rattle.std.specs.Prelude.{IfSome, IsErr, IsFalse, IsNone, IsTrue, None
 ghost use Rattle.upload_rules.specs.Answers.{Counts};
 ghost use Rattle.gateway_serve.specs.Acceptors.{HasServed, LetsInBy, TakesTurns, done_of, done_with, one_when};
 ghost use Rattle.gateway_serve.specs.Counted.{count_closed, open_in};
+ghost use Rattle.gateway_serve.specs.Gone.{IsAmong};
 ghost use Rattle.gateway_serve.specs.Joined.{StaysJoined, AllEnded, LetsGo, IsFreeAt, SamePlaces, ended_of, places_of};
 ghost use Rattle.gateway_serve.specs.Longest.{IsLongest};
 ghost use Rattle.gateway_serve.specs.Reasons.{AllReasoned, EndsReasoned, IsLeftReasoned};
-ghost use Rattle.gateway_serve.specs.Streams.{AllHave, AllHad, AllPreserve};
+ghost use Rattle.gateway_serve.specs.Streams.{AllHad};
 ghost use Rattle.gateway_serve.specs.Turns.{HasRoom, IsCounted, IsUnvisited, HasNoPlace, NoneIsFree, RestStays};
-ghost use Rattle.gateway_serve.specs.Turns.{closed_of, door_of, opened_by, refused_by, times_of};
+ghost use Rattle.gateway_serve.specs.Turns.{HasStreams, closed_of, door_of, opened_by, refused_by, times_of};
 
 use crate::acceptors::Acceptor;
 use crate::doors::Door;
@@ -81,8 +82,7 @@ impl<S: Read + Write + OpenStream + Drop> Server<S> {
         requires { IsUnvisited self.old }
         ensures reasons { AllReasoned (times_of self.old) (ended_of self.old)
             → IsLeftReasoned (times_of self.new) (ended_of self.new) }
-        ensures streams { AllHave S.remaining S.contents (places_of self.old)
-            → AllHad S.remaining S.contents (ended_of self.old) → AllHad S.remaining S.contents (ended_of self.new) }
+        ensures streams { AllHad S.remaining S.contents (times_of self.new) (ended_of self.new) }
         ensures serves { LetsGo C.Connections gateway.old gateway.new result (places_of self.old)
             (ended_of self.old) (ended_of self.new) (refused_by self.old) (refused_by self.new) }
         ensures counts { Counts (IsErr result) (C.failures gateway.old) (C.failures gateway.new) }
@@ -110,8 +110,7 @@ impl<S: Read + Write + OpenStream + Drop> Server<S> {
         requires { IsUnvisited self.old }
         ensures reasons { AllReasoned (times_of self.old) (ended_of self.old)
             → EndsReasoned (times_of self.new) (ended_of self.new) }
-        ensures streams { AllPreserve S.remaining S.contents (places_of self.old) (places_of self.new)
-            (ended_of self.old) (ended_of self.new) }
+        ensures streams { HasStreams S.remaining S.contents self.new }
         ensures serves { AllEnded C.Connections gateway.old gateway.new result (places_of self.old) (places_of self.new)
             (ended_of self.old) (ended_of self.new) (refused_by self.old) (refused_by self.new) }
         ensures counts { Counts (IsErr result) (C.failures gateway.old) (C.failures gateway.new) }
@@ -151,8 +150,7 @@ impl<S: Read + Write + OpenStream + Drop> Server<S> {
         requires waits { (door_of self.old).clients.waits + 1 < 2 ^ 64 }
         ensures reasons { AllReasoned (times_of self.old) (ended_of self.old)
             → AllReasoned (times_of self.new) (ended_of self.new) }
-        ensures streams { AllPreserve S.remaining S.contents (places_of self.old) (places_of self.new)
-            (ended_of self.old) (ended_of self.new) }
+        ensures streams { HasStreams S.remaining S.contents self.old → HasStreams S.remaining S.contents self.new }
         ensures serves { StaysJoined C.Connections gateway.old gateway.new result (places_of self.old)
             (places_of self.new) (ended_of self.old) (ended_of self.new) (refused_by self.old) (refused_by self.new) }
         ensures counts { Counts (IsErr result) (C.failures gateway.old) (C.failures gateway.new) }
@@ -218,8 +216,8 @@ impl<S: Read + Write + OpenStream + Drop> Server<S> {
     fn seat<C: Connections>(&mut self, gateway: &mut C) -> Result<(), DiskFault>
         requires { HasRoom (door_of self.old).clients }
         ensures times { times_of self.new ≡ times_of self.old }
-        ensures streams { AllPreserve S.remaining S.contents (places_of self.old) (places_of self.new)
-            (ended_of self.old) (ended_of self.new) }
+        ensures streams { IsAmong self.old.watch.now (times_of self.old)
+            → HasStreams S.remaining S.contents self.old → HasStreams S.remaining S.contents self.new }
         ensures serves { StaysJoined C.Connections gateway.old gateway.new result (places_of self.old)
             (places_of self.new) (ended_of self.old) (ended_of self.new) (refused_by self.old) (refused_by self.new) }
         ensures counts { Counts (IsErr result) (C.failures gateway.old) (C.failures gateway.new) }
@@ -276,6 +274,7 @@ impl<S: Read + Write + OpenStream + Drop> Server<S> {
         ensures ended { ended_of self.new ≡ ended_of self.old }
         ensures closed { closed_of self.new ≡ closed_of self.old }
         ensures times { times_of self.new ≡ times_of self.old }
+        ensures watch { self.new.watch ≡ self.old.watch }
     {
         match first_free(&self.places) {
             Some(conn) => Some(conn),
@@ -293,6 +292,7 @@ impl<S: Read + Write + OpenStream + Drop> Server<S> {
         ensures ended { ended_of self.new ≡ ended_of self.old }
         ensures closed { closed_of self.new ≡ closed_of self.old }
         ensures times { times_of self.new ≡ times_of self.old }
+        ensures watch { self.new.watch ≡ self.old.watch }
     {
         let conn = self.places.len();
         if conn >= MOST_OPEN {

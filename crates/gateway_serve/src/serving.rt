@@ -95,7 +95,8 @@ where
     // Each of these sockets had a stream of its own, as it was accepted. Until its connection was closed that was read
     // and written and nothing else: what the reads gave is what came, what the writes took is what went, and the latest
     // of these calls answered so. What comes behind the last reply of a connection that the session closed is dropped.
-    ensures streams { AllHad A.Stream.remaining A.Stream.contents result.ended.items }
+    // When the connection was opened, and when something last came or went, are times at which turns began.
+    ensures streams { AllHad A.Stream.remaining A.Stream.contents result.times.items result.ended.items }
 
     // Each of them ended for the reason that it has:
     // - the session closed its connection;

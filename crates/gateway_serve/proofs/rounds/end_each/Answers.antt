@@ -16,16 +16,17 @@ returns-in-Err-clause-serves g c = λ refused.
     (omega (arith, c.loop-conn-test.true, c.loop-conn.auto.places))
 
 pub returns-in-Err-clause-streams : goal.returns-in-Err-clause-streams
-returns-in-Err-clause-streams g c =
-    among_preserve g.S.Read.remaining g.S.Write.contents _ c.loop-conn.places c.loop-conn.conn
+returns-in-Err-clause-streams g c = λ times.
+    among_preserve g.S.Read.remaining g.S.Write.contents times _ c.loop-conn.places c.loop-conn.conn
     c.index-places-conn.result c.end.new.self _ c.loop-conn.ended.items c.end.new.ended.items
-    c.loop-conn.invariant.2 (omega (arith, c.loop-conn-test.true, c.loop-conn.auto.places)) c.end.ensures.streams
+    (c.loop-conn.invariant.2 times) (omega (arith, c.loop-conn-test.true, c.loop-conn.auto.places))
+    (c.end.ensures.streams times)
 
 pub loop-conn-init : goal.loop-conn-init
 loop-conn-init g c = (
   refl,
   λ refused sure before st past went joins. (past, went, joins),
-  λ have had. (have, had),
+  λ times have had. (have, had),
   λ k lt. absurd (omega (arith, lt)),
   none,
   omega arith,
@@ -43,9 +44,9 @@ loop-conn-preserved g c =
           c.end.new.ended.items refused refused (c.loop-conn.invariant.1 refused) c.in-Ok.ensures.serves
           c.end.ensures.others
           inside,
-      among_preserve g.S.Read.remaining g.S.Write.contents _ c.loop-conn.places c.loop-conn.conn
+      λ times. among_preserve g.S.Read.remaining g.S.Write.contents times _ c.loop-conn.places c.loop-conn.conn
           c.index-places-conn.result c.end.new.self _ c.loop-conn.ended.items c.end.new.ended.items
-          c.loop-conn.invariant.2 inside c.end.ensures.streams,
+          (c.loop-conn.invariant.2 times) inside (c.end.ensures.streams times),
       free_before c.loop-conn.conn c.loop-conn.places c.end.new.self inside c.end.ensures.free c.loop-conn.invariant.3,
       ended_once c.args.ended.now.items c.loop-conn.conn
           (get_or c.loop-conn.places c.loop-conn.conn c.index-places-conn.result) c.loop-conn.ended.items

@@ -1,4 +1,5 @@
-use Rattle.std.proofs.Common.{◌≡◌, ◌<◌, ◌≤◌, ℕ, get_or, length, Result, Ok}
+use Rattle.std.proofs.Common.{◌≡◌, ◌<◌, ◌≤◌, ℕ, List, get_or, length, Result, Ok}
+use Rattle.std.specs.declared.time.Duration.{Duration}
 use Rattle.common.specs.declared.stop.DiskFault.{DiskFault}
 use Rattle.gateway_serve.specs.Counted.{Adds, count_closed}
 use Rattle.gateway_serve.specs.Joined.{StaysJoined}
@@ -13,7 +14,8 @@ invariant-loop-conn g l =
     (g.C.Connections.failures l.gateway ≡ g.C.Connections.failures l.fn.gateway)
     × ((refused : ℕ) → StaysJoined g.C.Connections l.fn.gateway l.gateway on l.fn.places l.places l.fn.ended.items
     l.ended.items refused refused)
-    × AllPreserve g.S.Read.remaining g.S.Write.contents l.fn.places l.places l.fn.ended.items l.ended.items
+    × ((times : List Duration) → AllPreserve g.S.Read.remaining g.S.Write.contents times l.fn.places l.places
+    l.fn.ended.items l.ended.items)
     × ((k : ℕ) → k < l.conn → get_or l.places k Free ≡ Free)
     × EndedOnce l.fn.ended.items l.conn l.ended.items
     × (length l.fn.ended.items ≤ length l.ended.items)

@@ -10,7 +10,7 @@ use Rattle.gateway_serve.proofs.rounds.free_each.Goals as goal
 pub loop-conn-init : goal.loop-conn-init
 loop-conn-init g c = (
   λ sure refused st past all. none_left sure c.args.places.now c.args.ended.now.items refused st past all,
-  λ have had. (have, had),
+  λ times have had. (have, had),
   none,
   refl,
   refl,
@@ -25,9 +25,9 @@ loop-conn-preserved g c =
           c.free.new.self
           c.loop-conn.ended.items c.free.new.ended.items st past inside
           c.free.ensures.ended c.free.ensures.waiting (c.loop-conn.invariant.0 sure refused st past all),
-      among_preserve g.S.Read.remaining g.S.Write.contents _ c.loop-conn.places c.loop-conn.conn
+      λ times. among_preserve g.S.Read.remaining g.S.Write.contents times _ c.loop-conn.places c.loop-conn.conn
           c.index-places-conn.result c.free.new.self _ c.loop-conn.ended.items c.free.new.ended.items
-          c.loop-conn.invariant.1 inside c.free.ensures.streams,
+          (c.loop-conn.invariant.1 times) inside (c.free.ensures.streams times),
       ended_once c.args.ended.now.items c.loop-conn.conn
           (get_or c.loop-conn.places c.loop-conn.conn c.index-places-conn.result) c.loop-conn.ended.items
           c.free.new.ended.items c.free.ensures.ended c.loop-conn.invariant.2,

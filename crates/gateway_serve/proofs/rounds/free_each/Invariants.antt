@@ -1,4 +1,5 @@
 use Rattle.std.proofs.Common.{◌≡◌, ◌<◌, ℕ, Bool, List, get_or}
+use Rattle.std.specs.declared.time.Duration.{Duration}
 use Rattle.tus_session.specs.History.{State, Marked}
 use Rattle.gateway_serve.specs.Counted.{Adds, count_closed}
 use Rattle.gateway_serve.specs.Joined.{AllFell}
@@ -13,7 +14,8 @@ invariant-loop-conn g l =
     ((sure : Bool) (refused : ℕ) (st : State) (past : List Marked)
     → AllFell sure l.fn.places l.fn.ended.items refused st past
     → HalfLeft sure l.conn l.places l.ended.items st past)
-    × AllPreserve g.S.Read.remaining g.S.Write.contents l.fn.places l.places l.fn.ended.items l.ended.items
+    × ((times : List Duration) → AllPreserve g.S.Read.remaining g.S.Write.contents times l.fn.places l.places
+    l.fn.ended.items l.ended.items)
     × EndedOnce l.fn.ended.items l.conn l.ended.items
     × Adds l.fn.places l.places l.fn.ended.items l.ended.items
     × (count_closed l.ended.items ≡ count_closed l.fn.ended.items)

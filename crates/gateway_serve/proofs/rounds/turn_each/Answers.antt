@@ -16,8 +16,8 @@ returns-then-round-clause-serves g c = λ refused sure before st past went joins
     )
 
 pub returns-then-round-clause-streams : goal.returns-then-round-clause-streams
-returns-then-round-clause-streams g c = λ have had.
-    let s = c.loop-conn.invariant.2 have had in (
+returns-then-round-clause-streams g c = λ times among have had.
+    let s = c.loop-conn.invariant.2 times among have had in (
       rw (set-get_or c.loop-conn.places c.loop-conn.conn c.index-places-conn.result) s.0,
       s.1,
     )
@@ -31,10 +31,11 @@ returns-in-Err-clause-serves g c = λ refused.
     (omega (arith, c.loop-conn-test.true, c.loop-conn.auto.places))
 
 pub returns-in-Err-clause-streams : goal.returns-in-Err-clause-streams
-returns-in-Err-clause-streams g c =
-    among_preserve g.S.Read.remaining g.S.Write.contents _ c.loop-conn.places c.loop-conn.conn
+returns-in-Err-clause-streams g c = λ times among.
+    among_preserve g.S.Read.remaining g.S.Write.contents times _ c.loop-conn.places c.loop-conn.conn
     c.index-places-conn.result c.turn.new.self _ c.loop-conn.ended.items c.turn.new.ended.items
-    c.loop-conn.invariant.2 (omega (arith, c.loop-conn-test.true, c.loop-conn.auto.places)) c.turn.ensures.streams
+    (c.loop-conn.invariant.2 times among) (omega (arith, c.loop-conn-test.true, c.loop-conn.auto.places))
+    (c.turn.ensures.streams times (rw (c.tick.ensures.now ∙ c.loop-conn.invariant.6) among))
 
 pub returns-in-Err-clause-reasons : goal.returns-in-Err-clause-reasons
 returns-in-Err-clause-reasons g c = λ times among all.
@@ -49,9 +50,10 @@ loop-conn-preserved g c = (
       c.turn.new.ended.items refused refused (c.loop-conn.invariant.1 refused) c.in-Ok.ensures.serves
       c.turn.ensures.others
       (omega (arith, c.loop-conn-test.true, c.loop-conn.auto.places)),
-  among_preserve g.S.Read.remaining g.S.Write.contents _ c.loop-conn.places c.loop-conn.conn
+  λ times among. among_preserve g.S.Read.remaining g.S.Write.contents times _ c.loop-conn.places c.loop-conn.conn
       c.index-places-conn.result c.turn.new.self _ c.loop-conn.ended.items c.turn.new.ended.items
-      c.loop-conn.invariant.2 (omega (arith, c.loop-conn-test.true, c.loop-conn.auto.places)) c.turn.ensures.streams,
+      (c.loop-conn.invariant.2 times among) (omega (arith, c.loop-conn-test.true, c.loop-conn.auto.places))
+      (c.turn.ensures.streams times (rw (c.tick.ensures.now ∙ c.loop-conn.invariant.6) among)),
   λ times among all. c.turn.ensures.reasons times (rw (c.tick.ensures.now ∙ c.loop-conn.invariant.6) among)
       (c.loop-conn.invariant.3 times among all),
   adds_on _ c.loop-conn.places c.loop-conn.conn c.index-places-conn.result c.turn.new.self _ c.loop-conn.ended.items

@@ -1,6 +1,8 @@
-use Rattle.std.proofs.Common.{◌≡◌, ◌≤◌, ℕ, length, Result, Ok}
+use Rattle.std.proofs.Common.{◌≡◌, ◌≤◌, ℕ, List, length, Result, Ok}
+use Rattle.std.specs.declared.time.Duration.{Duration}
 use Rattle.common.specs.declared.stop.DiskFault.{DiskFault}
 use Rattle.gateway_serve.specs.Counted.{Adds}
+use Rattle.gateway_serve.specs.Gone.{IsAmong}
 use Rattle.gateway_serve.specs.Joined.{StaysJoined}
 use Rattle.gateway_serve.specs.Streams.{AllPreserve}
 use Rattle.gateway_serve.specs.Reasons.{StayReasoned}
@@ -12,7 +14,8 @@ invariant-loop-conn g l =
     (g.C.Connections.failures l.gateway ≡ g.C.Connections.failures l.fn.gateway)
     × ((refused : ℕ) → StaysJoined g.C.Connections l.fn.gateway l.gateway on l.fn.places l.places l.fn.ended.items
     l.ended.items refused refused)
-    × AllPreserve g.S.Read.remaining g.S.Write.contents l.fn.places l.places l.fn.ended.items l.ended.items
+    × ((times : List Duration) → IsAmong l.fn.round.now times → AllPreserve g.S.Read.remaining g.S.Write.contents times
+    l.fn.places l.places l.fn.ended.items l.ended.items)
     × StayReasoned l.fn.round.now l.fn.ended.items l.ended.items
     × Adds l.fn.places l.places l.fn.ended.items l.ended.items
     × (l.round.connections ≡ l.fn.round.connections)

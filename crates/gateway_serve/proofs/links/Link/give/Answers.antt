@@ -26,4 +26,5 @@ loop-calls-preserved g c = (
       alone_after g.C.Connections sure before c.came.new.gateway st n past s.0 Joined Joined reported s.2.0
       (c.in-Ok.ensures.serves sure before st s.0 ended s.1 s.2.1),
   c.in-Ok.ensures.socket ∙ c.loop-calls.invariant.2,
+  λ times among timed. c.came.ensures.times times among (c.loop-calls.invariant.3 times among timed),
 )

@@ -1,6 +1,7 @@
 use Rattle.std.proofs.Common.{arith}
 use Rattle.gateway_serve.specs.declared.buffers.TheConstants.{PIECE}
 use Rattle.gateway_serve.proofs.Carries.{read_stays, not_read_stays}
+use Rattle.gateway_serve.proofs.Times.{moved_timed}
 use Rattle.gateway_serve.proofs.links.Link.read.Goals as goal
 
 pub returns-in-Ok-eq0-clause-stream : goal.returns-in-Ok-eq0-clause-stream
@@ -23,3 +24,13 @@ returns-in-Err-clause-stream g c =
 pub returns-in-Ok-eq0-clause-lost : goal.returns-in-Ok-eq0-clause-lost
 returns-in-Ok-eq0-clause-lost g c =
     (PIECE, omega arith, rw c.in-Ok-eq0.field-0-test at c.in-Ok-eq0.ensures.latest)
+
+pub returns-in-Ok-eq0-clause-times : goal.returns-in-Ok-eq0-clause-times
+returns-in-Ok-eq0-clause-times g c = λ times among timed.
+    moved_timed c.args.now times among c.args.self.now.socket.spell c.read.new.socket.spell
+    c.in-Ok-eq0.ensures.spell timed
+
+pub returns-in-Ok-clause-times : goal.returns-in-Ok-clause-times
+returns-in-Ok-clause-times g c = λ times among timed.
+    moved_timed c.args.now times among c.args.self.now.socket.spell c.read.new.socket.spell c.in-Ok.ensures.spell
+    timed

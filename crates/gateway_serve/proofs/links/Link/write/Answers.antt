@@ -1,4 +1,5 @@
 use Rattle.gateway_serve.proofs.Carries.{written_stays, not_written_stays}
+use Rattle.gateway_serve.proofs.Times.{moved_timed}
 use Rattle.gateway_serve.proofs.links.Link.write.Goals as goal
 
 pub returns-in-Ok-eq0-clause-stream : goal.returns-in-Ok-eq0-clause-stream
@@ -20,3 +21,13 @@ returns-in-Err-clause-stream g c =
 
 pub returns-in-Ok-eq0-clause-lost : goal.returns-in-Ok-eq0-clause-lost
 returns-in-Ok-eq0-clause-lost g c = (_, c.requires, rw c.in-Ok-eq0.field-0-test at c.in-Ok-eq0.ensures.latest)
+
+pub returns-in-Ok-eq0-clause-times : goal.returns-in-Ok-eq0-clause-times
+returns-in-Ok-eq0-clause-times g c = λ times among timed.
+    moved_timed c.args.now times among c.args.self.now.socket.spell c.write.new.socket.spell
+    c.in-Ok-eq0.ensures.spell timed
+
+pub returns-in-Ok-clause-times : goal.returns-in-Ok-clause-times
+returns-in-Ok-clause-times g c = λ times among timed.
+    moved_timed c.args.now times among c.args.self.now.socket.spell c.write.new.socket.spell c.in-Ok.ensures.spell
+    timed

@@ -5,7 +5,9 @@ use Rattle.tus_session.specs.declared.errors.SessionError.{SessionError}
 use Rattle.tus_session.proofs.Limiting.{quiet_limits}
 use Rattle.gateway_serve.specs.Counted.{one_if_open}
 use Rattle.gateway_serve.specs.Acceptors.{done_of, passes_of}
-use Rattle.gateway_serve.specs.Turns.{door_of, refused_by}
+use Rattle.gateway_serve.specs.Gone.{IsAmong}
+use Rattle.gateway_serve.specs.Turns.{door_of, refused_by, times_of}
+use Rattle.gateway_serve.proofs.Carries.{is_of_has, set_has}
 use Rattle.gateway_serve.proofs.NextTurn.{let_in_one}
 use Rattle.gateway_serve.specs.declared.doors.Clients.{Clients}
 use Rattle.gateway_serve.proofs.Counted.{counted_on, free_open, opens_one}
@@ -62,6 +64,18 @@ returns-in-Err-clause-serves g c = λ sure before st past went joins.
     answer c.unless_failed.result c.unless_failed.ensures does.now_represents
     (λ known. quiet_limits _ _ c.opened.ensures.crash) c.in-Err.ensures.falls
     (λ ok. unchanged) (λ fails. all_fall sure (places_of c.next_place.new.self) ended (refused + 1) st _ unchanged)
+
+pub returns-in-Ok-clause-streams : goal.returns-in-Ok-clause-streams
+returns-in-Ok-clause-streams g c = λ among has.
+    let rest = c.next_place.ensures.rest in
+    let times = times_of c.next_place.new.self in
+    let began : IsAmong c.next_place.new.self.watch.now times = rw (rest.times, rest.watch) among in
+    let here = is_of_has g.S.Read.remaining g.S.Write.contents times c.in-Some.socket c.open.result
+    (c.open.ensures.stream times began) in (
+      set_has g.S.Read.remaining g.S.Write.contents times (places_of c.next_place.new.self) c.in-Some.conn c.open.result
+          c.in-Some.ensures.free.0 here (λ n. rw (rest.times, c.next_place.ensures.same n) (has.0 n)),
+      rw (rest.times, rest.ended) has.1,
+    )
 
 pub returns-in_default-clause-counted : goal.returns-in_default-clause-counted
 returns-in_default-clause-counted g c counted =

@@ -1,7 +1,7 @@
 use Rattle.std.proofs.Common.{List, ◌∷◌, inl, refl, arith}
 use Rattle.tus_session.specs.History.{Marked, Failed}
 use Rattle.gateway_serve.specs.Joined.{ended_of}
-use Rattle.gateway_serve.specs.Turns.{refused_by}
+use Rattle.gateway_serve.specs.Turns.{refused_by, times_of}
 use Rattle.gateway_serve.proofs.Lost.{none_more}
 use Rattle.gateway_serve.proofs.server.Server.serve.Goals as goal
 
@@ -20,9 +20,9 @@ returns-in-Err-clause-reasons g c = λ all. (
 )
 
 pub returns-in-Err-clause-streams : goal.returns-in-Err-clause-streams
-returns-in-Err-clause-streams g c = λ have had.
-    let a = c.take_turns.ensures.streams have had in
-    (c.free_each.ensures.streams (rw c.deref_mut.ensures.value a.0) a.1).1
+returns-in-Err-clause-streams g c =
+    let has = c.take_turns.ensures.streams in
+    (c.free_each.ensures.streams (times_of c.take_turns.new.self) (rw c.deref_mut.ensures.value has.0) has.1).1
 
 pub returns-in-Err-clause-serves : goal.returns-in-Err-clause-serves
 returns-in-Err-clause-serves g c = λ sure before st past went joins.

@@ -5,6 +5,7 @@ use Rattle.tus_session.proofs.Counting.{uncounted}
 use Rattle.gateway_serve.proofs.NextTurn.{counts_on, next_turn, taken_so}
 use Rattle.gateway_serve.proofs.Counted.{count_most, counted_by, none_counted}
 use Rattle.gateway_serve.proofs.Lost.{all_closed, none_more}
+use Rattle.gateway_serve.proofs.Times.{none_streamed}
 use Rattle.gateway_serve.specs.Acceptors.{done_of, passes_of}
 use Rattle.gateway_serve.specs.Turns.{door_of, refused_by, times_of}
 use Rattle.gateway_serve.proofs.server.Server.take_turns.Goals.{then-loop-left-test+else-self-connections}
@@ -17,9 +18,7 @@ loop-left-preserved g c = (
   λ sure before st past went joins.
       let s = c.loop-left.invariant.1 sure before st past went joins in
       c.in_ok-turn.ensures.serves sure before st s.0 s.1 s.2,
-  λ have had.
-      let s = c.loop-left.invariant.2 have had in
-      c.in_ok-turn.ensures.streams s.0 s.1,
+  c.in_ok-turn.ensures.streams c.loop-left.invariant.2,
   λ all. c.in_ok-turn.ensures.reasons (c.loop-left.invariant.3 all),
   omega (arith, c.loop-left.invariant.4),
   next_turn c.loop-left.left c.args.turns (g.A.Acceptor.answers c.args.acceptor.now)
@@ -57,11 +56,11 @@ returns-in_err-turn-clause-stops g c =
     omega (arith, count_most (ended_of c.turn.new.self), most)
 
 pub returns-clause-streams : goal.returns-clause-streams
-returns-clause-streams g c = λ have had.
-    let a = c.loop-left.invariant.2 have had in
+returns-clause-streams g c =
     let same = with_items_is c.loop-left.self.places c.end_each.new.places
     (omega (arith, c.end_each.auto.places, c.deref_mut.ensures.len)) in
-    let b = c.end_each.ensures.streams (rw c.deref_mut.ensures.value a.0) a.1 in
+    let b = c.end_each.ensures.streams (times_of c.loop-left.self)
+    (rw c.deref_mut.ensures.value c.loop-left.invariant.2.0) c.loop-left.invariant.2.1 in
     (rw same b.0, b.1)
 
 pub returns-clause-serves : goal.returns-clause-serves
@@ -133,7 +132,8 @@ loop-left-init g c =
     let no_ended : length (ended_of c.args.self.now) ≡ 0 = ap length c.requires.2 in (
       refl,
       λ sure before st past went joins. (past, went, joins),
-      λ have had. (have, had),
+      none_streamed g.S.Read.remaining g.S.Write.contents (times_of c.args.self.now) (places_of c.args.self.now)
+          (ended_of c.args.self.now) c.requires.3 c.requires.2,
       λ all. all,
       omega arith,
       rw none (c.requires.0 (g.A.Acceptor.answers c.args.acceptor.now)),

@@ -1,21 +1,35 @@
-use Rattle.std.proofs.Common.{◌≡◌, ◌+◌, ◌∷◌, ◌∙◌, ap, inl, arith}
+use Rattle.std.proofs.Common.{◌≡◌, ◌+◌, ◌∷◌, ◌∙◌, ap, inl, refl, arith}
 use Rattle.common.specs.declared.trace.Trace.{Trace}
 use Rattle.std.specs.declared.time.Duration.{Duration}
 use Rattle.std.proofs.lemmas.List.{with_items_is}
 use Rattle.tus_session.proofs.Counting.{uncounted}
-use Rattle.gateway_serve.specs.Joined.{ended_of}
+use Rattle.gateway_serve.specs.Joined.{ended_of, places_of}
 use Rattle.gateway_serve.specs.Turns.{refused_by, times_of}
 use Rattle.gateway_serve.proofs.Lost.{all_with_time}
 use Rattle.gateway_serve.proofs.Counted.{counted_by}
+use Rattle.gateway_serve.proofs.Times.{streams_later}
 use Rattle.gateway_serve.proofs.server.Server.turn.Goals as goal
 
 pub returns-clause-streams : goal.returns-clause-streams
-returns-clause-streams g c = λ have had.
-    let a = c.seat.ensures.streams have had in
+returns-clause-streams g c = λ has.
+    let times = times_of c.args.self.now in
+    let began : c.and-self.result.items ≡ c.args.self.now.watch.now ∷ times =
+    ap (λ (t : Trace Duration). t.items) c.and-self.ensures in
+    let a = c.seat.ensures.streams (rw began (inl refl)) (rw began (streams_later g.S.Read.remaining g.S.Write.contents
+    c.args.self.now.watch.now times (places_of c.args.self.now) (ended_of c.args.self.now) has)) in
     let same = with_items_is c.seat.new.self.places c.turn_each-taken.new.places
     (omega (arith, c.turn_each-taken.auto.places, c.deref_mut.ensures.len)) in
-    let b = c.turn_each-taken.ensures.streams (rw c.deref_mut.ensures.value a.0) a.1 in
+    let b = c.turn_each-taken.ensures.streams (times_of c.seat.new.self)
+    (rw (c.in_ok-seat.ensures.times ∙ began) (inl c.round-round.ensures.now)) (rw c.deref_mut.ensures.value a.0) a.1 in
     (rw same b.0, b.1)
+
+pub returns-in_err-seat-clause-streams : goal.returns-in_err-seat-clause-streams
+returns-in_err-seat-clause-streams g c = λ has.
+    let times = times_of c.args.self.now in
+    let began : c.and-self.result.items ≡ c.args.self.now.watch.now ∷ times =
+    ap (λ (t : Trace Duration). t.items) c.and-self.ensures in
+    c.seat.ensures.streams (rw began (inl refl)) (rw began (streams_later g.S.Read.remaining g.S.Write.contents
+    c.args.self.now.watch.now times (places_of c.args.self.now) (ended_of c.args.self.now) has))
 
 pub returns-clause-serves : goal.returns-clause-serves
 returns-clause-serves g c = λ sure before st past went joins.
