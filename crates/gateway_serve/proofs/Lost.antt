@@ -9,6 +9,8 @@ use Rattle.gateway_serve.specs.Counted.{count_closed, one_before}
 use Rattle.gateway_serve.specs.Gone.{EndsBy, EndsInTime, IfLost, IsAmong, IsFailure}
 use Rattle.gateway_serve.specs.Joined.{with_place}
 use Rattle.gateway_serve.specs.Reasons.{EndedOnce, none, free, one_more, AtMostOnce, AllReasoned, HasReason, IsLostBy}
+use Rattle.gateway_serve.specs.Reasons.{moved_of}
+use Rattle.gateway_serve.specs.Times.{IsLinkTimed}
 use Rattle.gateway_serve.specs.declared.sockets.Latest.{Latest}
 use Rattle.gateway_serve.specs.declared.sockets.Latest.TheVariants as Was
 use Rattle.gateway_serve.specs.declared.sockets.Socket.{Socket}
@@ -24,6 +26,7 @@ use Rattle.gateway_serve.specs.declared.stages.Left.{Left}
 use Rattle.gateway_serve.specs.declared.stages.Left.TheVariants as Is
 use Rattle.gateway_serve.specs.declared.places.Place.{Place}
 use Rattle.gateway_serve.specs.declared.places.Place.TheVariants.{Free, Open}
+use Rattle.gateway_serve.proofs.Times.{began_among}
 
 -- a read or write failed, and that is the latest call
 pub failed_lost : (left : Left) (latest : Latest) (kind : ErrorKind) → latest ≡ Was.Failed kind
@@ -53,10 +56,12 @@ lost_by {S} mid new left (Is.Lost gone) I same ends is = elim is [
 
 -- so its socket ended for that reason, at a time that the clock showed
 pub lost_reason : {S : Type 0} (times : List Duration) (n : ℕ) (l : Link S) (tick : Tick) (gone : Gone)
-    → IsAmong tick.now times → IsLostBy l tick gone
+    → IsAmong tick.now times → IsLinkTimed times l → IsLostBy l tick gone
     → HasReason times (current n l.socket (Why.Lost gone)) (Why.Lost gone)
-lost_reason times n l tick gone among (inl ends) = inl ends
-lost_reason times n l tick gone among (inr late) = inr (rw late.0 (late.1, refl, refl, among))
+lost_reason times n l tick gone among timed (inl ends) = inl ends
+lost_reason times n l tick gone among timed (inr late) =
+    let began = began_among times l.request (moved_of l) timed.0.1 timed.1 in
+    inr (rw late.0 (late.1, refl, refl, began.0, began.1, among))
 
 -- and all that ended before did so at these times, and one more
 with_time : (now : Duration) (times : List Duration) (spell : Spell) (gone : Gone) → EndsInTime times spell gone
@@ -64,7 +69,7 @@ with_time : (now : Duration) (times : List Duration) (spell : Spell) (gone : Gon
 with_time now times spell Ended is = is
 with_time now times spell (Failed kind) is = is
 with_time now times spell Stuck is = is
-with_time now times spell (Late stay) is = (is.0, is.1, is.2, inr is.3)
+with_time now times spell (Late stay) is = (is.0, is.1, is.2, inr is.3, inr is.4, inr is.5)
 
 reason_with_time : (now : Duration) (times : List Duration) (s : Seen) (reason : Reason) → HasReason times s reason
     → HasReason (now ∷ times) s reason

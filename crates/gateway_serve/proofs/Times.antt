@@ -1,8 +1,15 @@
 -- Times stay among those of a server's turns.
-use Rattle.std.proofs.Common.{◌≡◌, ℕ, List, [], ◌∷◌, Option, get_or, inr}
+use Rattle.std.proofs.Common.{◌≡◌, ℕ, Bool, true, false, List, [], ◌∷◌, Option, Some, None, get_or, inr}
+use Rattle.std.proofs.Common.{if◌then◌else◌}
 use Rattle.std.specs.declared.time.Duration.{Duration}
 use Rattle.gateway_serve.specs.Gone.{IsAmong, IsTimed, opened_at, moved_at}
+use Rattle.tus_session.specs.declared.at.At as session
+use Rattle.gateway_serve.specs.Reasons.{begun_by, since_by}
+use Rattle.gateway_serve.specs.Requests.{is_same, part_of, request_by, request_from, request_in}
 use Rattle.gateway_serve.specs.Streams.{PlaceHas, AllHad, AllHave}
+use Rattle.gateway_serve.specs.Times.{IsRequestTimed}
+use Rattle.gateway_serve.specs.declared.requests.Part.{Part}
+use Rattle.gateway_serve.specs.declared.requests.Request.{Request}
 use Rattle.gateway_serve.specs.declared.places.Place.{Place}
 use Rattle.gateway_serve.specs.declared.places.Place.TheVariants.{Free, Open}
 use Rattle.gateway_serve.specs.declared.sockets.Seen.{Seen}
@@ -15,15 +22,47 @@ module _ (now : Duration) (times : List Duration) (among : IsAmong now times) wh
   pub moved_timed : (spell spell' : Spell) → spell' ≡ moved_at now spell → IsTimed times spell → IsTimed times spell'
   moved_timed spell spell' is timed = rw is (timed.0, among)
 
+  -- A REQUEST's, which goes on or begins
+  with_or : (same : Bool) (request : Request) (part : Part) → IsRequestTimed times (Some request)
+      → IsRequestTimed times (Some (if same then request else request_from part now))
+  with_or true request part timed = timed
+  with_or false request part timed = (among, among)
+
+  request_in_timed : (request : Option Request) (part : Option Part) (n : ℕ) → IsRequestTimed times request
+      → IsRequestTimed times (request_in request part n now)
+  request_in_timed request None n timed = tt
+  request_in_timed None (Some part) n timed = (among, among)
+  request_in_timed (Some request) (Some part) n timed = with_or (is_same request.part part) request part timed
+
+  pub request_timed : (request result : Option Request) (at : Option session.At) (n : ℕ)
+      → result ≡ request_by request at n now → IsRequestTimed times request → IsRequestTimed times result
+  request_timed request result at n is timed = rw is (request_in_timed request (part_of at) n timed)
+
+-- what a link was at began at a time of these
+pub began_among : (times : List Duration) (request : Option Request) (moved : Duration) → IsAmong moved times
+    → IsRequestTimed times request
+    → IsAmong (begun_by request moved) times × IsAmong (since_by request moved) times
+began_among times None moved among timed = (among, among)
+began_among times (Some request) moved among timed = timed
+
 -- ONE TURN LATER
 timed_later : (now : Duration) (times : List Duration) (spell : Spell) → IsTimed times spell
     → IsTimed (now ∷ times) spell
 timed_later now times spell timed = (inr timed.0, inr timed.1)
 
+request_later : (now : Duration) (times : List Duration) (request : Option Request) → IsRequestTimed times request
+    → IsRequestTimed (now ∷ times) request
+request_later now times None timed = tt
+request_later now times (Some request) timed = (inr timed.0, inr timed.1)
+
 module _ {S : Type 0} (remaining contents : S → Option (List ℕ)) (now : Duration) (times : List Duration) where
   place_later : (p : Place S) → PlaceHas remaining contents times p → PlaceHas remaining contents (now ∷ times) p
   place_later Free has = tt
-  place_later (Open l) has = (has.0, has.1, timed_later now times l.socket.spell has.2)
+  place_later (Open l) has = (
+    has.0,
+    has.1,
+    (timed_later now times l.socket.spell has.2.0, request_later now times l.request has.2.1),
+  )
 
   had_later : (ended : List Seen) → AllHad remaining contents times ended
       → AllHad remaining contents (now ∷ times) ended

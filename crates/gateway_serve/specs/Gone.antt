@@ -55,13 +55,15 @@ IsAmong now (time ∷ times) = (now ≡ time) ⊎ IsAmong now times
 abbrev pub IsTimed : List Duration → Spell → Type 0
 IsTimed times spell = IsAmong spell.opened times × IsAmong spell.moved times
 
--- AND BY THE CLOCK: the time of a connection was over, which was opened and moved then, at one of these times
+-- AND BY THE CLOCK: the time of a connection was over, which was opened and moved then, at one of these times. Since one
+-- of them its request comes, and is its speed measured
 abbrev pub EndsInTime : List Duration → Spell → Gone → Type 0
 EndsInTime times spell Ended = ⊥
 EndsInTime times spell (Failed kind) = ⊥
 EndsInTime times spell Stuck = ⊥
 EndsInTime times spell (Late stay) =
-    IsOver stay × (stay.opened ≡ spell.opened) × (stay.moved ≡ spell.moved) × IsAmong stay.time times
+    IsOver stay × (stay.opened ≡ spell.opened) × (stay.moved ≡ spell.moved) × IsAmong stay.begun times
+    × IsAmong stay.since times × IsAmong stay.time times
 
 abbrev pub IfLost : Left → (Gone → Type 0) → Type 0
 IfLost Is.Open P = Unit {0}

@@ -2,7 +2,7 @@
 use Rattle.std.specs.Prelude.{◌≡◌, ◌⊎◌, ℕ, ◌+◌, List, [], ◌∷◌, Option, Some, None}
 use Rattle.gateway_serve.specs.declared.sockets.Seen.{Seen}
 use Rattle.gateway_serve.specs.Bytes.{latest_of}
-use Rattle.gateway_serve.specs.Gone.{EndsBy, EndsInTime, IsAmong}
+use Rattle.gateway_serve.specs.Gone.{EndsBy, EndsInTime}
 use Rattle.gateway_serve.specs.Stays.{IsOver}
 use Rattle.gateway_serve.specs.Joined.{at_of}
 use Rattle.gateway_serve.specs.Streams.{socket_of}
@@ -73,11 +73,6 @@ HasReason times s Over = ⊥
 abbrev pub AllReasoned : List Duration → List Seen → Type 0
 AllReasoned times [] = Unit {0}
 AllReasoned times (s ∷ ended) = HasReason times s s.reason × AllReasoned times ended
-
--- and so did those that ended since, in a turn that began at this time
-abbrev pub StayReasoned : Duration → List Seen → List Seen → Type 0
-StayReasoned now ended ended' =
-    (times : List Duration) → IsAmong now times → AllReasoned times ended → AllReasoned times ended'
 
 -- since then, of the connections below this number, at most one of each ended, and because serving was over
 pub data EndedOnce (before : List Seen) : ℕ → List Seen → Type 0 where

@@ -61,6 +61,7 @@ impl<S: Read + Write> Link<S> {
         ensures latest { latest_of (socket_of result) ≡ Latest.None }
         ensures none { joint_of result ≡ nothing_yet }
         ensures spell { spell_of (socket_of result) ≡ opened_at now }
+        ensures request { result.request ≡ None }
     {
         Link {
             socket: accepted.into_socket(now),
@@ -171,6 +172,7 @@ impl<S: Read + Write> Link<S> {
         ensures over { stays.IsOver stay.now → self.new.request ≡ self.old.request }
         ensures goes_on { (stays.IsOver stay.now → ⊥) → self.new.request ≡ measured_by self.old.request stay.now.time }
         ensures socket { socket_of self.new ≡ socket_of self.old }
+        ensures times { StaysTimed stay.now.time self.old self.new }
         ensures same { joint_of self.new ≡ joint_of self.old }
     {
         if let (Some(request), false) = (&mut self.request, stay.is_over()) {
@@ -225,6 +227,7 @@ impl<S: Read + Write> Link<S> {
         requires { HasRoom (joint_of self.old).output }
         ensures lost { IfOk result (λ left. IfLost left (λ gone. EndsBy gone (latest_of (socket_of self.new)))) }
         ensures socket { socket_of self.new ≡ socket_of self.old }
+        ensures request { self.new.request ≡ self.old.request }
         ensures serves { Goes C.Connections gateway.old gateway.new result self.old self.new conn }
         ensures unclosed { result ≢ Ok Left.Closed }
         ensures counts { Counts (IsErr result) (C.failures gateway.old) (C.failures gateway.new) }

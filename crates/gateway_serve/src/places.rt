@@ -5,8 +5,8 @@ ghost use Rattle.upload_rules.specs.Answers.{Counts};
 ghost use Rattle.gateway_serve.specs.Counted.{one_if_open};
 ghost use Rattle.gateway_serve.specs.Gone.{IsAmong};
 ghost use Rattle.gateway_serve.specs.Joined.{GoesAt, OthersStay, IsNew, MayEnd, PlaceWaits, with_place};
-ghost use Rattle.gateway_serve.specs.Streams.{PlaceIsOf, PlacePreserves};
-ghost use Rattle.gateway_serve.specs.Reasons.{StayReasoned};
+ghost use Rattle.gateway_serve.specs.Streams.{PlaceHas, PlaceIsOf, PlacePreserves};
+ghost use Rattle.gateway_serve.specs.Reasons.{AllReasoned};
 ghost use Rattle.gateway_serve.specs.Longest.{between_since};
 
 use crate::drains::Drains;
@@ -82,7 +82,9 @@ impl<S: Read + Write + Drop> Place<S> {
         ended: &mut Trace<Seen>,
         drains: &mut Drains<S>,
     ) -> Result<Turned, DiskFault>
-        ensures reasons { StayReasoned tick.now ended.old.items ended.new.items }
+        ensures reasons { (times : List Duration) → IsAmong tick.now times
+            → PlaceHas S.remaining S.contents times self.old → AllReasoned times ended.old.items
+            → AllReasoned times ended.new.items }
         ensures streams { (times : List Duration) → IsAmong tick.now times
             → PlacePreserves S.remaining S.contents times self.old self.new ended.old.items ended.new.items }
         ensures serves { GoesAt C.Connections gateway.old gateway.new result self.old self.new

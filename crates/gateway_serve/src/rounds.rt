@@ -8,9 +8,9 @@ ghost use Rattle.gateway_serve.specs.Counted.{Adds, count_closed, open_in};
 ghost use Rattle.gateway_serve.specs.Gone.{IsAmong};
 ghost use Rattle.gateway_serve.specs.Joined.{AllFell, StaysJoined, AllEnded, IsFreeAt};
 ghost use Rattle.gateway_serve.specs.Longest.{BeganBy, IsLongest, pause_of, since_of};
-ghost use Rattle.gateway_serve.specs.Reasons.{StayReasoned, AtMostOnce};
+ghost use Rattle.gateway_serve.specs.Reasons.{AllReasoned, AtMostOnce};
 ghost use Rattle.gateway_serve.specs.Served.{AllLeft};
-ghost use Rattle.gateway_serve.specs.Streams.{AllPreserve};
+ghost use Rattle.gateway_serve.specs.Streams.{AllHad, AllHave, AllPreserve};
 ghost use Rattle.gateway_serve.specs.Turns.{NoneIsFree};
 
 use crate::drains::Drains;
@@ -132,7 +132,9 @@ pub(crate) fn turn_each<S: Read + Write + Drop, C: Connections, T: Clock>(
 ) -> Result<(), DiskFault>
     ensures streams { (times : List Duration) → IsAmong round.old.now times
         → AllPreserve S.remaining S.contents times places.old places.new ended.old.items ended.new.items }
-    ensures reasons { StayReasoned round.old.now ended.old.items ended.new.items }
+    ensures reasons { (times : List Duration) → IsAmong round.old.now times
+        → AllHave S.remaining S.contents times places.old → AllHad S.remaining S.contents times ended.old.items
+        → AllReasoned times ended.old.items → AllReasoned times ended.new.items }
     ensures serves { (refused : ℕ) → StaysJoined C.Connections gateway.old gateway.new result places.old places.new
         ended.old.items ended.new.items refused refused }
     ensures counts { Counts (IsErr result) (C.failures gateway.old) (C.failures gateway.new) }

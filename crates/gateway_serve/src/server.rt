@@ -80,8 +80,7 @@ impl<S: Read + Write + OpenStream + Drop> Server<S> {
         turns: u64,
     ) -> Result<(), DiskFault>
         requires { IsUnvisited self.old }
-        ensures reasons { AllReasoned (times_of self.old) (ended_of self.old)
-            → IsLeftReasoned (times_of self.new) (ended_of self.new) }
+        ensures reasons { IsLeftReasoned (times_of self.new) (ended_of self.new) }
         ensures streams { AllHad S.remaining S.contents (times_of self.new) (ended_of self.new) }
         ensures serves { LetsGo C.Connections gateway.old gateway.new result (places_of self.old)
             (ended_of self.old) (ended_of self.new) (refused_by self.old) (refused_by self.new) }
@@ -108,8 +107,7 @@ impl<S: Read + Write + OpenStream + Drop> Server<S> {
         turns: u64,
     ) -> Result<(), DiskFault>
         requires { IsUnvisited self.old }
-        ensures reasons { AllReasoned (times_of self.old) (ended_of self.old)
-            → EndsReasoned (times_of self.new) (ended_of self.new) }
+        ensures reasons { EndsReasoned (times_of self.new) (ended_of self.new) }
         ensures streams { HasStreams S.remaining S.contents self.new }
         ensures serves { AllEnded C.Connections gateway.old gateway.new result (places_of self.old) (places_of self.new)
             (ended_of self.old) (ended_of self.new) (refused_by self.old) (refused_by self.new) }
@@ -148,7 +146,8 @@ impl<S: Read + Write + OpenStream + Drop> Server<S> {
     ) -> Result<(), DiskFault>
         requires room { HasRoom (door_of self.old).clients }
         requires waits { (door_of self.old).clients.waits + 1 < 2 ^ 64 }
-        ensures reasons { AllReasoned (times_of self.old) (ended_of self.old)
+        ensures reasons { HasStreams S.remaining S.contents self.old
+            → AllReasoned (times_of self.old) (ended_of self.old)
             → AllReasoned (times_of self.new) (ended_of self.new) }
         ensures streams { HasStreams S.remaining S.contents self.old → HasStreams S.remaining S.contents self.new }
         ensures serves { StaysJoined C.Connections gateway.old gateway.new result (places_of self.old)

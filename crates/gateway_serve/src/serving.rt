@@ -102,7 +102,7 @@ where
     // - the session closed its connection;
     // - the latest call of its stream was a read that had room and gave nothing, a write that was offered something and
     //   took nothing, or a call that failed, but not because it would have waited or was interrupted;
-    // - nothing came or went for as long as it may be idle at what it was at;
+    // - nothing came or went for as long as it may be idle at what it was at, by its own times and those of the turns;
     // - serving was over: at most one for each number of a connection, and one more if the disk failed.
     ensures reasons { IsLeftReasoned result.times.items result.ended.items }
 

@@ -1,6 +1,7 @@
 use Rattle.std.proofs.Common.{Ok, Err, ◌∙◌, ap, sym, arith, get_or, length}
-use Rattle.std.proofs.lemmas.List.{set-get_or}
+use Rattle.std.proofs.lemmas.List.{get_or_default, set-get_or}
 use Rattle.tus_session.proofs.Counting.{uncounted}
+use Rattle.gateway_serve.specs.declared.places.Place.TheVariants.{Free}
 use Rattle.gateway_serve.specs.declared.places.Turned.{Turned}
 use Rattle.gateway_serve.proofs.All.{among_all}
 use Rattle.gateway_serve.proofs.Carries.{among_preserve}
@@ -38,9 +39,12 @@ returns-in-Err-clause-streams g c = λ times among.
     (c.turn.ensures.streams times (rw (c.tick.ensures.now ∙ c.loop-conn.invariant.6) among))
 
 pub returns-in-Err-clause-reasons : goal.returns-in-Err-clause-reasons
-returns-in-Err-clause-reasons g c = λ times among all.
+returns-in-Err-clause-reasons g c = λ times among have had all.
     c.turn.ensures.reasons times (rw (c.tick.ensures.now ∙ c.loop-conn.invariant.6) among)
-    (c.loop-conn.invariant.3 times among all)
+    (rw (get_or_default c.loop-conn.places c.loop-conn.conn Free c.index-places-conn.result
+    (omega (arith, c.loop-conn-test.true, c.loop-conn.auto.places)))
+    at ((c.loop-conn.invariant.2 times among have had).0 c.loop-conn.conn))
+    (c.loop-conn.invariant.3 times among have had all)
 
 pub loop-conn-preserved : goal.loop-conn-preserved
 loop-conn-preserved g c = (
@@ -54,8 +58,12 @@ loop-conn-preserved g c = (
       c.index-places-conn.result c.turn.new.self _ c.loop-conn.ended.items c.turn.new.ended.items
       (c.loop-conn.invariant.2 times among) (omega (arith, c.loop-conn-test.true, c.loop-conn.auto.places))
       (c.turn.ensures.streams times (rw (c.tick.ensures.now ∙ c.loop-conn.invariant.6) among)),
-  λ times among all. c.turn.ensures.reasons times (rw (c.tick.ensures.now ∙ c.loop-conn.invariant.6) among)
-      (c.loop-conn.invariant.3 times among all),
+  λ times among have had all.
+      c.turn.ensures.reasons times (rw (c.tick.ensures.now ∙ c.loop-conn.invariant.6) among)
+      (rw (get_or_default c.loop-conn.places c.loop-conn.conn Free c.index-places-conn.result
+      (omega (arith, c.loop-conn-test.true, c.loop-conn.auto.places)))
+      at ((c.loop-conn.invariant.2 times among have had).0 c.loop-conn.conn))
+      (c.loop-conn.invariant.3 times among have had all),
   adds_on _ c.loop-conn.places c.loop-conn.conn c.index-places-conn.result c.turn.new.self _ c.loop-conn.ended.items
       c.turn.new.ended.items (omega (arith, c.loop-conn-test.true, c.loop-conn.auto.places)) c.loop-conn.invariant.4
       c.turn.ensures.kept,

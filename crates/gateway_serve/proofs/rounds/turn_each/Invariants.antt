@@ -4,8 +4,8 @@ use Rattle.common.specs.declared.stop.DiskFault.{DiskFault}
 use Rattle.gateway_serve.specs.Counted.{Adds}
 use Rattle.gateway_serve.specs.Gone.{IsAmong}
 use Rattle.gateway_serve.specs.Joined.{StaysJoined}
-use Rattle.gateway_serve.specs.Streams.{AllPreserve}
-use Rattle.gateway_serve.specs.Reasons.{StayReasoned}
+use Rattle.gateway_serve.specs.Streams.{AllHad, AllHave, AllPreserve}
+use Rattle.gateway_serve.specs.Reasons.{AllReasoned}
 use Rattle.gateway_serve.proofs.rounds.turn_each.Given as goal
 
 abbrev pub invariant-loop-conn : goal.invariant-loop-conn
@@ -16,7 +16,10 @@ invariant-loop-conn g l =
     l.ended.items refused refused)
     × ((times : List Duration) → IsAmong l.fn.round.now times → AllPreserve g.S.Read.remaining g.S.Write.contents times
     l.fn.places l.places l.fn.ended.items l.ended.items)
-    × StayReasoned l.fn.round.now l.fn.ended.items l.ended.items
+    × ((times : List Duration) → IsAmong l.fn.round.now times
+    → AllHave g.S.Read.remaining g.S.Write.contents times l.fn.places
+    → AllHad g.S.Read.remaining g.S.Write.contents times l.fn.ended.items → AllReasoned times l.fn.ended.items
+    → AllReasoned times l.ended.items)
     × Adds l.fn.places l.places l.fn.ended.items l.ended.items
     × (l.round.connections ≡ l.fn.round.connections)
     × (l.round.now ≡ l.fn.round.now)

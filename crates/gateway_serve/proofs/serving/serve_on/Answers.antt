@@ -13,7 +13,3 @@ returns-clause-serves g c = λ sure st represents.
     })
     (rw c.new-server.ensures.refused (new_joins sure (places_of c.new-server.result) (ended_of c.new-server.result) st
     c.new-server.ensures.places c.new-server.ensures.ended))
-
-pub returns-clause-reasons : goal.returns-clause-reasons
-returns-clause-reasons g c =
-    c.serve-served.ensures.reasons (rw c.new-server.ensures.ended tt)

@@ -5,6 +5,7 @@ use Rattle.gateway_serve.specs.Joined.{Alone, Joins, joint_of}
 use Rattle.gateway_serve.proofs.After.{surely, served}
 use Rattle.gateway_serve.proofs.Talks.{alone_step}
 use Rattle.gateway_serve.proofs.Joints.{came_link, came_down}
+use Rattle.gateway_serve.proofs.Times.{request_timed}
 use Rattle.gateway_serve.proofs.links.Link.came.Goals as goal
 
 pub returns-in-Ok-clause-serves : goal.returns-in-Ok-clause-serves
@@ -49,3 +50,10 @@ returns-in-Err-clause-serves g c = λ sure before st past ended went joins.
       came_down sure ended st past n c.came-answer.result gives.0
           (joint_of c.args.self.now) piece c.came-answer.new.self fails c.left.ensures gives.1.answer gives.2 joins,
     ))
+
+pub returns-in-Ok-clause-times : goal.returns-in-Ok-clause-times
+returns-in-Ok-clause-times g c = λ times among timed. (
+  timed.0,
+  request_timed c.args.now times among c.args.self.now.request c.request_after-self.result _ _ c.request_after-self.ensures
+      timed.1,
+)

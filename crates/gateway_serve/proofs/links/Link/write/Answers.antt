@@ -23,11 +23,15 @@ pub returns-in-Ok-eq0-clause-lost : goal.returns-in-Ok-eq0-clause-lost
 returns-in-Ok-eq0-clause-lost g c = (_, c.requires, rw c.in-Ok-eq0.field-0-test at c.in-Ok-eq0.ensures.latest)
 
 pub returns-in-Ok-eq0-clause-times : goal.returns-in-Ok-eq0-clause-times
-returns-in-Ok-eq0-clause-times g c = λ times among timed.
-    moved_timed c.args.now times among c.args.self.now.socket.spell c.write.new.socket.spell
-    c.in-Ok-eq0.ensures.spell timed
+returns-in-Ok-eq0-clause-times g c = λ times among timed. (
+  moved_timed c.args.now times among c.args.self.now.socket.spell c.write.new.socket.spell
+      c.in-Ok-eq0.ensures.spell timed.0,
+  timed.1,
+)
 
 pub returns-in-Ok-clause-times : goal.returns-in-Ok-clause-times
-returns-in-Ok-clause-times g c = λ times among timed.
-    moved_timed c.args.now times among c.args.self.now.socket.spell c.write.new.socket.spell c.in-Ok.ensures.spell
-    timed
+returns-in-Ok-clause-times g c = λ times among timed. (
+  moved_timed c.args.now times among c.args.self.now.socket.spell c.write.new.socket.spell
+      c.in-Ok.ensures.spell timed.0,
+  timed.1,
+)

@@ -6,5 +6,5 @@ pub returns-clause-stream : goal.returns-clause-stream
 returns-clause-stream g c = λ times among. (
   new_is_of g.S.Read.remaining g.S.Write.contents c.args.accepted c.new.result c.args.now c.new.ensures.stream
       c.new.ensures.latest c.new.ensures.spell c.new.ensures.none,
-  opened_timed c.args.now times among c.new.result.socket.spell c.new.ensures.spell,
+  (opened_timed c.args.now times among c.new.result.socket.spell c.new.ensures.spell, rw c.new.ensures.request tt),
 )

@@ -3,6 +3,7 @@ use Rattle.common.specs.declared.stop.DiskFault.{DiskFault}
 use Rattle.gateway_serve.specs.Joined.{PlaceJoins, PlaceFell}
 use Rattle.gateway_serve.specs.Sockets.{current_of}
 use Rattle.gateway_serve.proofs.After.{alone_after}
+use Rattle.gateway_serve.proofs.Lost.{lost_reason}
 use Rattle.gateway_serve.proofs.places.Place.turn.Goals as goal
 
 pub returns-in-Ok-clause-serves : goal.returns-in-Ok-clause-serves
@@ -28,3 +29,21 @@ returns-in-Err-end-clause-serves g c = λ sure before st past went joins.
     (λ p. PlaceJoins sure c.end.new.self ended' st p n) (λ p. PlaceFell sure c.end.new.self ended' st p n) reported
     s.2.0
     (c.in-Err-end.ensures.serves sure before st s.0 s.1 s.2.1)
+
+pub returns-in-Ok-clause-reasons : goal.returns-in-Ok-clause-reasons
+returns-in-Ok-clause-reasons g c = λ times among has all.
+    let was = rw c.in-Open.is at has in
+    rw c.end.ensures.ended (
+      lost_reason times c.args.conn c.turn.new.self c.args.tick c.in-Ok-Lost.gone among
+          (c.turn.ensures.times times among was.2) (rw c.in-Ok-Lost.field-0-is at c.in-Ok-Lost.ensures.lost),
+      all,
+    )
+
+pub returns-in-Err-end-clause-reasons : goal.returns-in-Err-end-clause-reasons
+returns-in-Err-end-clause-reasons g c = λ times among has all.
+    let was = rw c.in-Open.is at has in
+    rw c.end.ensures.ended (
+      lost_reason times c.args.conn c.turn.new.self c.args.tick c.in-Ok-Lost.gone among
+          (c.turn.ensures.times times among was.2) (rw c.in-Ok-Lost.field-0-is at c.in-Ok-Lost.ensures.lost),
+      all,
+    )

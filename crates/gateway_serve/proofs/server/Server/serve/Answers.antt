@@ -6,16 +6,16 @@ use Rattle.gateway_serve.proofs.Lost.{none_more}
 use Rattle.gateway_serve.proofs.server.Server.serve.Goals as goal
 
 pub returns-in-Ok-clause-reasons : goal.returns-in-Ok-clause-reasons
-returns-in-Ok-clause-reasons g c = λ all. (
+returns-in-Ok-clause-reasons g c = (
   ended_of c.take_turns.new.self,
-  c.take_turns.ensures.reasons all,
+  c.take_turns.ensures.reasons,
   none_more (ended_of c.take_turns.new.self),
 )
 
 pub returns-in-Err-clause-reasons : goal.returns-in-Err-clause-reasons
-returns-in-Err-clause-reasons g c = λ all. (
+returns-in-Err-clause-reasons g c = (
   ended_of c.take_turns.new.self,
-  c.take_turns.ensures.reasons all,
+  c.take_turns.ensures.reasons,
   c.free_each.ensures.once,
 )
 

@@ -19,7 +19,7 @@ loop-left-preserved g c = (
       let s = c.loop-left.invariant.1 sure before st past went joins in
       c.in_ok-turn.ensures.serves sure before st s.0 s.1 s.2,
   c.in_ok-turn.ensures.streams c.loop-left.invariant.2,
-  λ all. c.in_ok-turn.ensures.reasons (c.loop-left.invariant.3 all),
+  c.in_ok-turn.ensures.reasons c.loop-left.invariant.2 c.loop-left.invariant.3,
   omega (arith, c.loop-left.invariant.4),
   next_turn c.loop-left.left c.args.turns (g.A.Acceptor.answers c.args.acceptor.now)
       (g.A.Acceptor.answers c.turn.new.acceptor) (door_of c.turn.new.self) (omega (arith, c.loop-left-test.true))
@@ -72,16 +72,16 @@ returns-clause-serves g c = λ sure before st past went joins.
     (rw c.deref_mut.ensures.value s.2))
 
 pub returns-clause-reasons : goal.returns-clause-reasons
-returns-clause-reasons g c = λ all. (
+returns-clause-reasons g c = (
   ended_of c.loop-left.self,
-  c.loop-left.invariant.3 all,
+  c.loop-left.invariant.3,
   c.end_each.ensures.once,
 )
 
 pub returns-in_err-turn-clause-reasons : goal.returns-in_err-turn-clause-reasons
-returns-in_err-turn-clause-reasons g c = λ all. (
+returns-in_err-turn-clause-reasons g c = (
   ended_of c.turn.new.self,
-  c.turn.ensures.reasons (c.loop-left.invariant.3 all),
+  c.turn.ensures.reasons c.loop-left.invariant.2 c.loop-left.invariant.3,
   none_more (ended_of c.turn.new.self),
 )
 
@@ -110,8 +110,7 @@ returns-clause-clients g c = record {
       arith,
       w.if-self-connections,
       c.loop-left.invariant.6,
-      all_closed (times_of c.loop-left.self) (ended_of c.loop-left.self)
-          (c.loop-left.invariant.3 (rw c.requires.2 tt)),
+      all_closed (times_of c.loop-left.self) (ended_of c.loop-left.self) c.loop-left.invariant.3,
       c.end_each.ensures.before,
     )))
     | else-loop-left-test w ↦ inr (inr (omega (arith, w.loop-left-test, c.loop-left.invariant.4)))
@@ -134,7 +133,7 @@ loop-left-init g c =
       λ sure before st past went joins. (past, went, joins),
       none_streamed g.S.Read.remaining g.S.Write.contents (times_of c.args.self.now) (places_of c.args.self.now)
           (ended_of c.args.self.now) c.requires.3 c.requires.2,
-      λ all. all,
+      rw c.requires.2 tt,
       omega arith,
       rw none (c.requires.0 (g.A.Acceptor.answers c.args.acceptor.now)),
       c.requires.1 ∙ sym no_ended,

@@ -13,7 +13,7 @@ invariant-loop-left g l =
     × StaysJoined g.C.Connections l.fn.gateway l.gateway on (places_of l.fn.self) (places_of l.self)
     (ended_of l.fn.self) (ended_of l.self) (refused_by l.fn.self) (refused_by l.self)
     × HasStreams g.S.Read.remaining g.S.Write.contents l.self
-    × (AllReasoned (times_of l.fn.self) (ended_of l.fn.self) → AllReasoned (times_of l.self) (ended_of l.self))
+    × AllReasoned (times_of l.self) (ended_of l.self)
     × (l.left ≤ l.fn.turns)
     × LetsInBy (g.A.Acceptor.answers l.fn.acceptor) (g.A.Acceptor.answers l.acceptor) (l.fn.turns - l.left)
     (door_of l.self)

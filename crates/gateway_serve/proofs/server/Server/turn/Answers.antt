@@ -12,11 +12,10 @@ use Rattle.gateway_serve.proofs.server.Server.turn.Goals as goal
 
 pub returns-clause-streams : goal.returns-clause-streams
 returns-clause-streams g c = λ has.
-    let times = times_of c.args.self.now in
-    let began : c.and-self.result.items ≡ c.args.self.now.watch.now ∷ times =
+    let began : c.and-self.result.items ≡ c.args.self.now.watch.now ∷ times_of c.args.self.now =
     ap (λ (t : Trace Duration). t.items) c.and-self.ensures in
     let a = c.seat.ensures.streams (rw began (inl refl)) (rw began (streams_later g.S.Read.remaining g.S.Write.contents
-    c.args.self.now.watch.now times (places_of c.args.self.now) (ended_of c.args.self.now) has)) in
+    c.args.self.now.watch.now (times_of c.args.self.now) (places_of c.args.self.now) (ended_of c.args.self.now) has)) in
     let same = with_items_is c.seat.new.self.places c.turn_each-taken.new.places
     (omega (arith, c.turn_each-taken.auto.places, c.deref_mut.ensures.len)) in
     let b = c.turn_each-taken.ensures.streams (times_of c.seat.new.self)
@@ -25,11 +24,10 @@ returns-clause-streams g c = λ has.
 
 pub returns-in_err-seat-clause-streams : goal.returns-in_err-seat-clause-streams
 returns-in_err-seat-clause-streams g c = λ has.
-    let times = times_of c.args.self.now in
-    let began : c.and-self.result.items ≡ c.args.self.now.watch.now ∷ times =
+    let began : c.and-self.result.items ≡ c.args.self.now.watch.now ∷ times_of c.args.self.now =
     ap (λ (t : Trace Duration). t.items) c.and-self.ensures in
     c.seat.ensures.streams (rw began (inl refl)) (rw began (streams_later g.S.Read.remaining g.S.Write.contents
-    c.args.self.now.watch.now times (places_of c.args.self.now) (ended_of c.args.self.now) has))
+    c.args.self.now.watch.now (times_of c.args.self.now) (places_of c.args.self.now) (ended_of c.args.self.now) has))
 
 pub returns-clause-serves : goal.returns-clause-serves
 returns-clause-serves g c = λ sure before st past went joins.
@@ -69,20 +67,23 @@ returns-clause-counted g c counted =
     (rw c.deref_mut.ensures.value at c.turn_each-taken.ensures.kept))
 
 pub returns-clause-reasons : goal.returns-clause-reasons
-returns-clause-reasons g c = λ all.
+returns-clause-reasons g c = λ has all.
+    let began : c.and-self.result.items ≡ c.args.self.now.watch.now ∷ times_of c.args.self.now =
+    ap (λ (t : Trace Duration). t.items) c.and-self.ensures in
+    let a = c.seat.ensures.streams (rw began (inl refl)) (rw began (streams_later g.S.Read.remaining g.S.Write.contents
+    c.args.self.now.watch.now (times_of c.args.self.now) (places_of c.args.self.now) (ended_of c.args.self.now) has)) in
     let longer = all_with_time c.args.self.now.watch.now (times_of c.args.self.now) (ended_of c.args.self.now) all in
-    let is : times_of c.seat.new.self ≡ c.args.self.now.watch.now ∷ times_of c.args.self.now =
-    c.in_ok-seat.ensures.times ∙ ap (λ (t : Trace Duration). t.items) c.and-self.ensures in
-    c.turn_each-taken.ensures.reasons (times_of c.seat.new.self) (rw is (inl c.round-round.ensures.now))
-    (rw (is, c.in_ok-seat.ensures.ended) longer)
+    c.turn_each-taken.ensures.reasons (times_of c.seat.new.self)
+    (rw (c.in_ok-seat.ensures.times ∙ began) (inl c.round-round.ensures.now)) (rw c.deref_mut.ensures.value a.0) a.1
+    (rw (c.in_ok-seat.ensures.times ∙ began, c.in_ok-seat.ensures.ended) longer)
 
 pub returns-clause-counts : goal.returns-clause-counts
 returns-clause-counts g c =
     rw (uncounted (λ fails. absurd (cc)) c.in_ok-seat.ensures.counts) at c.turn_each-taken.ensures.counts
 
 pub returns-in_err-seat-clause-reasons : goal.returns-in_err-seat-clause-reasons
-returns-in_err-seat-clause-reasons g c = λ all.
+returns-in_err-seat-clause-reasons g c = λ has all.
+    let began : c.and-self.result.items ≡ c.args.self.now.watch.now ∷ times_of c.args.self.now =
+    ap (λ (t : Trace Duration). t.items) c.and-self.ensures in
     let longer = all_with_time c.args.self.now.watch.now (times_of c.args.self.now) (ended_of c.args.self.now) all in
-    let is : times_of c.seat.new.self ≡ c.args.self.now.watch.now ∷ times_of c.args.self.now =
-    c.in_err-seat.ensures.times ∙ ap (λ (t : Trace Duration). t.items) c.and-self.ensures in
-    rw (is, c.in_err-seat.ensures.ended) longer
+    rw (c.in_err-seat.ensures.times ∙ began, c.in_err-seat.ensures.ended) longer
