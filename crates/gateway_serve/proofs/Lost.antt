@@ -1,15 +1,17 @@
 -- Why connections ended.
 use Rattle.std.proofs.Common.{◌≡◌, ◌⊎◌, ◌≤◌, inl, inr, refl, ℕ, ◌+◌, List, [], ◌∷◌}
-use Rattle.std.proofs.Common.{length, arith}
+use Rattle.std.proofs.Common.{Bool, length, arith}
 use Rattle.std.specs.declared.io.ErrorKind.{ErrorKind}
 use Rattle.gateway_serve.specs.declared.sockets.Seen.{Seen}
 use Rattle.gateway_serve.specs.Bytes.{latest_of, current}
 use Rattle.std.specs.declared.time.Duration.{Duration}
 use Rattle.gateway_serve.specs.Counted.{count_closed, one_before}
-use Rattle.gateway_serve.specs.Gone.{EndsBy, EndsInTime, IfLost, IsAmong, IsFailure}
+use Rattle.gateway_serve.specs.Acceptors.{waits_in}
+use Rattle.gateway_serve.specs.Gone.{EndsBy, IfLost, IsFailure, IsTurn}
+use Rattle.gateway_serve.specs.declared.doors.AtDoor.{AtDoor}
 use Rattle.gateway_serve.specs.Joined.{with_place}
 use Rattle.gateway_serve.specs.Reasons.{EndedOnce, none, free, one_more, AtMostOnce, AllReasoned, HasReason, IsLostBy}
-use Rattle.gateway_serve.specs.Reasons.{moved_of}
+use Rattle.gateway_serve.specs.Reasons.{EndsInTime, moved_of}
 use Rattle.gateway_serve.specs.Times.{IsLinkTimed}
 use Rattle.gateway_serve.specs.declared.sockets.Latest.{Latest}
 use Rattle.gateway_serve.specs.declared.sockets.Latest.TheVariants as Was
@@ -54,47 +56,48 @@ lost_by {S} mid new left (Is.Lost gone) I same ends is = elim is [
   | inr late ↦ inr late
 ]
 
--- so its socket ended for that reason, at a time that the clock showed
-pub lost_reason : {S : Type 0} (times : List Duration) (n : ℕ) (l : Link S) (tick : Tick) (gone : Gone)
-    → IsAmong tick.now times → IsLinkTimed times l → IsLostBy l tick gone
-    → HasReason times (current n l.socket (Why.Lost gone)) (Why.Lost gone)
-lost_reason times n l tick gone among timed (inl ends) = inl ends
-lost_reason times n l tick gone among timed (inr late) =
+-- so its socket ended for that reason, in that turn
+pub lost_reason : {S : Type 0} (times : List Duration) (done : List AtDoor) (n : ℕ) (l : Link S) (tick : Tick)
+    (gone : Gone) → IsTurn tick.now tick.wanted times (waits_in done) → IsLinkTimed times l → IsLostBy l tick gone
+    → HasReason times done (current n l.socket (Why.Lost gone)) (Why.Lost gone)
+lost_reason times done n l tick gone turn timed (inl ends) = inl ends
+lost_reason times done n l tick gone turn timed (inr late) =
     let began = began_among times l.request (moved_of l) timed.0.1 timed.1 in
-    inr (rw late.0 (late.1, refl, refl, began.0, began.1, among))
+    inr (rw late.0 (late.1, refl, refl, began.0, began.1, turn))
 
--- and all that ended before did so at these times, and one more
-with_time : (now : Duration) (times : List Duration) (spell : Spell) (gone : Gone) → EndsInTime times spell gone
-    → EndsInTime (now ∷ times) spell gone
-with_time now times spell Ended is = is
-with_time now times spell (Failed kind) is = is
-with_time now times spell Stuck is = is
-with_time now times spell (Late stay) is = (is.0, is.1, is.2, inr is.3, inr is.4, inr is.5)
+-- and all that ended before did so in these turns, and one more
+module _ (now : Duration) (waits : Bool) (times : List Duration) (done done' : List AtDoor)
+    (turn : waits_in done' ≡ waits ∷ waits_in done) where
+  in_time : (spell : Spell) (gone : Gone) → EndsInTime times done spell gone
+      → EndsInTime (now ∷ times) done' spell gone
+  in_time spell Ended is = is
+  in_time spell (Failed kind) is = is
+  in_time spell Stuck is = is
+  in_time spell (Late stay) is = (is.0, is.1, is.2, inr is.3, inr is.4, rw turn (inr is.5))
 
-reason_with_time : (now : Duration) (times : List Duration) (s : Seen) (reason : Reason) → HasReason times s reason
-    → HasReason (now ∷ times) s reason
-reason_with_time now times s Why.Closed is = is
-reason_with_time now times s (Why.Lost gone) (inl ends) = inl ends
-reason_with_time now times s (Why.Lost gone) (inr late) = inr (with_time now times s.spell gone late)
-reason_with_time now times s Over is = is
+  reason_in_time : (s : Seen) (reason : Reason) → HasReason times done s reason → HasReason (now ∷ times) done' s reason
+  reason_in_time s Why.Closed is = is
+  reason_in_time s (Why.Lost gone) (inl ends) = inl ends
+  reason_in_time s (Why.Lost gone) (inr late) = inr (in_time s.spell gone late)
+  reason_in_time s Over is = is
 
-pub all_with_time : (now : Duration) (times : List Duration) (ended : List Seen) → AllReasoned times ended
-    → AllReasoned (now ∷ times) ended
-all_with_time now times [] all = all
-all_with_time now times (s ∷ ended) all =
-    (reason_with_time now times s s.reason all.0, all_with_time now times ended all.1)
+  pub all_in_time : (ended : List Seen) → AllReasoned times done ended → AllReasoned (now ∷ times) done' ended
+  all_in_time [] all = all
+  all_in_time (s ∷ ended) all = (reason_in_time s s.reason all.0, all_in_time ended all.1)
 
 -- WHILE SERVING GOES ON all that ended were closed
-one_reasoned : (times : List Duration) (s : Seen) (reason : Reason) → HasReason times s reason → one_before reason ≡ 1
-one_reasoned times s Why.Closed is = refl
-one_reasoned times s (Why.Lost gone) is = refl
-one_reasoned times s Over is = absurd is
+one_reasoned : (times : List Duration) (done : List AtDoor) (s : Seen) (reason : Reason)
+    → HasReason times done s reason → one_before reason ≡ 1
+one_reasoned times done s Why.Closed is = refl
+one_reasoned times done s (Why.Lost gone) is = refl
+one_reasoned times done s Over is = absurd is
 
-pub all_closed : (times : List Duration) (ended : List Seen) → AllReasoned times ended
+pub all_closed : (times : List Duration) (done : List AtDoor) (ended : List Seen) → AllReasoned times done ended
     → count_closed ended ≡ length ended
 unfolding count_closed
-all_closed times [] all = refl
-all_closed times (s ∷ ended) all = omega (arith, one_reasoned times s s.reason all.0, all_closed times ended all.1)
+all_closed times done [] all = refl
+all_closed times done (s ∷ ended) all =
+    omega (arith, one_reasoned times done s s.reason all.0, all_closed times done ended all.1)
 
 -- WHEN SERVING IS OVER
 one_ended : {S : Type 0} (before : List Seen) (n : ℕ) (p : Place S) (ended : List Seen) → EndedOnce before n ended

@@ -1,7 +1,7 @@
 -- What becomes of clients, turn by turn.
 use Rattle.std.proofs.Common.{◌≡◌, ◌<◌, ◌≤◌, ℕ, ◌+◌, ◌-◌, ◌^◌, List, [], ◌∷◌, length, Bool, true, false}
-use Rattle.std.proofs.Common.{refl, sym, ap, ◌∙◌, arith}
-use Rattle.gateway_serve.specs.Acceptors.{LetsIn, LetsInBy, answers_in, count_given, one_when}
+use Rattle.std.proofs.Common.{Option, Some, None, is_some, refl, sym, ap, ◌∙◌, arith}
+use Rattle.gateway_serve.specs.Acceptors.{LetsIn, LetsInBy, answers_in, count_given, done_with, one_when, waits_in}
 use Rattle.gateway_serve.specs.Acceptors.{nobody, asked, passed, waited, let_in}
 use Rattle.gateway_serve.specs.declared.doors.AtDoor.{AtDoor}
 use Rattle.gateway_serve.specs.declared.doors.AtDoor.TheVariants.{Asked, Passed, Waited, LetIn}
@@ -107,6 +107,15 @@ module _ (before answers : List Bool) (turns : ℕ) (done : List AtDoor) (client
       → LetsIn before answers turns done' clients' waits' passes'
   none_let_in done' clients' waits' passes' is same one left =
       rw (is, same, left, same_when waits' waits (sym one)) l
+
+-- THE DOOR'S TURN, after which the one who waits is let in or not
+pub turn_with : {T : Type 0} (client : Option T) (done done' : List AtDoor) (waits waits' : Bool) (before : List Bool)
+    → done' ≡ done_with client done → one_when waits ≡ one_when (is_some client) + one_when waits'
+    → waits_in done ≡ waits ∷ before → waits_in done' ≡ waits' ∷ before
+turn_with None done done' waits waits' before with one turn =
+    rw (with, turn, same_when waits waits' (omega (arith, one))) refl
+turn_with (Some client) done done' waits waits' before with one turn =
+    rw (with, turn, (waited_before waits waits' one).1) refl
 
 -- each answer gave one client at most
 given_few : (since : List Bool) → count_given since ≤ length since

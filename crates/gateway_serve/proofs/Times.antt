@@ -1,8 +1,8 @@
 -- Times stay among those of a server's turns.
-use Rattle.std.proofs.Common.{◌≡◌, ℕ, Bool, true, false, List, [], ◌∷◌, Option, Some, None, get_or, inr}
+use Rattle.std.proofs.Common.{◌≡◌, ℕ, Bool, true, false, List, [], ◌∷◌, Option, Some, None, get_or, inl, inr}
 use Rattle.std.proofs.Common.{if◌then◌else◌}
 use Rattle.std.specs.declared.time.Duration.{Duration}
-use Rattle.gateway_serve.specs.Gone.{IsAmong, IsTimed, opened_at, moved_at}
+use Rattle.gateway_serve.specs.Gone.{IsAmong, IsTimed, IsTurn, opened_at, moved_at}
 use Rattle.tus_session.specs.declared.at.At as session
 use Rattle.gateway_serve.specs.Reasons.{begun_by, since_by}
 use Rattle.gateway_serve.specs.Requests.{is_same, part_of, request_by, request_from, request_in}
@@ -44,6 +44,22 @@ pub began_among : (times : List Duration) (request : Option Request) (moved : Du
     → IsAmong (begun_by request moved) times × IsAmong (since_by request moved) times
 began_among times None moved among timed = (among, among)
 began_among times (Some request) moved among timed = timed
+
+-- A TURN is at one of the times, and is still one where fewer clients are to have waited
+pub turn_among : (now : Duration) (wanted : Bool) (times : List Duration) (waits : List Bool)
+    → IsTurn now wanted times waits → IsAmong now times
+turn_among now wanted [] waits is = absurd is
+turn_among now wanted (time ∷ times) [] is = absurd is
+turn_among now wanted (time ∷ times) (waits ∷ others) (inl is) = inl is.0
+turn_among now wanted (time ∷ times) (waits ∷ others) (inr is) = inr (turn_among now wanted times others is)
+
+pub still_turn : (now : Duration) (wanted wanted' : Bool) (times : List Duration) (waits : List Bool)
+    → (wanted' ≡ true → wanted ≡ true) → IsTurn now wanted times waits → IsTurn now wanted' times waits
+still_turn now wanted wanted' [] waits fewer is = absurd is
+still_turn now wanted wanted' (time ∷ times) [] fewer is = absurd is
+still_turn now wanted wanted' (time ∷ times) (waits ∷ others) fewer (inl is) = inl (is.0, λ w. is.1 (fewer w))
+still_turn now wanted wanted' (time ∷ times) (waits ∷ others) fewer (inr is) =
+    inr (still_turn now wanted wanted' times others fewer is)
 
 -- ONE TURN LATER
 timed_later : (now : Duration) (times : List Duration) (spell : Spell) → IsTimed times spell

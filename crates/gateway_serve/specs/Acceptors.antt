@@ -62,6 +62,18 @@ count_waits (Passed ∷ done) = count_waits done
 count_waits (Waited ∷ done) = 1 + count_waits done
 count_waits (LetIn ∷ done) = count_waits done
 
+-- and whether a client waits for a place in each of its turns, once the door has had its part
+abbrev pub none_waits : List Bool → List Bool
+none_waits [] = []
+none_waits (waits ∷ before) = false ∷ before
+
+abbrev pub waits_in : List AtDoor → List Bool
+waits_in [] = []
+waits_in (Asked gave ∷ done) = gave ∷ waits_in done
+waits_in (Passed ∷ done) = false ∷ waits_in done
+waits_in (Waited ∷ done) = true ∷ waits_in done
+waits_in (LetIn ∷ done) = none_waits (waits_in done)
+
 -- WHAT BECOMES OF CLIENTS in so many turns, in which this was done, of a listener that had answered this before: each
 -- that it gave has a connection, or was refused one, or waits for a place. It is asked in at least every 32nd turn, but
 -- for those in which one waits; so many turns may pass it over before the next one
@@ -86,6 +98,10 @@ done_with (Some client) done = LetIn ∷ done
 abbrev pub LetsInBy : {S : Type 0} → List Bool → List Bool → ℕ → Door S → Type 0
 LetsInBy before answers turns d =
     LetsIn before answers turns (done_of d) d.clients (is_some d.waiting) (passes_of d.pace)
+
+-- its turn, after those: whether a client waits
+abbrev pub TakesTurn : {S : Type 0} → List Bool → Door S → Type 0
+TakesTurn before d = waits_in (done_of d) ≡ is_some d.waiting ∷ before
 
 -- WHILE IT SERVES, for all of its turns unless it ended before: the disk failed, or so many connections were closed,
 -- without those that its own end closes

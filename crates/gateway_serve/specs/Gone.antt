@@ -1,5 +1,5 @@
 -- Why a socket is given up.
-use Rattle.std.specs.Prelude.{◌≡◌, ◌≢◌, ◌⊎◌, ◌<◌, ℕ, List, [], ◌∷◌, Result, Ok, Err}
+use Rattle.std.specs.Prelude.{◌≡◌, ◌≢◌, ◌⊎◌, ◌<◌, ℕ, Bool, true, List, [], ◌∷◌, Result, Ok, Err}
 use Rattle.std.specs.declared.time.Duration.{Duration}
 use Rattle.std.specs.IoError.{error_kind}
 use Rattle.std.specs.declared.io.Error.{Error}
@@ -8,7 +8,6 @@ use Rattle.std.specs.declared.io.ErrorKind.TheVariants as Kind
 use Rattle.gateway_serve.specs.declared.sockets.Latest.{Latest}
 use Rattle.gateway_serve.specs.declared.sockets.Spell.{Spell}
 use Rattle.gateway_serve.specs.declared.sockets.Latest.TheVariants as Was
-use Rattle.gateway_serve.specs.Stays.{IsOver}
 use Rattle.gateway_serve.specs.declared.reasons.Gone.{Gone}
 use Rattle.gateway_serve.specs.declared.reasons.Gone.TheVariants.{Ended, Failed, Stuck, Late}
 use Rattle.gateway_serve.specs.declared.stages.Left.{Left}
@@ -51,19 +50,16 @@ abbrev pub IsAmong : Duration → List Duration → Type 0
 IsAmong now [] = ⊥
 IsAmong now (time ∷ times) = (now ≡ time) ⊎ IsAmong now times
 
+-- a turn began then, and if a client is to have waited for a place in it, one did
+abbrev pub IsTurn : Duration → Bool → List Duration → List Bool → Type 0
+IsTurn now wanted [] waits = ⊥
+IsTurn now wanted (time ∷ times) [] = ⊥
+IsTurn now wanted (time ∷ times) (waits ∷ others) =
+    ((now ≡ time) × (wanted ≡ true → waits ≡ true)) ⊎ IsTurn now wanted times others
+
 -- the times of a connection are among these
 abbrev pub IsTimed : List Duration → Spell → Type 0
 IsTimed times spell = IsAmong spell.opened times × IsAmong spell.moved times
-
--- AND BY THE CLOCK: the time of a connection was over, which was opened and moved then, at one of these times. Since one
--- of them its request comes, and is its speed measured
-abbrev pub EndsInTime : List Duration → Spell → Gone → Type 0
-EndsInTime times spell Ended = ⊥
-EndsInTime times spell (Failed kind) = ⊥
-EndsInTime times spell Stuck = ⊥
-EndsInTime times spell (Late stay) =
-    IsOver stay × (stay.opened ≡ spell.opened) × (stay.moved ≡ spell.moved) × IsAmong stay.begun times
-    × IsAmong stay.since times × IsAmong stay.time times
 
 abbrev pub IfLost : Left → (Gone → Type 0) → Type 0
 IfLost Is.Open P = Unit {0}

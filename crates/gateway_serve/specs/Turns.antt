@@ -4,7 +4,8 @@ use Rattle.std.specs.Prelude.{Option, vec_capacity, vec_len}
 use Rattle.tus_session.specs.declared.session.TheConstants.{MOST_OPEN}
 use Rattle.gateway_serve.specs.Counted.{open_in}
 use Rattle.gateway_serve.specs.Joined.{places_of, ended_of}
-use Rattle.gateway_serve.specs.Acceptors.{LetsInBy}
+use Rattle.gateway_serve.specs.Acceptors.{LetsInBy, done_of}
+use Rattle.gateway_serve.specs.Reasons.{AllReasoned}
 use Rattle.gateway_serve.specs.Streams.{AllHad, AllHave}
 use Rattle.std.specs.declared.time.Duration.{Duration}
 use Rattle.gateway_serve.specs.declared.doors.Clients.{Clients}
@@ -37,6 +38,10 @@ IsCounted s = opened_by s ≡ length (ended_of s) + open_in (places_of s)
 abbrev pub HasStreams : {S : Type 0} → (S → Option (List ℕ)) → (S → Option (List ℕ)) → Server S → Type 0
 HasStreams remaining contents s = AllHave remaining contents (times_of s) (places_of s)
     × AllHad remaining contents (times_of s) (ended_of s)
+
+-- each socket that ended did so for its reason
+abbrev pub IsReasoned : {S : Type 0} → Server S → Type 0
+IsReasoned s = AllReasoned (times_of s) (done_of (door_of s)) (ended_of s)
 
 -- nobody came yet
 abbrev pub IsUnvisited : {S : Type 0} → Server S → Type 0

@@ -1,6 +1,6 @@
 //! The clients that a listener gives.
 ghost use Rattle.std.specs.Prelude.{◌≡◌, ◌<◌, ◌+◌, ◌^◌, ℕ, List, Bool, is_some, None};
-ghost use Rattle.gateway_serve.specs.Acceptors.{LetsInBy, done_of, done_with};
+ghost use Rattle.gateway_serve.specs.Acceptors.{LetsInBy, TakesTurn, done_of, done_with, waits_in};
 
 use crate::acceptors::Acceptor;
 use crate::idle::Pace;
@@ -74,6 +74,7 @@ impl<S: Drop> Door<S> {
         requires { self.old.clients.waits + 1 < 2 ^ 64 }
         ensures clients { (before : List Bool) (turns : ℕ) → LetsInBy before (A.answers acceptor.old) turns self.old
             → LetsInBy before (A.answers acceptor.new) (turns + 1) self.new }
+        ensures turn { TakesTurn (waits_in (done_of self.old)) self.new }
         ensures opened { self.new.clients.opened ≡ self.old.clients.opened }
         ensures refused { self.new.clients.refused ≡ self.old.clients.refused }
     {

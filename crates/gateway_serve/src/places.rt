@@ -3,7 +3,9 @@ ghost use Rattle.std.specs.Prelude.{◌≡◌, ◌≢◌, ◌↔◌, ◌+◌, Is
 ghost use Rattle.std.specs.declared.time.Duration.{Duration};
 ghost use Rattle.upload_rules.specs.Answers.{Counts};
 ghost use Rattle.gateway_serve.specs.Counted.{one_if_open};
-ghost use Rattle.gateway_serve.specs.Gone.{IsAmong};
+ghost use Rattle.gateway_serve.specs.Acceptors.{waits_in};
+ghost use Rattle.gateway_serve.specs.declared.doors.AtDoor.{AtDoor};
+ghost use Rattle.gateway_serve.specs.Gone.{IsAmong, IsTurn};
 ghost use Rattle.gateway_serve.specs.Joined.{GoesAt, OthersStay, IsNew, MayEnd, PlaceWaits, with_place};
 ghost use Rattle.gateway_serve.specs.Streams.{PlaceHas, PlaceIsOf, PlacePreserves};
 ghost use Rattle.gateway_serve.specs.Reasons.{AllReasoned};
@@ -82,9 +84,9 @@ impl<S: Read + Write + Drop> Place<S> {
         ended: &mut Trace<Seen>,
         drains: &mut Drains<S>,
     ) -> Result<Turned, DiskFault>
-        ensures reasons { (times : List Duration) → IsAmong tick.now times
-            → PlaceHas S.remaining S.contents times self.old → AllReasoned times ended.old.items
-            → AllReasoned times ended.new.items }
+        ensures reasons { (times : List Duration) (done : List AtDoor)
+            → IsTurn tick.now tick.wanted times (waits_in done) → PlaceHas S.remaining S.contents times self.old
+            → AllReasoned times done ended.old.items → AllReasoned times done ended.new.items }
         ensures streams { (times : List Duration) → IsAmong tick.now times
             → PlacePreserves S.remaining S.contents times self.old self.new ended.old.items ended.new.items }
         ensures serves { GoesAt C.Connections gateway.old gateway.new result self.old self.new

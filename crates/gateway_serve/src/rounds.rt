@@ -5,7 +5,9 @@ ghost use Rattle.std.specs.declared.time.Duration.{Duration};
 ghost use Rattle.upload_rules.specs.Answers.{Counts};
 ghost use Rattle.tus_session.specs.History.{State, Marked};
 ghost use Rattle.gateway_serve.specs.Counted.{Adds, count_closed, open_in};
-ghost use Rattle.gateway_serve.specs.Gone.{IsAmong};
+ghost use Rattle.gateway_serve.specs.Acceptors.{waits_in};
+ghost use Rattle.gateway_serve.specs.declared.doors.AtDoor.{AtDoor};
+ghost use Rattle.gateway_serve.specs.Gone.{IsAmong, IsTurn};
 ghost use Rattle.gateway_serve.specs.Joined.{AllFell, StaysJoined, AllEnded, IsFreeAt};
 ghost use Rattle.gateway_serve.specs.Longest.{BeganBy, IsLongest, pause_of, since_of};
 ghost use Rattle.gateway_serve.specs.Reasons.{AllReasoned, AtMostOnce};
@@ -132,9 +134,10 @@ pub(crate) fn turn_each<S: Read + Write + Drop, C: Connections, T: Clock>(
 ) -> Result<(), DiskFault>
     ensures streams { (times : List Duration) → IsAmong round.old.now times
         → AllPreserve S.remaining S.contents times places.old places.new ended.old.items ended.new.items }
-    ensures reasons { (times : List Duration) → IsAmong round.old.now times
+    ensures reasons { (times : List Duration) (done : List AtDoor)
+        → IsTurn round.old.now round.old.wanted times (waits_in done)
         → AllHave S.remaining S.contents times places.old → AllHad S.remaining S.contents times ended.old.items
-        → AllReasoned times ended.old.items → AllReasoned times ended.new.items }
+        → AllReasoned times done ended.old.items → AllReasoned times done ended.new.items }
     ensures serves { (refused : ℕ) → StaysJoined C.Connections gateway.old gateway.new result places.old places.new
         ended.old.items ended.new.items refused refused }
     ensures counts { Counts (IsErr result) (C.failures gateway.old) (C.failures gateway.new) }

@@ -2,15 +2,16 @@
 ghost use Rattle.std.specs.Prelude.{◌≡◌, ◌↔◌, ◌<◌, ◌≤◌, ◌+◌, ◌^◌, ℕ, List, [], Bool, is_some, length};
 ghost use Rattle.std.specs.Prelude.{IfSome, IsErr, IsFalse, IsNone, IsTrue, None, OnOk};
 ghost use Rattle.upload_rules.specs.Answers.{Counts};
-ghost use Rattle.gateway_serve.specs.Acceptors.{HasServed, LetsInBy, TakesTurns, done_of, done_with, one_when};
+ghost use Rattle.gateway_serve.specs.Acceptors.{HasServed, LetsInBy, TakesTurn, TakesTurns};
+ghost use Rattle.gateway_serve.specs.Acceptors.{done_of, done_with, one_when};
 ghost use Rattle.gateway_serve.specs.Counted.{count_closed, open_in};
 ghost use Rattle.gateway_serve.specs.Gone.{IsAmong};
 ghost use Rattle.gateway_serve.specs.Joined.{StaysJoined, AllEnded, LetsGo, IsFreeAt, SamePlaces, ended_of, places_of};
 ghost use Rattle.gateway_serve.specs.Longest.{IsLongest};
-ghost use Rattle.gateway_serve.specs.Reasons.{AllReasoned, EndsReasoned, IsLeftReasoned};
+ghost use Rattle.gateway_serve.specs.Reasons.{EndsReasoned, IsLeftReasoned};
 ghost use Rattle.gateway_serve.specs.Streams.{AllHad};
 ghost use Rattle.gateway_serve.specs.Turns.{HasRoom, IsCounted, IsUnvisited, HasNoPlace, NoneIsFree, RestStays};
-ghost use Rattle.gateway_serve.specs.Turns.{HasStreams, closed_of, door_of, opened_by, refused_by, times_of};
+ghost use Rattle.gateway_serve.specs.Turns.{HasStreams, IsReasoned, closed_of, door_of, opened_by, refused_by, times_of};
 
 use crate::acceptors::Acceptor;
 use crate::doors::Door;
@@ -80,7 +81,7 @@ impl<S: Read + Write + OpenStream + Drop> Server<S> {
         turns: u64,
     ) -> Result<(), DiskFault>
         requires { IsUnvisited self.old }
-        ensures reasons { IsLeftReasoned (times_of self.new) (ended_of self.new) }
+        ensures reasons { IsLeftReasoned (times_of self.new) (done_of (door_of self.new)) (ended_of self.new) }
         ensures streams { AllHad S.remaining S.contents (times_of self.new) (ended_of self.new) }
         ensures serves { LetsGo C.Connections gateway.old gateway.new result (places_of self.old)
             (ended_of self.old) (ended_of self.new) (refused_by self.old) (refused_by self.new) }
@@ -107,7 +108,7 @@ impl<S: Read + Write + OpenStream + Drop> Server<S> {
         turns: u64,
     ) -> Result<(), DiskFault>
         requires { IsUnvisited self.old }
-        ensures reasons { EndsReasoned (times_of self.new) (ended_of self.new) }
+        ensures reasons { EndsReasoned (times_of self.new) (done_of (door_of self.new)) (ended_of self.new) }
         ensures streams { HasStreams S.remaining S.contents self.new }
         ensures serves { AllEnded C.Connections gateway.old gateway.new result (places_of self.old) (places_of self.new)
             (ended_of self.old) (ended_of self.new) (refused_by self.old) (refused_by self.new) }
@@ -146,9 +147,7 @@ impl<S: Read + Write + OpenStream + Drop> Server<S> {
     ) -> Result<(), DiskFault>
         requires room { HasRoom (door_of self.old).clients }
         requires waits { (door_of self.old).clients.waits + 1 < 2 ^ 64 }
-        ensures reasons { HasStreams S.remaining S.contents self.old
-            → AllReasoned (times_of self.old) (ended_of self.old)
-            → AllReasoned (times_of self.new) (ended_of self.new) }
+        ensures reasons { HasStreams S.remaining S.contents self.old → IsReasoned self.old → IsReasoned self.new }
         ensures streams { HasStreams S.remaining S.contents self.old → HasStreams S.remaining S.contents self.new }
         ensures serves { StaysJoined C.Connections gateway.old gateway.new result (places_of self.old)
             (places_of self.new) (ended_of self.old) (ended_of self.new) (refused_by self.old) (refused_by self.new) }
@@ -222,6 +221,8 @@ impl<S: Read + Write + OpenStream + Drop> Server<S> {
         ensures counts { Counts (IsErr result) (C.failures gateway.old) (C.failures gateway.new) }
         ensures clients { (before answers : List Bool) (turns : ℕ) → LetsInBy before answers turns (door_of self.old)
             → LetsInBy before answers turns (door_of self.new) }
+        ensures turn { (before : List Bool) → TakesTurn before (door_of self.old)
+            → TakesTurn before (door_of self.new) }
         ensures takes { IsTrue (is_some (door_of self.new).waiting)
             → NoneIsFree (places_of self.new) × HasNoPlace self.old }
         ensures ended { ended_of self.new ≡ ended_of self.old }

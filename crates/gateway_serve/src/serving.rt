@@ -102,9 +102,10 @@ where
     // - the session closed its connection;
     // - the latest call of its stream was a read that had room and gave nothing, a write that was offered something and
     //   took nothing, or a call that failed, but not because it would have waited or was interrupted;
-    // - nothing came or went for as long as it may be idle at what it was at, by its own times and those of the turns;
+    // - nothing came or went for as long as it may be idle at what it was at, by its own times and those of the turns,
+    //   or it gave way, in a turn in which a client waited for a place;
     // - serving was over: at most one for each number of a connection, and one more if the disk failed.
-    ensures reasons { IsLeftReasoned result.times.items result.ended.items }
+    ensures reasons { IsLeftReasoned result.times.items result.door.items result.ended.items }
 
     // Each client that the listener gave got a connection, which is one of these sockets, or was refused one by the
     // session, or waited for a place at the end, which one does at most. Unless the disk failed or so many connections

@@ -6,6 +6,8 @@ use Rattle.gateway_serve.specs.declared.places.Turned.{Turned}
 use Rattle.gateway_serve.proofs.All.{among_all}
 use Rattle.gateway_serve.proofs.Carries.{among_preserve}
 use Rattle.gateway_serve.proofs.Counted.{adds_on, closes, still_most}
+use Rattle.gateway_serve.specs.Acceptors.{waits_in}
+use Rattle.gateway_serve.proofs.Times.{still_turn, turn_among}
 use Rattle.gateway_serve.proofs.rounds.turn_each.Goals as goal
 
 pub returns-then-round-clause-serves : goal.returns-then-round-clause-serves
@@ -39,12 +41,15 @@ returns-in-Err-clause-streams g c = λ times among.
     (c.turn.ensures.streams times (rw (c.tick.ensures.now ∙ c.loop-conn.invariant.6) among))
 
 pub returns-in-Err-clause-reasons : goal.returns-in-Err-clause-reasons
-returns-in-Err-clause-reasons g c = λ times among have had all.
-    c.turn.ensures.reasons times (rw (c.tick.ensures.now ∙ c.loop-conn.invariant.6) among)
+returns-in-Err-clause-reasons g c = λ times done turn have had all.
+    let among = turn_among c.args.round.now.now c.args.round.now.wanted times (waits_in done) turn in
+    c.turn.ensures.reasons times done (rw (c.tick.ensures.now ∙ c.loop-conn.invariant.6, c.tick.ensures.wanted)
+    (still_turn c.args.round.now.now c.args.round.now.wanted c.loop-conn.round.wanted times (waits_in done)
+    c.loop-conn.invariant.8 turn))
     (rw (get_or_default c.loop-conn.places c.loop-conn.conn Free c.index-places-conn.result
     (omega (arith, c.loop-conn-test.true, c.loop-conn.auto.places)))
     at ((c.loop-conn.invariant.2 times among have had).0 c.loop-conn.conn))
-    (c.loop-conn.invariant.3 times among have had all)
+    (c.loop-conn.invariant.3 times done turn have had all)
 
 pub loop-conn-preserved : goal.loop-conn-preserved
 loop-conn-preserved g c = (
@@ -58,12 +63,15 @@ loop-conn-preserved g c = (
       c.index-places-conn.result c.turn.new.self _ c.loop-conn.ended.items c.turn.new.ended.items
       (c.loop-conn.invariant.2 times among) (omega (arith, c.loop-conn-test.true, c.loop-conn.auto.places))
       (c.turn.ensures.streams times (rw (c.tick.ensures.now ∙ c.loop-conn.invariant.6) among)),
-  λ times among have had all.
-      c.turn.ensures.reasons times (rw (c.tick.ensures.now ∙ c.loop-conn.invariant.6) among)
+  λ times done turn have had all.
+      let among = turn_among c.args.round.now.now c.args.round.now.wanted times (waits_in done) turn in
+      c.turn.ensures.reasons times done (rw (c.tick.ensures.now ∙ c.loop-conn.invariant.6, c.tick.ensures.wanted)
+      (still_turn c.args.round.now.now c.args.round.now.wanted c.loop-conn.round.wanted times (waits_in done)
+      c.loop-conn.invariant.8 turn))
       (rw (get_or_default c.loop-conn.places c.loop-conn.conn Free c.index-places-conn.result
       (omega (arith, c.loop-conn-test.true, c.loop-conn.auto.places)))
       at ((c.loop-conn.invariant.2 times among have had).0 c.loop-conn.conn))
-      (c.loop-conn.invariant.3 times among have had all),
+      (c.loop-conn.invariant.3 times done turn have had all),
   adds_on _ c.loop-conn.places c.loop-conn.conn c.index-places-conn.result c.turn.new.self _ c.loop-conn.ended.items
       c.turn.new.ended.items (omega (arith, c.loop-conn-test.true, c.loop-conn.auto.places)) c.loop-conn.invariant.4
       c.turn.ensures.kept,
@@ -76,6 +84,7 @@ loop-conn-preserved g c = (
       (λ e. c.if-round.false (e ∙ sym c.loop-conn.invariant.5)) now.0 now.1
       (λ e. c.in-Ok.ensures.closed (ap Ok e)) c.in-Ok.ensures.open
       (λ e less. c.add.ensures.closed e (rw c.loop-conn.invariant.5 less)) c.add.ensures.open,
+  λ wanted. c.loop-conn.invariant.8 (c.add.ensures.wanted.0 wanted).0,
 )
 
 pub returns-then-round-clause-kept : goal.returns-then-round-clause-kept

@@ -34,3 +34,24 @@ returns-else-is_due-clause-clients g c = λ before turns lets.
     (done_of c.args.self.now) c.args.self.now.clients (is_some c.args.self.now.waiting)
     (passes_of c.args.self.now.pace) lets (passes_of c.is_due.new.self)
     (sym c.is_some.ensures ∙ c.if-is_some.false) (c.is_due.ensures.passed c.if-is_due.false))
+
+pub returns-then-is_some-clause-turn : goal.returns-then-is_some-clause-turn
+returns-then-is_some-clause-turn g c =
+    rw (c.and-self.ensures, sym c.is_some.ensures ∙ c.if-is_some.true) refl
+
+pub returns-in-Some-clause-turn : goal.returns-in-Some-clause-turn
+returns-in-Some-clause-turn g c =
+    rw (c.and-self-then-is_due.ensures, c.is_some-then-is_due-2.ensures, c.in-Some.is) refl
+
+pub returns-in_default-clause-turn : goal.returns-in_default-clause-turn
+returns-in_default-clause-turn g c =
+    rw (
+      c.and-self-then-is_due.ensures,
+      c.is_some-then-is_due-2.ensures,
+      c.in_default.is,
+      sym c.is_some.ensures ∙ c.if-is_some.false,
+    ) refl
+
+pub returns-else-is_due-clause-turn : goal.returns-else-is_due-clause-turn
+returns-else-is_due-clause-turn g c =
+    rw (c.and-self-else-is_due.ensures, sym c.is_some.ensures ∙ c.if-is_some.false) refl

@@ -1,9 +1,11 @@
 use Rattle.std.proofs.Common.{Result, Ok, Err}
 use Rattle.common.specs.declared.stop.DiskFault.{DiskFault}
+use Rattle.gateway_serve.specs.Acceptors.{waits_in}
 use Rattle.gateway_serve.specs.Joined.{PlaceJoins, PlaceFell}
 use Rattle.gateway_serve.specs.Sockets.{current_of}
 use Rattle.gateway_serve.proofs.After.{alone_after}
 use Rattle.gateway_serve.proofs.Lost.{lost_reason}
+use Rattle.gateway_serve.proofs.Times.{turn_among}
 use Rattle.gateway_serve.proofs.places.Place.turn.Goals as goal
 
 pub returns-in-Ok-clause-serves : goal.returns-in-Ok-clause-serves
@@ -31,19 +33,21 @@ returns-in-Err-end-clause-serves g c = λ sure before st past went joins.
     (c.in-Err-end.ensures.serves sure before st s.0 s.1 s.2.1)
 
 pub returns-in-Ok-clause-reasons : goal.returns-in-Ok-clause-reasons
-returns-in-Ok-clause-reasons g c = λ times among has all.
+returns-in-Ok-clause-reasons g c = λ times done turn has all.
     let was = rw c.in-Open.is at has in
+    let among = turn_among c.args.tick.now c.args.tick.wanted times (waits_in done) turn in
     rw c.end.ensures.ended (
-      lost_reason times c.args.conn c.turn.new.self c.args.tick c.in-Ok-Lost.gone among
+      lost_reason times done c.args.conn c.turn.new.self c.args.tick c.in-Ok-Lost.gone turn
           (c.turn.ensures.times times among was.2) (rw c.in-Ok-Lost.field-0-is at c.in-Ok-Lost.ensures.lost),
       all,
     )
 
 pub returns-in-Err-end-clause-reasons : goal.returns-in-Err-end-clause-reasons
-returns-in-Err-end-clause-reasons g c = λ times among has all.
+returns-in-Err-end-clause-reasons g c = λ times done turn has all.
     let was = rw c.in-Open.is at has in
+    let among = turn_among c.args.tick.now c.args.tick.wanted times (waits_in done) turn in
     rw c.end.ensures.ended (
-      lost_reason times c.args.conn c.turn.new.self c.args.tick c.in-Ok-Lost.gone among
+      lost_reason times done c.args.conn c.turn.new.self c.args.tick c.in-Ok-Lost.gone turn
           (c.turn.ensures.times times among was.2) (rw c.in-Ok-Lost.field-0-is at c.in-Ok-Lost.ensures.lost),
       all,
     )

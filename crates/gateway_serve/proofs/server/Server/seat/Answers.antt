@@ -8,7 +8,7 @@ use Rattle.gateway_serve.specs.Acceptors.{done_of, passes_of}
 use Rattle.gateway_serve.specs.Gone.{IsAmong}
 use Rattle.gateway_serve.specs.Turns.{door_of, refused_by, times_of}
 use Rattle.gateway_serve.proofs.Carries.{is_of_has, set_has}
-use Rattle.gateway_serve.proofs.NextTurn.{let_in_one}
+use Rattle.gateway_serve.proofs.NextTurn.{let_in_one, turn_with}
 use Rattle.gateway_serve.specs.declared.doors.Clients.{Clients}
 use Rattle.gateway_serve.proofs.Counted.{counted_on, free_open, opens_one}
 use Rattle.gateway_serve.specs.Joined.{AllJoin, AllFell, places_of, ended_of}
@@ -122,3 +122,21 @@ returns-in-Err-clause-clients g c = λ before answers turns lets.
     (rw c.in-Some.is at c.next_place.ensures.waits)
     (omega (arith, ap (λ (k : Clients). k.opened) same, ap (λ (k : Clients). k.refused) same))
     (ap (λ (k : Clients). k.waits) same) (ap passes_of c.next_place.ensures.rest.pace))
+
+pub returns-in_default-clause-turn : goal.returns-in_default-clause-turn
+returns-in_default-clause-turn g c = λ before turn.
+    turn_with c.next_place.result (done_of (door_of c.args.self.now)) (done_of (door_of c.next_place.new.self))
+    (is_some (door_of c.args.self.now).waiting) (is_some (door_of c.next_place.new.self).waiting) before
+    c.next_place.ensures.done c.next_place.ensures.waits turn
+
+pub returns-in-Ok-clause-turn : goal.returns-in-Ok-clause-turn
+returns-in-Ok-clause-turn g c = λ before turn.
+    turn_with c.next_place.result (done_of (door_of c.args.self.now)) (done_of (door_of c.next_place.new.self))
+    (is_some (door_of c.args.self.now).waiting) (is_some (door_of c.next_place.new.self).waiting) before
+    c.next_place.ensures.done c.next_place.ensures.waits turn
+
+pub returns-in-Err-clause-turn : goal.returns-in-Err-clause-turn
+returns-in-Err-clause-turn g c = λ before turn.
+    turn_with c.next_place.result (done_of (door_of c.args.self.now)) (done_of (door_of c.next_place.new.self))
+    (is_some (door_of c.args.self.now).waiting) (is_some (door_of c.next_place.new.self).waiting) before
+    c.next_place.ensures.done c.next_place.ensures.waits turn

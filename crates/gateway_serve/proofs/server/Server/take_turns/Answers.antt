@@ -110,7 +110,8 @@ returns-clause-clients g c = record {
       arith,
       w.if-self-connections,
       c.loop-left.invariant.6,
-      all_closed (times_of c.loop-left.self) (ended_of c.loop-left.self) c.loop-left.invariant.3,
+      all_closed (times_of c.loop-left.self) (done_of (door_of c.loop-left.self)) (ended_of c.loop-left.self)
+          c.loop-left.invariant.3,
       c.end_each.ensures.before,
     )))
     | else-loop-left-test w ↦ inr (inr (omega (arith, w.loop-left-test, c.loop-left.invariant.4)))

@@ -2,8 +2,7 @@ use Rattle.std.proofs.Common.{◌≡◌, ◌≤◌, ◌-◌, length, Result, Ok}
 use Rattle.common.specs.declared.stop.DiskFault.{DiskFault}
 use Rattle.gateway_serve.specs.Acceptors.{LetsInBy}
 use Rattle.gateway_serve.specs.Joined.{StaysJoined, places_of, ended_of}
-use Rattle.gateway_serve.specs.Reasons.{AllReasoned}
-use Rattle.gateway_serve.specs.Turns.{HasStreams, IsCounted, closed_of, door_of, refused_by, times_of}
+use Rattle.gateway_serve.specs.Turns.{HasStreams, IsCounted, IsReasoned, closed_of, door_of, refused_by}
 use Rattle.gateway_serve.proofs.server.Server.take_turns.Given as goal
 
 abbrev pub invariant-loop-left : goal.invariant-loop-left
@@ -13,7 +12,7 @@ invariant-loop-left g l =
     × StaysJoined g.C.Connections l.fn.gateway l.gateway on (places_of l.fn.self) (places_of l.self)
     (ended_of l.fn.self) (ended_of l.self) (refused_by l.fn.self) (refused_by l.self)
     × HasStreams g.S.Read.remaining g.S.Write.contents l.self
-    × AllReasoned (times_of l.self) (ended_of l.self)
+    × IsReasoned l.self
     × (l.left ≤ l.fn.turns)
     × LetsInBy (g.A.Acceptor.answers l.fn.acceptor) (g.A.Acceptor.answers l.acceptor) (l.fn.turns - l.left)
     (door_of l.self)

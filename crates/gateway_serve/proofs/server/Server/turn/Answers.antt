@@ -1,11 +1,12 @@
-use Rattle.std.proofs.Common.{◌≡◌, ◌+◌, ◌∷◌, ◌∙◌, ap, inl, refl, arith}
+use Rattle.std.proofs.Common.{◌≡◌, ◌+◌, ◌∷◌, ◌∙◌, ap, inl, refl, sym, arith}
 use Rattle.common.specs.declared.trace.Trace.{Trace}
 use Rattle.std.specs.declared.time.Duration.{Duration}
 use Rattle.std.proofs.lemmas.List.{with_items_is}
 use Rattle.tus_session.proofs.Counting.{uncounted}
 use Rattle.gateway_serve.specs.Joined.{ended_of, places_of}
-use Rattle.gateway_serve.specs.Turns.{refused_by, times_of}
-use Rattle.gateway_serve.proofs.Lost.{all_with_time}
+use Rattle.gateway_serve.specs.Acceptors.{done_of, waits_in}
+use Rattle.gateway_serve.specs.Turns.{door_of, refused_by, times_of}
+use Rattle.gateway_serve.proofs.Lost.{all_in_time}
 use Rattle.gateway_serve.proofs.Counted.{counted_by}
 use Rattle.gateway_serve.proofs.Times.{streams_later}
 use Rattle.gateway_serve.proofs.server.Server.turn.Goals as goal
@@ -68,13 +69,21 @@ returns-clause-counted g c counted =
 
 pub returns-clause-reasons : goal.returns-clause-reasons
 returns-clause-reasons g c = λ has all.
-    let began : c.and-self.result.items ≡ c.args.self.now.watch.now ∷ times_of c.args.self.now =
+    let now = c.args.self.now.watch.now in
+    let before = waits_in (done_of (door_of c.args.self.now)) in
+    let began : c.and-self.result.items ≡ now ∷ times_of c.args.self.now =
     ap (λ (t : Trace Duration). t.items) c.and-self.ensures in
     let a = c.seat.ensures.streams (rw began (inl refl)) (rw began (streams_later g.S.Read.remaining g.S.Write.contents
-    c.args.self.now.watch.now (times_of c.args.self.now) (places_of c.args.self.now) (ended_of c.args.self.now) has)) in
-    let longer = all_with_time c.args.self.now.watch.now (times_of c.args.self.now) (ended_of c.args.self.now) all in
-    c.turn_each-taken.ensures.reasons (times_of c.seat.new.self)
-    (rw (c.in_ok-seat.ensures.times ∙ began) (inl c.round-round.ensures.now)) (rw c.deref_mut.ensures.value a.0) a.1
+    now (times_of c.args.self.now) (places_of c.args.self.now) (ended_of c.args.self.now) has)) in
+    let turn = c.seat.ensures.turn before c.ask.ensures.turn in
+    let longer = all_in_time now _ (times_of c.args.self.now) (done_of (door_of c.args.self.now))
+    (done_of (door_of c.seat.new.self)) turn (ended_of c.args.self.now) all in
+    c.turn_each-taken.ensures.reasons (times_of c.seat.new.self) (done_of (door_of c.seat.new.self))
+    (rw (c.in_ok-seat.ensures.times ∙ began, turn) (inl (
+      c.round-round.ensures.now,
+      λ w. sym c.round-round.ensures.wanted ∙ w,
+    )))
+    (rw c.deref_mut.ensures.value a.0) a.1
     (rw (c.in_ok-seat.ensures.times ∙ began, c.in_ok-seat.ensures.ended) longer)
 
 pub returns-clause-counts : goal.returns-clause-counts
@@ -85,5 +94,7 @@ pub returns-in_err-seat-clause-reasons : goal.returns-in_err-seat-clause-reasons
 returns-in_err-seat-clause-reasons g c = λ has all.
     let began : c.and-self.result.items ≡ c.args.self.now.watch.now ∷ times_of c.args.self.now =
     ap (λ (t : Trace Duration). t.items) c.and-self.ensures in
-    let longer = all_with_time c.args.self.now.watch.now (times_of c.args.self.now) (ended_of c.args.self.now) all in
+    let turn = c.seat.ensures.turn (waits_in (done_of (door_of c.args.self.now))) c.ask.ensures.turn in
+    let longer = all_in_time c.args.self.now.watch.now _ (times_of c.args.self.now)
+    (done_of (door_of c.args.self.now)) (done_of (door_of c.seat.new.self)) turn (ended_of c.args.self.now) all in
     rw (c.in_err-seat.ensures.times ∙ began, c.in_err-seat.ensures.ended) longer
