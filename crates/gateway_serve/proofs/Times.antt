@@ -1,13 +1,16 @@
 -- Times stay among those of a server's turns.
 use Rattle.std.proofs.Common.{◌≡◌, ℕ, Bool, true, false, List, [], ◌∷◌, Option, Some, None, get_or, inl, inr}
-use Rattle.std.proofs.Common.{if◌then◌else◌}
+use Rattle.std.proofs.Common.{if◌then◌else◌, sym, ap, ◌∙◌, subst, arith, rules}
+use Rattle.std.specs.Prelude.{IfSome, IsNone}
+use Rattle.std.specs.Duration.{as_nanos}
 use Rattle.std.specs.declared.time.Duration.{Duration}
 use Rattle.gateway_serve.specs.Gone.{IsAmong, IsTimed, IsTurn, opened_at, moved_at}
 use Rattle.tus_session.specs.declared.at.At as session
 use Rattle.gateway_serve.specs.Reasons.{begun_by, since_by}
 use Rattle.gateway_serve.specs.Requests.{is_same, part_of, request_by, request_from, request_in}
 use Rattle.gateway_serve.specs.Streams.{PlaceHas, AllHad, AllHave}
-use Rattle.gateway_serve.specs.Times.{IsRequestTimed}
+use Rattle.gateway_serve.specs.Rests.{read_or}
+use Rattle.gateway_serve.specs.Times.{HasShown, IsRequestTimed, IsTime, Shows}
 use Rattle.gateway_serve.specs.declared.requests.Part.{Part}
 use Rattle.gateway_serve.specs.declared.requests.Request.{Request}
 use Rattle.gateway_serve.specs.declared.places.Place.{Place}
@@ -96,3 +99,54 @@ pub none_streamed : {S : Type 0} (remaining contents : S → Option (List ℕ)) 
     (places : List (Place S)) (ended : List Seen) → places ≡ [] → ended ≡ []
     → AllHave remaining contents times places × AllHad remaining contents times ended
 none_streamed remaining contents times places ended free none = (λ n. rw free tt, rw none tt)
+
+-- WHAT THE CLOCK SHOWED, at first
+first_time : (answer : Option Duration) (now : Duration) → IfSome answer (λ time. now ≡ time)
+    → (IsNone answer → as_nanos now ≡ 0) → IsTime now (answer ∷ [])
+first_time None now read unread = unread (search rules)
+first_time (Some time) now read unread = read
+
+pub shows_first : (before shown : List (Option Duration)) (answer : Option Duration) (now : Duration)
+    (times : List Duration) → shown ≡ answer ∷ before → IfSome answer (λ time. now ≡ time)
+    → (IsNone answer → as_nanos now ≡ 0) → times ≡ [] → Shows before shown now times
+shows_first before shown answer now times asked read unread none = record {
+  latest = answer;
+  answers = [];
+  asked = asked;
+  next = first_time answer now read unread;
+  began = rw none tt;
+}
+
+-- after a turn more
+time_read : (answer : Option Duration) (now now' : Duration) (answers : List (Option Duration))
+    → now' ≡ read_or answer now → IsTime now answers → IsTime now' (answer ∷ answers)
+time_read None now now' answers read is = subst (λ (time : Duration). IsTime time answers) (sym read) is
+time_read (Some time) now now' answers read is = read
+
+module _ (before shown : List (Option Duration)) (now : Duration) (times times' : List Duration)
+    (s : Shows before shown now times) (turn : times' ≡ now ∷ times) where
+  pub shows_on : (shown' : List (Option Duration)) (answer : Option Duration) (now' : Duration)
+      → shown' ≡ answer ∷ shown → now' ≡ read_or answer now → Shows before shown' now' times'
+  shows_on shown' answer now' asked is = record {
+    latest = answer;
+    answers = s.latest ∷ s.answers;
+    asked = asked ∙ ap (λ l. answer ∷ l) s.asked;
+    next = time_read answer now now' (s.latest ∷ s.answers) is s.next;
+    began = rw turn (s.next, s.began);
+  }
+
+  -- or after a fault in it
+  pub shows_last : HasShown before shown times'
+  shows_last = record {
+    more = [];
+    answers = s.latest ∷ s.answers;
+    asked = s.asked;
+    once = omega arith;
+    began = rw turn (s.next, s.began);
+  }
+
+-- and when serving is over
+pub shown_all : (before shown : List (Option Duration)) (now : Duration) (times : List Duration)
+    → Shows before shown now times → HasShown before shown times
+shown_all before shown now times s =
+    record { more = s.latest ∷ []; answers = s.answers; asked = s.asked; once = omega arith; began = s.began }

@@ -7,6 +7,7 @@ use Rattle.gateway_serve.specs.Joined.{places_of, ended_of}
 use Rattle.gateway_serve.specs.Acceptors.{LetsInBy, done_of}
 use Rattle.gateway_serve.specs.Reasons.{AllReasoned}
 use Rattle.gateway_serve.specs.Streams.{AllHad, AllHave}
+use Rattle.gateway_serve.specs.Times.{Shows}
 use Rattle.std.specs.declared.time.Duration.{Duration}
 use Rattle.gateway_serve.specs.declared.doors.Clients.{Clients}
 use Rattle.gateway_serve.specs.declared.doors.Door.{Door}
@@ -33,6 +34,10 @@ refused_by s = (door_of s).clients.refused
 -- each client that got a connection has it, or its socket ended
 abbrev pub IsCounted : {S : Type 0} → Server S → Type 0
 IsCounted s = opened_by s ≡ length (ended_of s) + open_in (places_of s)
+
+-- so the clock showed the times of its turns
+abbrev pub ShowsBy : {S : Type 0} → List (Option Duration) → List (Option Duration) → Server S → Type 0
+ShowsBy before shown s = Shows before shown s.watch.now (times_of s)
 
 -- each connection has the stream that was accepted, and each socket that ended had one. Their times are those of turns
 abbrev pub HasStreams : {S : Type 0} → (S → Option (List ℕ)) → (S → Option (List ℕ)) → Server S → Type 0

@@ -3,6 +3,7 @@
 
 mod acceptors;
 mod buffers;
+mod clocks;
 mod doors;
 mod drains;
 mod idle;
@@ -19,6 +20,7 @@ mod stages;
 mod stays;
 
 pub use acceptors::{Acceptor, Listening};
+pub use clocks::{Showing, Timer};
 pub use doors::{AtDoor, Clients};
 pub use drains::MOST_DRAINING;
 pub use laws::known_talks;

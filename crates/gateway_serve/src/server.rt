@@ -1,6 +1,7 @@
 //! A server: the connections that are open, and the listener's clients.
-ghost use Rattle.std.specs.Prelude.{◌≡◌, ◌↔◌, ◌<◌, ◌≤◌, ◌+◌, ◌^◌, ℕ, List, [], Bool, is_some, length};
-ghost use Rattle.std.specs.Prelude.{IfSome, IsErr, IsFalse, IsNone, IsTrue, None, OnOk};
+ghost use Rattle.std.specs.Prelude.{◌≡◌, ◌↔◌, ◌<◌, ◌≤◌, ◌+◌, ◌^◌, ℕ, List, [], ◌∷◌, Bool, is_some, length};
+ghost use Rattle.std.specs.Prelude.{IfSome, IsErr, IsFalse, IsNone, IsTrue, None, OnOk, Option};
+ghost use Rattle.std.specs.declared.time.Duration.{Duration};
 ghost use Rattle.upload_rules.specs.Answers.{Counts};
 ghost use Rattle.gateway_serve.specs.Acceptors.{HasServed, LetsInBy, TakesTurn, TakesTurns};
 ghost use Rattle.gateway_serve.specs.Acceptors.{done_of, done_with, one_when};
@@ -10,13 +11,16 @@ ghost use Rattle.gateway_serve.specs.Joined.{StaysJoined, AllEnded, LetsGo, IsFr
 ghost use Rattle.gateway_serve.specs.Longest.{IsLongest};
 ghost use Rattle.gateway_serve.specs.Reasons.{EndsReasoned, IsLeftReasoned};
 ghost use Rattle.gateway_serve.specs.Streams.{AllHad};
+ghost use Rattle.gateway_serve.specs.Times.{HasShown};
 ghost use Rattle.gateway_serve.specs.Turns.{HasRoom, IsCounted, IsUnvisited, HasNoPlace, NoneIsFree, RestStays};
-ghost use Rattle.gateway_serve.specs.Turns.{HasStreams, IsReasoned, closed_of, door_of, opened_by, refused_by, times_of};
+ghost use Rattle.gateway_serve.specs.Turns.{HasStreams, IsReasoned, ShowsBy};
+ghost use Rattle.gateway_serve.specs.Turns.{closed_of, door_of, opened_by, refused_by, times_of};
 
 use crate::acceptors::Acceptor;
+use crate::clocks::Timer;
 use crate::doors::Door;
 use crate::drains::Drains;
-use crate::idle::{Watch, time};
+use crate::idle::Watch;
 use crate::places::{Place, unless_failed};
 use crate::rounds::{Round, end_each, first_free, free_each, longest_pause, turn_each};
 use crate::sockets::{Seen, Untouched};
@@ -56,6 +60,7 @@ impl<S: Read + Write + OpenStream + Drop> Server<S> {
         ensures opened { opened_by result ≡ 0 }
         ensures refused { refused_by result ≡ 0 }
         ensures times { times_of result ≡ [] }
+        ensures watch { result.watch ≡ watch }
     {
         Server {
             alloc,
@@ -72,15 +77,17 @@ impl<S: Read + Write + OpenStream + Drop> Server<S> {
 
     /// Takes turns until so many connections were closed, at most so many turns. Then the open connections are ended,
     /// in order. After a disk fault their sockets are let go.
-    pub(crate) fn serve<A: Acceptor<Stream = S>, C: Connections, T: Clock>(
+    pub(crate) fn serve<A: Acceptor<Stream = S>, C: Connections, T: Timer>(
         &mut self,
-        clock: &T,
+        clock: &mut T,
         acceptor: &mut A,
         gateway: &mut C,
         connections: u64,
         turns: u64,
     ) -> Result<(), DiskFault>
         requires { IsUnvisited self.old }
+        ensures times { (before : List (Option Duration)) → ShowsBy before (T.shown clock.old) self.old
+            → HasShown before (T.shown clock.new) (times_of self.new) }
         ensures reasons { IsLeftReasoned (times_of self.new) (done_of (door_of self.new)) (ended_of self.new) }
         ensures streams { AllHad S.remaining S.contents (times_of self.new) (ended_of self.new) }
         ensures serves { LetsGo C.Connections gateway.old gateway.new result (places_of self.old)
@@ -99,15 +106,17 @@ impl<S: Read + Write + OpenStream + Drop> Server<S> {
     }
 
     // Takes turns, then ends the open connections.
-    fn take_turns<A: Acceptor<Stream = S>, C: Connections, T: Clock>(
+    fn take_turns<A: Acceptor<Stream = S>, C: Connections, T: Timer>(
         &mut self,
-        clock: &T,
+        clock: &mut T,
         acceptor: &mut A,
         gateway: &mut C,
         connections: u64,
         turns: u64,
     ) -> Result<(), DiskFault>
         requires { IsUnvisited self.old }
+        ensures times { (before : List (Option Duration)) → ShowsBy before (T.shown clock.old) self.old
+            → HasShown before (T.shown clock.new) (times_of self.new) }
         ensures reasons { EndsReasoned (times_of self.new) (done_of (door_of self.new)) (ended_of self.new) }
         ensures streams { HasStreams S.remaining S.contents self.new }
         ensures serves { AllEnded C.Connections gateway.old gateway.new result (places_of self.old) (places_of self.new)
@@ -121,9 +130,9 @@ impl<S: Read + Write + OpenStream + Drop> Server<S> {
     {
         let mut left = turns;
         while left > 0 && self.closed < connections {
-            self.turn(clock, acceptor, gateway, connections)?;
-            if let Some(rest) = self.watch.rest(time(clock), self.busy) {
-                thread::sleep(clock, rest);
+            self.turn(clock.clock(), acceptor, gateway, connections)?;
+            if let Some(rest) = self.watch.rest(clock.show(), self.busy) {
+                thread::sleep(clock.clock(), rest);
             }
             left -= 1;
         }
@@ -147,6 +156,8 @@ impl<S: Read + Write + OpenStream + Drop> Server<S> {
     ) -> Result<(), DiskFault>
         requires room { HasRoom (door_of self.old).clients }
         requires waits { (door_of self.old).clients.waits + 1 < 2 ^ 64 }
+        ensures times { times_of self.new ≡ self.old.watch.now ∷ times_of self.old }
+        ensures watch { self.new.watch ≡ self.old.watch }
         ensures reasons { HasStreams S.remaining S.contents self.old → IsReasoned self.old → IsReasoned self.new }
         ensures streams { HasStreams S.remaining S.contents self.old → HasStreams S.remaining S.contents self.new }
         ensures serves { StaysJoined C.Connections gateway.old gateway.new result (places_of self.old)
@@ -213,6 +224,7 @@ impl<S: Read + Write + OpenStream + Drop> Server<S> {
     // socket is closed.
     fn seat<C: Connections>(&mut self, gateway: &mut C) -> Result<(), DiskFault>
         requires { HasRoom (door_of self.old).clients }
+        ensures watch { self.new.watch ≡ self.old.watch }
         ensures times { times_of self.new ≡ times_of self.old }
         ensures streams { IsAmong self.old.watch.now (times_of self.old)
             → HasStreams S.remaining S.contents self.old → HasStreams S.remaining S.contents self.new }
@@ -273,8 +285,8 @@ impl<S: Read + Write + OpenStream + Drop> Server<S> {
         ensures door { door_of self.new ≡ door_of self.old }
         ensures ended { ended_of self.new ≡ ended_of self.old }
         ensures closed { closed_of self.new ≡ closed_of self.old }
-        ensures times { times_of self.new ≡ times_of self.old }
         ensures watch { self.new.watch ≡ self.old.watch }
+        ensures times { times_of self.new ≡ times_of self.old }
     {
         match first_free(&self.places) {
             Some(conn) => Some(conn),
@@ -291,8 +303,8 @@ impl<S: Read + Write + OpenStream + Drop> Server<S> {
         ensures door { door_of self.new ≡ door_of self.old }
         ensures ended { ended_of self.new ≡ ended_of self.old }
         ensures closed { closed_of self.new ≡ closed_of self.old }
-        ensures times { times_of self.new ≡ times_of self.old }
         ensures watch { self.new.watch ≡ self.old.watch }
+        ensures times { times_of self.new ≡ times_of self.old }
     {
         let conn = self.places.len();
         if conn >= MOST_OPEN {

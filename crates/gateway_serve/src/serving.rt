@@ -6,17 +6,19 @@ ghost use Rattle.gateway_serve.specs.Acceptors.{HasServed};
 ghost use Rattle.gateway_serve.specs.Reasons.{IsLeftReasoned};
 ghost use Rattle.gateway_serve.specs.Served.{ServesPart, AllServed, AllLeft};
 ghost use Rattle.gateway_serve.specs.Streams.{AllHad};
+ghost use Rattle.gateway_serve.specs.Times.{HasShown};
 
 use crate::acceptors::Acceptor;
+use crate::clocks::Timer;
 use crate::doors::{AtDoor, Clients};
-use crate::idle::{Watch, time};
+use crate::idle::Watch;
 use crate::server::Server;
 use crate::sockets::Seen;
 use common::{DiskFault, Trace};
 use std::alloc::Global;
 use std::io::{Read, Write};
 use std::net::OpenStream;
-use std::time::{Clock, Duration};
+use std::time::Duration;
 use tus_session::Connections;
 
 /// What serving came to.
@@ -64,8 +66,8 @@ pub struct Outcome<C> {
 /// it.
 ///
 /// After turns in which no socket had anything to do it rests, at most 10 milliseconds.
-pub fn serve_on<A: Acceptor, C: Connections, T: Clock>(
-    clock: &T,
+pub fn serve_on<A: Acceptor, C: Connections, T: Timer>(
+    clock: &mut T,
     alloc: Global,
     acceptor: &mut A,
     gateway: C,
@@ -107,6 +109,10 @@ where
     // - serving was over: at most one for each number of a connection, and one more if the disk failed.
     ensures reasons { IsLeftReasoned result.times.items result.door.items result.ended.items }
 
+    // Each turn began at the time that the clock showed, which was asked once before it, or at that of the turn before,
+    // if it couldn't be read. At the end it was asked once more at most.
+    ensures times { HasShown (T.shown clock.old) (T.shown clock.new) result.times.items }
+
     // Each client that the listener gave got a connection, which is one of these sockets, or was refused one by the
     // session, or waited for a place at the end, which one does at most. Unless the disk failed or so many connections
     // were closed before, it took so many turns, and no more connections were closed than that: in at least every 32nd
@@ -115,7 +121,7 @@ where
         result.clients result.ended.items (IsErr result.served) }
 {
     let mut gateway = gateway;
-    let mut server = Server::new(alloc, Watch::new(time(clock)));
+    let mut server = Server::new(alloc, Watch::new(clock.show()));
     let served = server.serve(clock, acceptor, &mut gateway, connections, turns);
     let Server {
         door,

@@ -2,7 +2,7 @@
 
 use crate::spools::opened;
 use crate::talks::fresh;
-use gateway_serve::{Listening, Outcome, serve_on};
+use gateway_serve::{Listening, Outcome, Showing, serve_on};
 use std::alloc::Global;
 use std::cell::Cell;
 use std::io::{self, ErrorKind, Read, Write};
@@ -176,6 +176,7 @@ where
     L::Stream: Read + Write + OpenStream + Drop,
 {
     let gateway = opened(rt, alloc, fresh(rt, alloc, blocks, None));
+    let mut clock = Showing::new(clock);
     let mut acceptor = Listening::new(clients);
     let Outcome {
         gateway,
@@ -185,7 +186,7 @@ where
         times: _,
         ended: _,
     } = serve_on(
-        clock,
+        &mut clock,
         alloc,
         &mut acceptor,
         gateway,

@@ -3,7 +3,7 @@
 use crate::replies::{Wanted, replies};
 use crate::spools::{calls_of_opening, opened};
 use crate::talks::fresh;
-use gateway_serve::{Listening, Outcome, serve_on};
+use gateway_serve::{Listening, Outcome, Showing, serve_on};
 use spool_disk::{Disk, FuseDisk, MemoryDisk};
 use std::alloc::Global;
 use std::io::{Read, Write};
@@ -93,6 +93,7 @@ fn served<R: Abort + Clock, D: Disk + Drop>(
     connections: u64,
 ) -> (D, bool) {
     let gateway = opened(rt, alloc, disk);
+    let mut clock = Showing::new(rt);
     let mut acceptor = Listening::new(listener);
     let Outcome {
         gateway,
@@ -101,7 +102,7 @@ fn served<R: Abort + Clock, D: Disk + Drop>(
         door: _,
         times: _,
         ended: _,
-    } = serve_on(rt, alloc, &mut acceptor, gateway, connections, 1000);
+    } = serve_on(&mut clock, alloc, &mut acceptor, gateway, connections, 1000);
     (gateway.into_disk(), served.is_ok())
 }
 

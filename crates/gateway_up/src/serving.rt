@@ -19,7 +19,7 @@ use gateway_indexes::{Survey, open_surveyed};
 use gateway_log::{Log, Logged};
 use gateway_orders::Service;
 use gateway_outside::{Failure, Fault, Task, files_to_open, open_spool, refused_spool};
-use gateway_serve::{Acceptor, Listening, MOST_DRAINING, Outcome, serve_on};
+use gateway_serve::{Acceptor, Listening, MOST_DRAINING, Outcome, Showing, serve_on};
 use spool_disk::{DiskFault, FileDisk};
 use spool_image::{OpenFault, Spool};
 use std::alloc::Global;
@@ -66,6 +66,7 @@ fn serve_at<'a>(
         Ok(bound) => bound,
         Err(failure) => return unserved(gateway, failure),
     };
+    let mut clock = Showing::new(rt);
     let mut acceptor = Listening::new(&bound.listener);
     let (connections, turns) = (service.connections, service.turns);
     let Outcome {
@@ -75,7 +76,7 @@ fn serve_at<'a>(
         times: _,
         ended: _,
         served,
-    } = serve_on(rt, alloc, &mut acceptor, gateway, connections, turns);
+    } = serve_on(&mut clock, alloc, &mut acceptor, gateway, connections, turns);
     // If standard error can't be written, the count isn't reported.
     drop(report_served(&mut rt.stderr(), clients.opened));
     outcome(served, service.spool, gateway.into_disk())
@@ -345,6 +346,7 @@ where
     ensures counts { Counts (IsErr result.1) (C.failures gateway) (C.failures result.0) }
 {
     let mut gateway = gateway;
+    let mut clock = Showing::new(rt);
     for _ in 0..u64::MAX {
         let Outcome {
             gateway: next,
@@ -353,7 +355,7 @@ where
             times: _,
             ended: _,
             served,
-        } = serve_on(rt, alloc, acceptor, gateway, u64::MAX, u64::MAX);
+        } = serve_on(&mut clock, alloc, acceptor, gateway, u64::MAX, u64::MAX);
         gateway = next;
         if served.is_err() {
             return (gateway, served);

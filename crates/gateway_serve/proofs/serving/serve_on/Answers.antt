@@ -1,6 +1,8 @@
 use Rattle.std.proofs.Common.{[], arith}
 use Rattle.gateway_serve.specs.Joined.{places_of, ended_of}
+use Rattle.gateway_serve.specs.Turns.{times_of}
 use Rattle.gateway_serve.proofs.All.{new_joins}
+use Rattle.gateway_serve.proofs.Times.{shows_first}
 use Rattle.gateway_serve.proofs.serving.serve_on.Goals as goal
 
 pub returns-clause-serves : goal.returns-clause-serves
@@ -13,3 +15,10 @@ returns-clause-serves g c = λ sure st represents.
     })
     (rw c.new-server.ensures.refused (new_joins sure (places_of c.new-server.result) (ended_of c.new-server.result) st
     c.new-server.ensures.places c.new-server.ensures.ended))
+
+pub returns-clause-times : goal.returns-clause-times
+returns-clause-times g c =
+    c.serve-served.ensures.times (g.T.Timer.shown c.args.clock.now) (shows_first (g.T.Timer.shown c.args.clock.now)
+    (g.T.Timer.shown c.show.new.self) c.show.result c.new-server.result.watch.now (times_of c.new-server.result)
+    c.show.ensures (rw c.new-server.ensures.watch c.new.ensures.read) (rw c.new-server.ensures.watch c.new.ensures.unread)
+    c.new-server.ensures.times)

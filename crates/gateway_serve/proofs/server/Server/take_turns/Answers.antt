@@ -5,7 +5,9 @@ use Rattle.tus_session.proofs.Counting.{uncounted}
 use Rattle.gateway_serve.proofs.NextTurn.{counts_on, next_turn, taken_so}
 use Rattle.gateway_serve.proofs.Counted.{count_most, counted_by, none_counted}
 use Rattle.gateway_serve.proofs.Lost.{all_closed, none_more}
-use Rattle.gateway_serve.proofs.Times.{none_streamed}
+use Rattle.gateway_serve.specs.Rests.{read_or}
+use Rattle.gateway_serve.specs.declared.idle.Watch.{Watch}
+use Rattle.gateway_serve.proofs.Times.{none_streamed, shown_all, shows_last, shows_on}
 use Rattle.gateway_serve.specs.Acceptors.{done_of, passes_of}
 use Rattle.gateway_serve.specs.Turns.{door_of, refused_by, times_of}
 use Rattle.gateway_serve.proofs.server.Server.take_turns.Goals.{then-loop-left-test+else-self-connections}
@@ -29,6 +31,13 @@ loop-left-preserved g c = (
   c.in_ok-turn.ensures.closed c.loop-left.invariant.6 c.loop-left.invariant.7,
   c.in_ok-turn.ensures.stops c.loop-left.invariant.6 c.loop-left.invariant.7,
   c.in_ok-turn.ensures.counted c.loop-left.invariant.8,
+  λ before shows.
+      let s = c.loop-left.invariant.9 before shows in
+      shows_on before (g.T.Timer.shown c.loop-left.clock) c.loop-left.self.watch.now (times_of c.loop-left.self)
+      (times_of c.turn.new.self) s c.turn.ensures.times (g.T.Timer.shown c.show.new.self) c.show.result
+      c.rest.new.self.now c.show.ensures
+      (ap (λ (w : Watch). w.now) c.rest.ensures.time ∙ ap (λ (w : Watch). read_or c.show.result w.now)
+      c.turn.ensures.watch),
 )
 
 pub returns-clause-counted : goal.returns-clause-counted
@@ -140,4 +149,15 @@ loop-left-init g c =
       c.requires.1 ∙ sym no_ended,
       omega (arith, no_ended),
       none_counted _ (ended_of c.args.self.now) (places_of c.args.self.now) c.requires.4 c.requires.2 c.requires.3,
+      λ before shows. shows,
     )
+
+pub returns-clause-times : goal.returns-clause-times
+returns-clause-times g c = λ before shows.
+    shown_all before (g.T.Timer.shown c.loop-left.clock) c.loop-left.self.watch.now (times_of c.loop-left.self)
+    (c.loop-left.invariant.9 before shows)
+
+pub returns-in_err-turn-clause-times : goal.returns-in_err-turn-clause-times
+returns-in_err-turn-clause-times g c = λ before shows.
+    shows_last before (g.T.Timer.shown c.loop-left.clock) c.loop-left.self.watch.now (times_of c.loop-left.self)
+    (times_of c.turn.new.self) (c.loop-left.invariant.9 before shows) c.turn.ensures.times

@@ -1,8 +1,9 @@
-use Rattle.std.proofs.Common.{◌≡◌, ◌≤◌, ◌-◌, length, Result, Ok}
+use Rattle.std.proofs.Common.{◌≡◌, ◌≤◌, ◌-◌, List, length, Option, Result, Ok}
+use Rattle.std.specs.declared.time.Duration.{Duration}
 use Rattle.common.specs.declared.stop.DiskFault.{DiskFault}
 use Rattle.gateway_serve.specs.Acceptors.{LetsInBy}
 use Rattle.gateway_serve.specs.Joined.{StaysJoined, places_of, ended_of}
-use Rattle.gateway_serve.specs.Turns.{HasStreams, IsCounted, IsReasoned, closed_of, door_of, refused_by}
+use Rattle.gateway_serve.specs.Turns.{HasStreams, IsCounted, IsReasoned, ShowsBy, closed_of, door_of, refused_by}
 use Rattle.gateway_serve.proofs.server.Server.take_turns.Given as goal
 
 abbrev pub invariant-loop-left : goal.invariant-loop-left
@@ -19,6 +20,8 @@ invariant-loop-left g l =
     × (closed_of l.self ≡ length (ended_of l.self))
     × (length (ended_of l.self) ≤ l.fn.connections)
     × IsCounted l.self
+    × ((before : List (Option Duration)) → ShowsBy before (g.T.Timer.shown l.fn.clock) l.fn.self
+    → ShowsBy before (g.T.Timer.shown l.clock) l.self)
 
 abbrev pub decreases-loop-left : goal.decreases-loop-left
 decreases-loop-left g l = l.left
