@@ -1,9 +1,11 @@
 -- Times stay among those of a server's turns.
-use Rattle.std.proofs.Common.{◌≡◌, ℕ, Bool, true, false, List, [], ◌∷◌, Option, Some, None, get_or, inl, inr}
+use Rattle.std.proofs.Common.{◌≡◌, ℕ, Bool, true, false, List, [], ◌∷◌, length, Option, Some, None, get_or, inl, inr}
 use Rattle.std.proofs.Common.{if◌then◌else◌, sym, ap, ◌∙◌, subst, arith, rules}
 use Rattle.std.specs.Prelude.{IfSome, IsNone}
 use Rattle.std.specs.Duration.{as_nanos}
 use Rattle.std.specs.declared.time.Duration.{Duration}
+use Rattle.gateway_serve.specs.Acceptors.{count_turns}
+use Rattle.gateway_serve.specs.declared.doors.AtDoor.{AtDoor}
 use Rattle.gateway_serve.specs.Gone.{IsAmong, IsTimed, IsTurn, opened_at, moved_at}
 use Rattle.tus_session.specs.declared.at.At as session
 use Rattle.gateway_serve.specs.Reasons.{begun_by, since_by}
@@ -136,8 +138,9 @@ module _ (before shown : List (Option Duration)) (now : Duration) (times times' 
   }
 
   -- or after a fault in it
-  pub shows_last : HasShown before shown times'
-  shows_last = record {
+  pub shows_last : (done : List AtDoor) → length times' ≡ count_turns done → HasShown before shown done times'
+  shows_last done each = record {
+    each = each;
     more = [];
     answers = s.latest ∷ s.answers;
     asked = s.asked;
@@ -146,7 +149,13 @@ module _ (before shown : List (Option Duration)) (now : Duration) (times times' 
   }
 
 -- and when serving is over
-pub shown_all : (before shown : List (Option Duration)) (now : Duration) (times : List Duration)
-    → Shows before shown now times → HasShown before shown times
-shown_all before shown now times s =
-    record { more = s.latest ∷ []; answers = s.answers; asked = s.asked; once = omega arith; began = s.began }
+pub shown_all : (before shown : List (Option Duration)) (now : Duration) (times : List Duration) (done : List AtDoor)
+    → Shows before shown now times → length times ≡ count_turns done → HasShown before shown done times
+shown_all before shown now times done s each = record {
+  each = each;
+  more = s.latest ∷ [];
+  answers = s.answers;
+  asked = s.asked;
+  once = omega arith;
+  began = s.began;
+}

@@ -2,8 +2,10 @@
 use Rattle.std.specs.Prelude.{◌≡◌, ◌≤◌, List, [], ◌∷◌, ◌++◌, length, Option, Some, None}
 use Rattle.std.specs.Duration.{as_nanos}
 use Rattle.std.specs.declared.time.Duration.{Duration}
+use Rattle.gateway_serve.specs.Acceptors.{count_turns}
 use Rattle.gateway_serve.specs.Gone.{IsAmong, IsTimed}
 use Rattle.gateway_serve.specs.declared.clocks.Showing.{Showing}
+use Rattle.gateway_serve.specs.declared.doors.AtDoor.{AtDoor}
 use Rattle.gateway_serve.specs.declared.links.Link.{Link}
 use Rattle.gateway_serve.specs.declared.requests.Request.{Request}
 
@@ -45,8 +47,11 @@ pub record Shows (before shown : List (Option Duration)) (now : Duration) (times
   pub next : IsTime now (latest ∷ answers)
   pub began : AreTimes times answers
 
--- WHEN IT IS OVER it was asked for the times of these turns, and once more at most
-pub record HasShown (before shown : List (Option Duration)) (times : List Duration) : Type 0 where
+-- WHEN IT IS OVER it was asked for the times of these turns, one for each in which this was done at the door, and once
+-- more at most
+pub record HasShown (before shown : List (Option Duration)) (done : List AtDoor) (times : List Duration) :
+    Type 0 where
+  pub each : length times ≡ count_turns done
   pub more : List (Option Duration)
   pub answers : List (Option Duration)
   pub asked : shown ≡ more ++ (answers ++ before)

@@ -52,7 +52,7 @@ IsReasoned s = AllReasoned (times_of s) (done_of (door_of s)) (ended_of s)
 abbrev pub IsUnvisited : {S : Type 0} → Server S → Type 0
 IsUnvisited s =
     ((before : List Bool) → LetsInBy before before 0 (door_of s)) × (closed_of s ≡ 0) × (ended_of s ≡ [])
-    × (places_of s ≡ []) × (opened_by s ≡ 0)
+    × (places_of s ≡ []) × (opened_by s ≡ 0) × (times_of s ≡ [])
 
 -- one more client can be counted
 abbrev pub HasRoom : Clients → Type 0

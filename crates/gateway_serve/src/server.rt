@@ -87,7 +87,7 @@ impl<S: Read + Write + OpenStream + Drop> Server<S> {
     ) -> Result<(), DiskFault>
         requires { IsUnvisited self.old }
         ensures times { (before : List (Option Duration)) → ShowsBy before (T.shown clock.old) self.old
-            → HasShown before (T.shown clock.new) (times_of self.new) }
+            → HasShown before (T.shown clock.new) (done_of (door_of self.new)) (times_of self.new) }
         ensures reasons { IsLeftReasoned (times_of self.new) (done_of (door_of self.new)) (ended_of self.new) }
         ensures streams { AllHad S.remaining S.contents (times_of self.new) (ended_of self.new) }
         ensures serves { LetsGo C.Connections gateway.old gateway.new result (places_of self.old)
@@ -116,7 +116,7 @@ impl<S: Read + Write + OpenStream + Drop> Server<S> {
     ) -> Result<(), DiskFault>
         requires { IsUnvisited self.old }
         ensures times { (before : List (Option Duration)) → ShowsBy before (T.shown clock.old) self.old
-            → HasShown before (T.shown clock.new) (times_of self.new) }
+            → HasShown before (T.shown clock.new) (done_of (door_of self.new)) (times_of self.new) }
         ensures reasons { EndsReasoned (times_of self.new) (done_of (door_of self.new)) (ended_of self.new) }
         ensures streams { HasStreams S.remaining S.contents self.new }
         ensures serves { AllEnded C.Connections gateway.old gateway.new result (places_of self.old) (places_of self.new)

@@ -109,9 +109,9 @@ where
     // - serving was over: at most one for each number of a connection, and one more if the disk failed.
     ensures reasons { IsLeftReasoned result.times.items result.door.items result.ended.items }
 
-    // Each turn began at the time that the clock showed, which was asked once before it, or at that of the turn before,
-    // if it couldn't be read. At the end it was asked once more at most.
-    ensures times { HasShown (T.shown clock.old) (T.shown clock.new) result.times.items }
+    // There is a time for each turn. Each turn began at the time that the clock showed, which was asked once before it,
+    // or at that of the turn before, if it couldn't be read. At the end it was asked once more at most.
+    ensures times { HasShown (T.shown clock.old) (T.shown clock.new) result.door.items result.times.items }
 
     // Each client that the listener gave got a connection, which is one of these sockets, or was refused one by the
     // session, or waited for a place at the end, which one does at most. Unless the disk failed or so many connections

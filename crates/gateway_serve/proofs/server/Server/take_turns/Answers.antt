@@ -38,6 +38,13 @@ loop-left-preserved g c = (
       c.rest.new.self.now c.show.ensures
       (ap (λ (w : Watch). w.now) c.rest.ensures.time ∙ ap (λ (w : Watch). read_or c.show.result w.now)
       c.turn.ensures.watch),
+  omega (
+    arith,
+    ap length c.turn.ensures.times,
+    c.loop-left.invariant.10,
+    c.loop-left-test.true,
+    c.loop-left.invariant.4,
+  ),
 )
 
 pub returns-clause-counted : goal.returns-clause-counted
@@ -150,14 +157,20 @@ loop-left-init g c =
       omega (arith, no_ended),
       none_counted _ (ended_of c.args.self.now) (places_of c.args.self.now) c.requires.4 c.requires.2 c.requires.3,
       λ before shows. shows,
+      omega (arith, ap length c.requires.5),
     )
 
 pub returns-clause-times : goal.returns-clause-times
 returns-clause-times g c = λ before shows.
+    let lets = c.loop-left.invariant.5 in
     shown_all before (g.T.Timer.shown c.loop-left.clock) c.loop-left.self.watch.now (times_of c.loop-left.self)
-    (c.loop-left.invariant.9 before shows)
+    (done_of (door_of c.loop-left.self)) (c.loop-left.invariant.9 before shows) (c.loop-left.invariant.10 ∙ sym lets.taken)
 
 pub returns-in_err-turn-clause-times : goal.returns-in_err-turn-clause-times
 returns-in_err-turn-clause-times g c = λ before shows.
+    let lets = c.in_err-turn.ensures.clients (g.A.Acceptor.answers c.args.acceptor.now)
+    (c.args.turns - c.loop-left.left) c.loop-left.invariant.5 in
     shows_last before (g.T.Timer.shown c.loop-left.clock) c.loop-left.self.watch.now (times_of c.loop-left.self)
     (times_of c.turn.new.self) (c.loop-left.invariant.9 before shows) c.turn.ensures.times
+    (done_of (door_of c.turn.new.self))
+    (omega (arith, ap length c.turn.ensures.times, c.loop-left.invariant.10, lets.taken))

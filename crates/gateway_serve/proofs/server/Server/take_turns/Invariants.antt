@@ -3,7 +3,8 @@ use Rattle.std.specs.declared.time.Duration.{Duration}
 use Rattle.common.specs.declared.stop.DiskFault.{DiskFault}
 use Rattle.gateway_serve.specs.Acceptors.{LetsInBy}
 use Rattle.gateway_serve.specs.Joined.{StaysJoined, places_of, ended_of}
-use Rattle.gateway_serve.specs.Turns.{HasStreams, IsCounted, IsReasoned, ShowsBy, closed_of, door_of, refused_by}
+use Rattle.gateway_serve.specs.Turns.{HasStreams, IsCounted, IsReasoned, ShowsBy}
+use Rattle.gateway_serve.specs.Turns.{closed_of, door_of, refused_by, times_of}
 use Rattle.gateway_serve.proofs.server.Server.take_turns.Given as goal
 
 abbrev pub invariant-loop-left : goal.invariant-loop-left
@@ -22,6 +23,7 @@ invariant-loop-left g l =
     × IsCounted l.self
     × ((before : List (Option Duration)) → ShowsBy before (g.T.Timer.shown l.fn.clock) l.fn.self
     → ShowsBy before (g.T.Timer.shown l.clock) l.self)
+    × (length (times_of l.self) ≡ l.fn.turns - l.left)
 
 abbrev pub decreases-loop-left : goal.decreases-loop-left
 decreases-loop-left g l = l.left
