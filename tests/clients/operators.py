@@ -647,8 +647,57 @@ def try_in_use(program):
     return len(words)
 
 
+# What becomes of a spool's file while it is served.
+LOSSES = {
+    "removed": lambda spool: spool.unlink(),
+    "cut": lambda spool: os.truncate(spool, 4096),
+    "replaced": lambda spool: shutil.copy(spool, f"{spool}.new") and os.replace(f"{spool}.new", spool),
+    "kept": lambda spool: os.utime(spool),
+}
+
+
+def begin_losses(program):
+    """Serves four spools, and removes, cuts or replaces the files of three of them."""
+    begun = {}
+    for name, lose in LOSSES.items():
+        spool = program.folder / name
+        shutil.copy(program.folder / "listed", spool)
+        words = [program.path, "up", name, "--listen", "127.0.0.1:0"]
+        pipes = {"stdout": subprocess.PIPE, "stderr": subprocess.PIPE, "text": True}
+        begun[name] = subprocess.Popen(words, cwd=program.folder, **pipes)
+        begun[name].stdout.readline()
+        lose(spool)
+    return begun
+
+
+def end_losses(begun):
+    """The gateways tell of their lost files after a minute, and of no other."""
+    for name, process in begun.items():
+        if name == "kept":
+            continue
+        line = process.stderr.readline()
+        told = f"warning: {name} was removed, cut or replaced while it is served: "
+        told += "what is acknowledged is lost at the end\n"
+        holds(f"a spool that is {name} while it is served: {line!r}", line == told)
+    begun["kept"].kill()
+    holds("a spool that is kept is told as lost", begun["kept"].stderr.read() == "")
+
+
 def try_minute(program):
-    """The log's line of a minute has the bodies under way, and what is left in the spool."""
+    """The log's line of a minute has the bodies under way, and what is left in the spool. Lost files are told of."""
+    begun = begin_losses(program)
+    try:
+        count = try_line(program)
+        end_losses(begun)
+        return count
+    finally:
+        for process in begun.values():
+            process.kill()
+            process.wait()
+
+
+def try_line(program):
+    """The log's line of a minute."""
     spool = Spool((program.folder / "listed").read_bytes())
     records = spool.records()
     used = sum(-(-it.length // 4096) for it in records)

@@ -2,3 +2,4 @@ pub mod Addresses
 pub mod Serving
 pub mod Reports
 pub mod Watched
+pub mod Guarded

@@ -28,3 +28,9 @@ abbrev pub few_sockets_line : ℕ → List ℕ
 few_sockets_line sockets =
     codes "warning: as few files may be open (ulimit -n), "
     ++ (decimal sockets ++ codes " of 81 sockets can be: refused clients may see resets\n")
+
+-- the path doesn't lead to the file any more that is served
+abbrev pub gone_line : List ℕ → List ℕ
+gone_line spool =
+    codes "warning: "
+    ++ (spool ++ codes " was removed, cut or replaced while it is served: what is acknowledged is lost at the end\n")

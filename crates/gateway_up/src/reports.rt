@@ -1,7 +1,7 @@
 //! What is printed of serving.
 ghost use Rattle.std.specs.Prelude.{OnOk};
 ghost use Rattle.std.specs.Io.KnownBytes.{Appends};
-ghost use Rattle.gateway_up.specs.Reports.{few_line, few_sockets_line, open_line, served_line, up_line};
+ghost use Rattle.gateway_up.specs.Reports.{few_line, few_sockets_line, gone_line, open_line, served_line, up_line};
 
 use common::SLOTS;
 use gateway_indexes::Survey;
@@ -38,6 +38,16 @@ pub fn report_open<W: Write>(writer: &mut W, address: &str) -> io::Result<()>
     writeln!(
         writer,
         "warning: {address} is open to other machines, and there are no passwords"
+    )
+}
+
+/// Warns that a spool's path doesn't lead to the file any more that is served.
+pub fn report_gone<W: Write>(writer: &mut W, spool: &str) -> io::Result<()>
+    ensures { OnOk result (Appends (W.contents writer.old) (W.contents writer.new) (gone_line spool.now)) }
+{
+    writeln!(
+        writer,
+        "warning: {spool} was removed, cut or replaced while it is served: what is acknowledged is lost at the end"
     )
 }
 

@@ -11,6 +11,7 @@ ghost use Rattle.gateway_outside.specs.SpoolFiles.{IsJustOpened};
 ghost use Rattle.gateway_up.specs.Addresses.{IsLocal};
 ghost use Rattle.gateway_up.specs.Serving.{IsUnopened, ReportsFaults};
 
+use crate::guarded::{Guarded, Sentry};
 use crate::reports::{report_few, report_few_sockets, report_open, report_served, report_up};
 use crate::watched::Watched;
 use common::Stop;
@@ -68,7 +69,7 @@ fn serve_at<'a>(
     };
     let mut clock = Showing::new(rt);
     let mut acceptor = Listening::new(&bound.listener);
-    let (connections, turns) = (service.connections, service.turns);
+    let (most, turns) = (service.connections, service.turns);
     let Outcome {
         gateway,
         clients,
@@ -76,7 +77,7 @@ fn serve_at<'a>(
         times: _,
         ended: _,
         served,
-    } = serve_on(&mut clock, alloc, &mut acceptor, gateway, connections, turns);
+    } = serve_on(&mut clock, alloc, &mut acceptor, gateway, most, turns);
     // If standard error can't be written, the count isn't reported.
     drop(report_served(&mut rt.stderr(), clients.opened));
     outcome(served, service.spool, gateway.into_disk())
@@ -237,10 +238,12 @@ pub fn serve_up<'a>(
         Err(failure) => return Ok(unserved(gateway, failure)),
     };
     warn_of_few(rt, alloc);
+    let sentry = Sentry::new(rt, spool);
     let (gateway, served) = if reporting.has_log(rt) {
-        serve_logged(rt, alloc, &bound.listener, gateway, survey.blocks)
+        serve_logged(rt, alloc, &bound.listener, sentry, gateway, survey.blocks)
     } else {
-        serve_on_and_on(rt, alloc, &mut Listening::new(&bound.listener), gateway)
+        let mut guarded = Guarded::new(Listening::new(&bound.listener), sentry);
+        serve_on_and_on(rt, alloc, &mut guarded, gateway)
     };
     Ok(outcome(served, spool, gateway.into_disk()))
 }
@@ -320,6 +323,7 @@ fn serve_logged(
     rt: &HostRuntime,
     alloc: Global,
     listener: &TcpListener,
+    sentry: Sentry<'_>,
     gateway: Gateway<Spool<FileDisk>>,
     blocks: u64,
 ) -> (Gateway<Spool<FileDisk>>, Result<(), DiskFault>)
@@ -329,7 +333,8 @@ fn serve_logged(
     let log = Log::new(rt, alloc, rt.stderr());
     let watched = Watched::new(gateway, blocks, &log);
     let logged = Logged::new(listener, &log);
-    let (watched, served) = serve_on_and_on(rt, alloc, &mut Listening::new(&logged), watched);
+    let mut guarded = Guarded::new(Listening::new(&logged), sentry);
+    let (watched, served) = serve_on_and_on(rt, alloc, &mut guarded, watched);
     log.end();
     (watched.into_gateway(), served)
 }
