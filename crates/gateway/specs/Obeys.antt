@@ -1,18 +1,24 @@
 -- WHAT EACH ORDER DOES to the files and streams outside, by what they hold before and after.
-use Rattle.std.specs.Prelude.{◌≡◌, ℕ, List, Option, Result, IsErrAnd, ⊤}
+use Rattle.std.specs.Prelude.{◌≡◌, ◌+◌, ℕ, List, Option, Result, IsErrAnd, ⊤}
 use Rattle.common.specs.Counts.{Counts}
 use Rattle.spool_disk.specs.declared.disk.Disk.{Ghosts}
 use Rattle.gateway_orders.specs.declared.orders.Order.{Order}
-use Rattle.gateway_orders.specs.declared.orders.Order.TheVariants.{Delete, DeleteIncomplete, Format, Raise, Upgrade}
+use Rattle.gateway_orders.specs.declared.orders.Order.TheVariants as orders
+use Rattle.gateway_orders.specs.declared.orders.Order.TheVariants.{Delete, DeleteIncomplete, Format, Raise, Text}
+use Rattle.gateway_orders.specs.declared.orders.Order.TheVariants.{Upgrade}
 use Rattle.gateway_outside.specs.Failures.{fault_in}
 use Rattle.gateway_outside.specs.SpoolFiles.{Disks}
 use Rattle.gateway_outside.specs.declared.failures.Failure.{Failure}
 use Rattle.gateway_outside.specs.declared.faults.Fault.TheVariants.{Io}
 use Rattle.gateway_outside.specs.declared.openings.Unopened.{Unopened}
+use Rattle.gateway_indexes.specs.Folders.{Folders}
+use Rattle.gateway_indexes.specs.declared.folders.FolderCall.{FolderCall}
 use Rattle.gateway_format.specs.Formatting.{FormatsAt}
 use Rattle.gateway_format.specs.Raising.{RaisesAt}
 use Rattle.gateway_format.specs.Upgrading.{UpgradesAt}
+use Rattle.gateway_list.specs.Listed.{JsonAt, ListsAt}
 use Rattle.gateway_delete.specs.Deleted.{DeletesAt, FindsAt}
+use Rattle.gateway_text.specs.Texts.{TextsAt}
 
 -- `Io` is answered exactly where the output refused
 abbrev pub IoByOutput : {T : Type 0} → ℕ → ℕ → Result T Failure → Type 0
@@ -20,10 +26,17 @@ IoByOutput refused refused' result = Counts (IsErrAnd result (λ failure. fault_
 
 -- of the other orders nothing is said here yet
 module _ {D : Type 0} (disk : Ghosts D) (holds holds' : Disks D → Type 0) (shut shut' : List Unopened)
-    (before after : Option (List ℕ)) (refused refused' : ℕ) (result : Result (Unit {0}) Failure) where
+    (have : Folders → Type 0) (asked asked' : List FolderCall) (left left' : Option (List ℕ)) (unread unread' : ℕ)
+    (before after : Option (List ℕ)) (refused refused' : ℕ) (Untouched : Type 0)
+    (result : Result (Unit {0}) Failure) where
   abbrev pub Obeys : Order → Type 0
   Obeys (Format spool blocks indexes overwrite standard first) =
-      FormatsAt disk holds holds' spool.now before after result blocks overwrite standard first
+      FormatsAt disk holds holds' have asked asked' spool.now before after result blocks overwrite standard first
+      indexes.now
+  Obeys (orders.List spool long) =
+      ListsAt disk holds holds' shut shut' spool.now before after result long × IoByOutput refused refused' result
+  Obeys (orders.Json spool) =
+      JsonAt disk holds holds' shut shut' spool.now before after result × IoByOutput refused refused' result
   Obeys (Delete spool numbers) = DeletesAt disk holds holds' shut shut' spool.now before after result numbers.items
       × IoByOutput refused refused' result
   Obeys (DeleteIncomplete spool but sure) =
@@ -33,4 +46,7 @@ module _ {D : Type 0} (disk : Ghosts D) (holds holds' : Disks D → Type 0) (shu
       UpgradesAt disk holds holds' shut shut' spool.now before after result × IoByOutput refused refused' result
   Obeys (Raise spool number) =
       RaisesAt disk holds holds' shut shut' spool.now before after result number × IoByOutput refused refused' result
+  Obeys (Text from to mode indexes strict) =
+      TextsAt have asked asked' indexes.now left left' before after (unread + refused) (unread' + refused') Untouched
+      result from.now to.now mode.now strict
   Obeys order = ⊤

@@ -4,9 +4,9 @@ ghost use Rattle.gateway_outside.specs.Failures.{fault_in};
 ghost use Rattle.gateway.specs.Labelling.{fault_of};
 
 use common::Stop;
-use gateway_indexes::{IndexFiles, read_indexes, report_others};
+use gateway_indexes::{IndexFiles, SystemFolders, read_indexes, report_others};
 use gateway_labels::{FIRST, Unread, labels_on, write_json, write_lines, write_notes};
-use gateway_outside::{Failure, Fault, Task};
+use gateway_outside::{Failure, Fault, Noted, Task};
 use std::alloc::Global;
 use std::io::{self, BufWriter, Write};
 
@@ -20,9 +20,9 @@ pub fn labels_file<'a>(
     all: bool,
     json: bool,
 ) -> Result<(), Failure<'a>> {
-    let IndexFiles { set, files } = read_indexes(rt, alloc, folder)?;
+    let IndexFiles { set, files } = read_indexes(alloc, &mut SystemFolders::new(rt), folder)?;
     // If standard error can't be written, this isn't reported.
-    drop(report_others(&mut rt.stderr(), &files));
+    drop(report_others(&mut Noted::new(rt.stderr()), &files));
     let most = if all { u64::MAX } else { FIRST };
     let labels = match labels_on(alloc, &set, &mut rt.reader(), most) {
         Ok(labels) => labels,

@@ -1,6 +1,7 @@
 //! The program: a gateway for resumable uploads of text in old and new encodings.
 #![tactic(auto)]
 
+ghost use Rattle.std.specs.Prelude.{◌≡◌};
 ghost use Rattle.gateway.specs.Obeys.{Obeys};
 
 mod labelling;
@@ -11,13 +12,14 @@ use common::Stop;
 use gateway_delete::{delete_in, incomplete_in};
 use gateway_export::export_file;
 use gateway_format::{NewSpool, format_at, raise_in, upgrade_in};
-use gateway_list::{json_file, list_file};
+use gateway_indexes::{IndexFolders, SystemFolders};
+use gateway_list::{json_in, list_in};
 use gateway_orders::{Order, Service, USAGE, read_order, report_usage};
 use gateway_outside::{
-    Closed, Failure, Fault, Noted, Output, SpoolFiles, SystemFiles, Task, ended,
+    Closed, Failure, Fault, Input, Noted, Output, SpoolFiles, SystemFiles, Task, ended,
 };
 use gateway_run::run_script;
-use gateway_text::{WantedText, text_file};
+use gateway_text::{WantedText, text_in};
 use gateway_up::{Reporting, serve_file, serve_up};
 use labelling::labels_file;
 use std::alloc::Global;
@@ -48,25 +50,39 @@ fn run(rt: &HostRuntime, words: &[String]) -> u8 {
 // Does an order, over the system's files and streams: 0.
 fn obey_system<'a>(rt: &'a HostRuntime, order: Order<'a>) -> Result<u8, Failure<'a>> {
     let mut files = SystemFiles::new(rt);
+    let mut folders = SystemFolders::new(rt);
+    let mut input = Noted::new(rt.reader());
     let mut output = Noted::new(io::writer(rt));
     let mut errors = Noted::new(rt.stderr());
-    match obey(rt, &mut files, &mut output, &mut errors, order) {
+    match obey(
+        rt,
+        &mut files,
+        &mut folders,
+        &mut input,
+        &mut output,
+        &mut errors,
+        order,
+    ) {
         Ok(()) => Ok(0),
         Err(failure) => Err(failure),
     }
 }
 
 // Does an order, over these files and streams.
-fn obey<'a, F: SpoolFiles, W: Output, E: Output>(
+fn obey<'a, F: SpoolFiles, R: IndexFolders, I: Input, W: Output, E: Output>(
     rt: &'a HostRuntime,
     files: &mut F,
+    folders: &mut R,
+    input: &mut I,
     output: &mut W,
     errors: &mut E,
     order: Order<'a>,
 ) -> Result<(), Failure<'a>>
     ensures { Obeys F.File.Disk (F.holds files.old) (F.holds files.new) (F.unopened files.old) (F.unopened files.new)
-        (W.contents output.old) (W.contents output.new) (W.refusals output.old) (W.refusals output.new) result
-        order.entry }
+        (R.have folders.old) (R.calls folders.old) (R.calls folders.new) (I.remaining input.old)
+        (I.remaining input.new) (I.refusals input.old) (I.refusals input.new) (W.contents output.old)
+        (W.contents output.new) (W.refusals output.old) (W.refusals output.new)
+        ((input.new ≡ input.old) × (output.new ≡ output.old)) result order.entry }
 {
     let alloc = rt.alloc();
     match order {
@@ -85,7 +101,7 @@ fn obey<'a, F: SpoolFiles, W: Output, E: Output>(
                 standard,
                 first,
             };
-            format_at(rt, alloc, files, output, spool, wanted)
+            format_at(alloc, files, folders, output, errors, spool, wanted)
         }
         Order::Script { spool } => run_script(rt, alloc, spool),
         Order::Serve(service) => serve(rt, service),
@@ -95,8 +111,8 @@ fn obey<'a, F: SpoolFiles, W: Output, E: Output>(
             quiet,
             log,
         } => up(rt, spool, listen, Reporting { quiet, log }),
-        Order::List { spool, long } => list_file(rt, alloc, spool, long),
-        Order::Json { spool } => json_file(rt, alloc, spool),
+        Order::List { spool, long } => list_in(alloc, files, output, errors, spool, long),
+        Order::Json { spool } => json_in(alloc, files, output, spool),
         Order::Delete { spool, numbers } => delete_in(alloc, files, output, spool, &numbers),
         Order::DeleteIncomplete { spool, but, yes } => {
             incomplete_in(alloc, files, output, errors, spool, &but, yes)
@@ -109,17 +125,15 @@ fn obey<'a, F: SpoolFiles, W: Output, E: Output>(
             mode,
             indexes,
             strict,
-        } => text_file(
-            rt,
-            alloc,
-            WantedText {
+        } => {
+            let wanted = WantedText {
                 from,
                 to,
                 mode,
                 strict,
-            },
-            indexes,
-        ),
+            };
+            text_in(alloc, folders, input, output, errors, wanted, indexes)
+        }
         Order::Upgrade { spool } => upgrade_in(alloc, files, output, spool),
         Order::Raise { spool, number } => raise_in(alloc, files, output, spool, number),
     }

@@ -20,7 +20,9 @@ use Rattle.gateway_outside.specs.SpoolFiles.{Disks, Leaves, LeavesOthers, OnlyRe
 use Rattle.gateway_outside.specs.declared.failures.Failure.{Failure}
 use Rattle.gateway_outside.specs.declared.faults.Fault.{Fault}
 use Rattle.gateway_outside.specs.declared.faults.Fault.TheVariants as faults
+use Rattle.gateway_indexes.specs.Folders.{Folders, IsUnwanted, ReadsFolder}
 use Rattle.gateway_indexes.specs.Found.{AreStandard}
+use Rattle.gateway_indexes.specs.declared.folders.FolderCall.{FolderCall}
 use Rattle.gateway_indexes.specs.declared.index_files.IndexFile.{IndexFile}
 use Rattle.gateway_format.specs.Blanks.{IsBlank}
 use Rattle.gateway_format.specs.Reports.{formatted_lines}
@@ -82,29 +84,34 @@ AnswersFormat blocks first before after result (Ok made) =
     EndsWellBut result faults.Io × OnOk result (Appends before after (formatted_lines blocks made.pages first))
 AnswersFormat blocks first before after result (Err failure) = (result ≡ Err failure) × (after ≡ before)
 
--- by these index files, which are the standard's where they have to be
-pub record FormatsBy {D : Type 0} (disk : Ghosts D) (holds holds' : Disks D → Type 0) (path : List ℕ) (blocks : ℕ)
-    (overwrite standard : Bool) (first : Option ℕ) (before after : Option (List ℕ))
-    (result : Result (Unit {0}) Failure) : Type 0
+-- by the index files of a folder, each of which was read, and is the standard's where it has to be
+pub record FormatsBy {D : Type 0} (disk : Ghosts D) (holds holds' : Disks D → Type 0) (have : Folders → Type 0)
+    (asked asked' : List FolderCall) (path : List ℕ) (before after : Option (List ℕ))
+    (result : Result (Unit {0}) Failure) (blocks : ℕ) (overwrite standard : Bool) (first : Option ℕ)
+    (folder : List ℕ) : Type 0
   where
     pub set : IndexSet
-    pub found : List IndexFile
+    pub files : List IndexFile
+    pub read : ReadsFolder have folder asked asked' set files
+    pub are_standard : standard ≡ true → AreStandard files
     pub answer : Result Made Failure
     pub formats : Formats disk holds holds' path blocks set overwrite first answer
     pub answers : AnswersFormat blocks first before after result answer
-    pub are_standard : standard ≡ true → AreStandard found
 
 -- nothing was done: the index files couldn't be read, or aren't those that they have to be
-pub record Undone {D : Type 0} (holds holds' : Disks D → Type 0) (before after : Option (List ℕ))
-    (result : Result (Unit {0}) Failure) : Type 0
+pub record Unread {D : Type 0} (holds holds' : Disks D → Type 0) (have : Folders → Type 0)
+    (asked asked' : List FolderCall) (before after : Option (List ℕ)) (result : Result (Unit {0}) Failure)
+    (standard : Bool) (folder : List ℕ) : Type 0
   where
-    pub refused : IsErr result
+    pub refused : IsErrAnd result (λ failure. IsUnwanted have folder asked asked' standard (fault_in failure))
     pub kept : (disks : Disks D) → holds disks → holds' disks
     pub unprinted : after ≡ before
 
--- WHAT THE COMMAND PROMISES of the file at a path
-abbrev pub FormatsAt : {D : Type 0} → Ghosts D → (Disks D → Type 0) → (Disks D → Type 0) → List ℕ → Option (List ℕ)
-    → Option (List ℕ) → Result (Unit {0}) Failure → ℕ → Bool → Bool → Option ℕ → Type 0
-FormatsAt disk holds holds' path before after result blocks overwrite standard first =
-    Undone holds holds' before after result
-    ⊎ FormatsBy disk holds holds' path blocks overwrite standard first before after result
+-- WHAT THE COMMAND PROMISES of the file at a path, and of the index files of a folder
+module _ {D : Type 0} (disk : Ghosts D) (holds holds' : Disks D → Type 0) (have : Folders → Type 0)
+    (asked asked' : List FolderCall) (path : List ℕ) (before after : Option (List ℕ))
+    (result : Result (Unit {0}) Failure) where
+  abbrev pub FormatsAt : ℕ → Bool → Bool → Option ℕ → List ℕ → Type 0
+  FormatsAt blocks overwrite standard first folder =
+      Unread holds holds' have asked asked' before after result standard folder
+      ⊎ FormatsBy disk holds holds' have asked asked' path before after result blocks overwrite standard first folder

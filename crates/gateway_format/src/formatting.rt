@@ -18,7 +18,6 @@ ghost use Rattle.gateway_outside.specs.Failures.{fault_in};
 ghost use Rattle.gateway_outside.specs.Faults.{creating_fault, opening_fault};
 ghost use Rattle.gateway_outside.specs.Openings.{EndsWellBut};
 ghost use Rattle.gateway_outside.specs.SpoolFiles.{Disks, Leaves, LeavesOthers, OnlyRead};
-ghost use Rattle.gateway_indexes.specs.Found.{all_standard};
 ghost use Rattle.gateway_format.specs.Blanks.{IsBlank};
 ghost use Rattle.gateway_format.specs.Formatting.{Formats, FormatsAt, IsHonestAt, IsReason, IsRefusedFor};
 ghost use Rattle.gateway_format.specs.Reports.{formatted_lines};
@@ -27,8 +26,8 @@ use crate::blanks::is_blank;
 use crate::raising::raise_to;
 use crate::reports::{report_formatted, report_longer};
 use enc_index::IndexSet;
-use gateway_indexes::{IndexFile, IndexFiles, read_indexes, refuse_others, report_read};
-use gateway_outside::{Advice, Failure, Fault, Output, SpoolFiles, Task};
+use gateway_indexes::{IndexFile, IndexFolders, read_wanted, report_read};
+use gateway_outside::{Advice, Failure, Fault, Output, Refused, SpoolFiles, Task};
 use spool_disk::{CreateError, Disk};
 use spool_image::{FormatError, LATEST, format, is_spool, pages_of};
 use spool_journal::PAGE;
@@ -87,53 +86,29 @@ pub fn format_on<D: Disk>(disk: &mut D, blocks: u32, indexes: &IndexSet) -> Resu
 /// spool stays as it is, and so does one that has a byte other than zero, unless it may be overwritten. With `standard`
 /// the index files have to be the standard's: if some aren't, the file isn't even opened. What warns is told first, on
 /// standard error: of the index files, and of a file that is longer than the spool.
-pub fn format_at<'a, F: SpoolFiles, W: Output>(
-    rt: &HostRuntime,
+pub fn format_at<'a, F: SpoolFiles, R: IndexFolders, W: Output, E: Output>(
     alloc: Global,
     files: &mut F,
+    folders: &mut R,
     output: &mut W,
+    errors: &mut E,
     path: &'a str,
     wanted: NewSpool<'a>,
 ) -> Result<(), Failure<'a>>
-    ensures { FormatsAt F.File.Disk (F.holds files.old) (F.holds files.new) path.now (W.contents output.old)
-        (W.contents output.new) result wanted.entry.blocks wanted.entry.overwrite wanted.entry.standard
-        wanted.entry.first }
+    // The index files were read and the spool made with them, or it was refused, each for its reason. The other files
+    // stay.
+    ensures formats { FormatsAt F.File.Disk (F.holds files.old) (F.holds files.new) (R.have folders.old)
+        (R.calls folders.old) (R.calls folders.new) path.now (W.contents output.old) (W.contents output.new) result
+        wanted.entry.blocks wanted.entry.overwrite wanted.entry.standard wanted.entry.first wanted.entry.indexes.now }
 {
-    let read = match read_indexes(rt, alloc, wanted.indexes) {
+    let read = match read_wanted(alloc, folders, errors, wanted.indexes, wanted.standard) {
         Ok(read) => read,
         Err(failure) => return Err(failure),
     };
-    let IndexFiles { set, files: found } = read;
-    match refuse_unless(rt, wanted.standard, &found, wanted.indexes) {
-        Ok(()) => {}
+    match format_wanted(alloc, files, path, &wanted, &read.set) {
+        Ok(made) => return tell_made(output, errors, path, &wanted, made, &read.files),
         Err(failure) => return Err(failure),
     }
-    match format_wanted(alloc, files, path, &wanted, &set) {
-        Ok(made) => return tell_made(rt, output, path, &wanted, made, &found),
-        Err(failure) => return Err(failure),
-    }
-}
-
-// Refuses index files some of which aren't the standard's, if they have to be. Then they are reported on standard
-// error.
-fn refuse_unless<'a>(
-    rt: &HostRuntime,
-    standard: bool,
-    files: &[IndexFile],
-    folder: &'a str,
-) -> Result<(), Failure<'a>>
-    ensures standard { IsOk result → standard ≡ true → all_standard files.now ≡ true }
-    ensures fault { IfErr result (λ failure. fault_in failure ≡ Fault.OtherIndexes) }
-{
-    if !standard {
-        return Ok(());
-    }
-    let refused = refuse_others(files, folder);
-    if refused.is_err() {
-        // If standard error can't be written, they aren't reported.
-        drop(report_read(&mut rt.stderr(), files));
-    }
-    refused
 }
 
 // Makes the spool that is wanted, with these indexes.
@@ -157,9 +132,9 @@ fn format_wanted<'a, F: SpoolFiles>(
 }
 
 // Tells of a spool that was made. First what warns, since it has to be seen whatever becomes of the rest.
-fn tell_made<'a, W: Output>(
-    rt: &HostRuntime,
+fn tell_made<'a, W: Output, E: Output>(
     output: &mut W,
+    errors: &mut E,
     path: &str,
     wanted: &NewSpool,
     made: Made,
@@ -170,17 +145,15 @@ fn tell_made<'a, W: Output>(
     ensures refused { EndsWellBut result Fault.Io }
 {
     // If standard error can't be written, neither the index files nor the file's length are reported.
-    drop(report_read(&mut rt.stderr(), files));
-    drop(warn_of_length(rt, path, made));
+    drop(report_read(errors, files));
+    drop(warn_of_length(errors, path, made));
     report_formatted(output, wanted.blocks, made.pages, wanted.first)
 }
 
 // Tells of a file that is longer than the spool that was made in it.
-fn warn_of_length(rt: &HostRuntime, path: &str, made: Made) -> io::Result<()> {
+fn warn_of_length<E: Output>(errors: &mut E, path: &str, made: Made) -> Result<(), Refused> {
     match made.there {
-        Some(len) if len > PAGE as u64 * made.pages as u64 => {
-            report_longer(&mut rt.stderr(), path, len)
-        }
+        Some(len) if len > PAGE as u64 * made.pages as u64 => report_longer(errors, path, len),
         _ => Ok(()),
     }
 }

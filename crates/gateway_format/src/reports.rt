@@ -7,7 +7,6 @@ ghost use Rattle.gateway_outside.specs.Openings.{EndsWellBut};
 ghost use Rattle.gateway_format.specs.Reports.{formatted_lines, longer_line, raised_line, upgraded_line};
 
 use gateway_outside::{Failure, Fault, Output, Refused};
-use std::io::{self, Write};
 
 /// Prints what `format` made, and the number of the first upload, if it was given. Refused with `Io`.
 pub(crate) fn report_formatted<'a, W: Output>(
@@ -49,11 +48,11 @@ fn write_formatted<W: Output>(
 }
 
 /// Prints that the file of a spool that was made is longer than the spool, since it was so long before.
-pub(crate) fn report_longer<W: Write>(writer: &mut W, spool: &str, len: u64) -> io::Result<()>
-    ensures { OnOk result (Appends (W.contents writer.old) (W.contents writer.new) (longer_line spool.now len)) }
+pub(crate) fn report_longer<E: Output>(errors: &mut E, spool: &str, len: u64) -> Result<(), Refused>
+    ensures { OnOk result (Appends (E.contents errors.old) (E.contents errors.new) (longer_line spool.now len)) }
 {
     writeln!(
-        writer,
+        errors,
         "{spool} has {len} bytes, as before: more than the spool, which is at its start"
     )
 }

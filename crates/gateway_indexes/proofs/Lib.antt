@@ -1,3 +1,5 @@
 mod Entries
 mod Indexing
+mod Reading
+mod Finding
 mod Digested

@@ -1,8 +1,7 @@
 -- The names of the index files: that of each index of the gateway, as the Encoding Standard names it (section 5).
 use Rattle.std.specs.Prelude.{ℕ, zero, suc, ◌+◌, List, [], ◌∷◌, codes, Option, Some, None}
-use Rattle.std.specs.Prelude.{◌≡◌, Result, Ok, Err}
+use Rattle.std.specs.Prelude.{Result, Ok, Err}
 use Rattle.std.specs.Borrow.{Bor}
-use Rattle.common.specs.declared.stop.Stop.TheVariants.{NoMemory}
 use Rattle.enc_model.specs.declared.Encoding.TheVariants as e
 use Rattle.enc_model.specs.Index.{Index, code}
 use Rattle.enc_model.specs.Indexes.{IndexSet, no_indexes}
@@ -11,10 +10,7 @@ use Rattle.enc_index.specs.Kinds.{set_kind}
 use Rattle.enc_index.specs.declared.kind.Kind.{Kind}
 use Rattle.enc_index.specs.declared.kind.Kind.TheVariants.{Jis0208, Jis0212, Katakana, Single}
 use Rattle.enc_index.specs.declared.kind.ReadError.{ReadError}
-use Rattle.enc_index.specs.declared.kind.ReadError.TheVariants as lines
 use Rattle.gateway_outside.specs.Files.{Files}
-use Rattle.gateway_outside.specs.declared.faults.Fault.{Fault}
-use Rattle.gateway_outside.specs.declared.faults.Fault.TheVariants as faults
 
 -- in the order of a spool's index area
 unfoldable pub index_files : List (List ℕ × Kind)
@@ -38,15 +34,6 @@ with_read set kind (Err error) = set
 abbrev pub with_file : IndexSet → Kind → Option (List ℕ) → IndexSet
 with_file set kind None = set
 with_file set kind (Some bytes) = with_read set kind (pairs_of_file kind bytes)
-
--- why it isn't: the file's first bad line, or memory or the folder
-abbrev pub IsReadFault : List ℕ → Kind → Option (List ℕ) → Fault → Type 0
-IsReadFault name kind there (faults.Stop NoMemory) = Unit {0}
-IsReadFault name kind there faults.Io = Unit {0}
-IsReadFault name kind there (faults.Index file lines.NoMemory) = file.now ≡ name
-IsReadFault name kind (Some bytes) (faults.Index file error) =
-    (file.now ≡ name) × (pairs_of_file kind bytes ≡ Err error)
-IsReadFault name kind there fault = ⊥
 
 -- with what the files of these names have, each as an index of its kind
 unfoldable pub read_as : List (List ℕ × Kind) → Files → IndexSet → IndexSet

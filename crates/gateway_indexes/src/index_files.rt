@@ -1,26 +1,23 @@
 //! The operator's index files.
-ghost use Rattle.std.specs.Prelude.{◌≡◌, ◌↔◌, ◌++◌, ◌∷◌, [], true, IfErr, IfOk, IsOk, OnOk, map, option_map};
-ghost use Rattle.enc_model.specs.Indexes.{no_indexes};
+ghost use Rattle.std.specs.Prelude.{◌≡◌, ◌++◌, ◌∷◌, [], true, IfErr, IfOk, OnOk, map};
+ghost use Rattle.std.specs.IoError.{error_kind};
 ghost use Rattle.gateway_outside.specs.declared.faults.Fault.{Fault};
 ghost use Rattle.gateway_outside.specs.Failures.{fault_in};
-ghost use Rattle.gateway_outside.specs.Files.{Files};
-ghost use Rattle.gateway_indexes.specs.Digests.{found_in};
-ghost use Rattle.gateway_indexes.specs.IndexFiles.{IsReadFault, index_files, indexes_of, named, read_as};
-ghost use Rattle.gateway_indexes.specs.IndexFiles.{standard_entries, with_file};
+ghost use Rattle.gateway_outside.specs.Faults.{reading_fault};
+ghost use Rattle.gateway_indexes.specs.IndexFiles.{index_files, indexes_of, named, standard_entries};
+ghost use Rattle.gateway_indexes.specs.Folders.{Folders, IsFileUnread, IsFolderUnread, IsUnread, IsUnwanted, ReadsFile};
+ghost use Rattle.gateway_indexes.specs.Folders.{ReadsFolder, ReadsRows};
 ghost use Rattle.gateway_indexes.specs.Found.{all_standard, found_by, row_for, row_of};
 
+use crate::folders::IndexFolders;
 use crate::found::Found;
+use crate::reports::report_read;
 use enc_index::{Index, IndexSet, Kind, ReadError};
 use enc_labels::name_of;
 use enc_model::Encoding;
-use gateway_outside::{Advice, Failure, Fault, Task, find_folder};
+use gateway_outside::{Advice, Failure, Fault, Output, Task};
 use std::alloc::{AllocError, Global};
-use std::fmt;
-use std::fs::File;
-use std::io::{self, ErrorKind, Read};
-
-// The most bytes of an index file.
-const MOST: u64 = 1_048_576;
+use std::{fmt, io};
 
 // The names of the files in their folder (the Encoding Standard, section 5), in the order of a spool's index area.
 pub(crate) static FILES: [(&str, Kind); 18] = [
@@ -131,6 +128,7 @@ impl fmt::Display for IndexFile {
 }
 
 /// The index files of a folder.
+#[derive(Drop)]
 pub struct IndexFiles {
     /// The indexes that they have.
     pub set: IndexSet,
@@ -138,93 +136,85 @@ pub struct IndexFiles {
     pub files: Vec<IndexFile>,
 }
 
-/// A folder whose files are read.
-pub trait Readable {
-    /// It has these files.
-    ghost has: { Self → Files → Type 0 };
-
-    /// The content of the file of this name. `None` where there is none.
-    fn read(&self, alloc: Global, name: &str) -> io::Result<Option<Vec<u8>>>
-        ensures { (files : Files) → has self.now files
-            → IfOk result (λ found. option_map (λ bytes. bytes.items) found ≡ files name.now) };
-}
-
-/// A folder of the file system that index files are in.
-///
-/// No contract states which files a file system holds, so it isn't proved that this folder has any. Whoever relies on
-/// it has the premise that it behaves as a folder.
-#[derive(Drop)]
-struct IndexFolder<'a> {
-    rt: &'a HostRuntime,
+/// Reads the index files that are in the folder at this path, which has to be there. A file that isn't there isn't set.
+pub fn read_indexes<'a, R: IndexFolders>(
+    alloc: Global,
+    folders: &mut R,
     path: &'a str,
-}
+) -> Result<IndexFiles, Failure<'a>>
+    // All files of the standard are read, each once, and told of as what they have; the set has their indexes.
+    ensures read { IfOk result (λ read. ReadsFolder (R.have folders.old) path.now (R.calls folders.old)
+        (R.calls folders.new) read.set read.files.items) }
 
-impl Readable for IndexFolder<'_> {
-    // of no files it is known
-    ghost has = { λ folder files. ⊥ };
+    // Where it is known which files there are, these are the indexes and what is told.
+    ensures set { (had : Folders) → R.have folders.old had
+        → IfOk result (λ read. read.set ≡ indexes_of (had path.now)) }
+    ensures found { (had : Folders) → R.have folders.old had → IfOk result
+        (λ read. map (λ file. file.found) read.files.items ≡ map (found_by (had path.now)) index_files) }
 
-    // One that is too long is a fault, as one that can't be read.
-    fn read(&self, alloc: Global, name: &str) -> io::Result<Option<Vec<u8>>> {
-        let path = format!(in alloc; "{}/{name}", self.path)?;
-        let file = match File::open(self.rt, path.as_str()) {
-            Ok(file) => file,
-            Err(error) if error.kind() == ErrorKind::NotFound => return Ok(None),
-            Err(error) => return Err(error),
-        };
-        let mut bytes = Vec::new(alloc);
-        file.take(MOST + 1).read_to_end(&mut bytes)?;
-        if bytes.len() as u64 > MOST {
-            return Err(io::Error::new(ErrorKind::FileTooLarge, "it has more than 1,048,576 bytes"));
-        }
-        Ok(Some(bytes))
+    // A refusal has its reason: a call that failed, a file that is no index of its kind, or memory.
+    ensures refused { IfErr result (λ failure. IsFolderUnread path.now (R.calls folders.old) (R.calls folders.new)
+        (fault_in failure)) }
+    ensures have { (had : Folders) → R.have folders.old had → R.have folders.new had }
+{
+    match folders.find(path) {
+        Ok(()) => return read_rows(alloc, folders, path, &FILES),
+        Err(error) => return Err(unread(Task::FindFolder(path), error)),
     }
 }
 
-/// Reads the index files that are in a folder, which has to be there. A file that isn't there isn't set.
-pub fn read_indexes<'a>(
-    rt: &HostRuntime,
+/// Reads the index files of a folder as `read_indexes` does. With `standard` they have to be the standard's: if some
+/// aren't, they are refused with `OtherIndexes`, and told of on standard error.
+pub fn read_wanted<'a, R: IndexFolders, E: Output>(
     alloc: Global,
-    folder: &'a str,
+    folders: &mut R,
+    errors: &mut E,
+    path: &'a str,
+    standard: bool,
 ) -> Result<IndexFiles, Failure<'a>>
-    ensures { IfOk result (λ read. map row_of read.files.items ≡ map row_for index_files) }
+    ensures read { IfOk result (λ read. ReadsFolder (R.have folders.old) path.now (R.calls folders.old)
+        (R.calls folders.new) read.set read.files.items) }
+    ensures standard { IfOk result (λ read. standard ≡ true → all_standard read.files.items ≡ true) }
+    ensures refused { IfErr result (λ failure. IsUnwanted (R.have folders.old) path.now (R.calls folders.old)
+        (R.calls folders.new) standard (fault_in failure)) }
+    ensures have { (had : Folders) → R.have folders.old had → R.have folders.new had }
 {
-    find_folder(rt, folder, Task::FindFolder(folder))?;
-    read_indexes_from(alloc, &IndexFolder { rt, path: folder }, folder)
+    let read = match read_indexes(alloc, folders, path) {
+        Ok(read) => read,
+        Err(failure) => return Err(failure),
+    };
+    if !standard || are_standard(&read.files) {
+        return Ok(read);
+    }
+    // If standard error can't be written, they aren't told of.
+    drop(report_read(errors, &read.files));
+    Err(Failure::advised(Fault::OtherIndexes, Advice::OtherIndexes(path)))
 }
 
-/// Reads the index files of a folder, which is at this path. A file that isn't there isn't set.
-pub fn read_indexes_from<'a, F: Readable>(
-    alloc: Global,
-    folder: &F,
-    path: &'a str,
-) -> Result<IndexFiles, Failure<'a>>
-    ensures set { (files : Files) → F.has folder.now files → IfOk result (λ read. read.set ≡ indexes_of files) }
-
-    // All files of the standard are told of, each as what it has.
-    ensures rows { IfOk result (λ read. map row_of read.files.items ≡ map row_for index_files) }
-    ensures found { (files : Files) → F.has folder.now files
-        → IfOk result (λ read. map (λ file. file.found) read.files.items ≡ map (found_by files) index_files) }
+// The failure of a call that reads.
+fn unread<'a>(task: Task<'a>, error: io::Error) -> Failure<'a>
+    ensures { fault_in result ≡ reading_fault (error_kind error) }
 {
-    read_rows(alloc, folder, path, &FILES)
+    Failure::new(Fault::of_reading(error.kind()), task, error)
 }
 
 // Reads the files of a table, each as an index of its kind.
-fn read_rows<'a, F: Readable>(
+fn read_rows<'a, R: IndexFolders>(
     alloc: Global,
-    folder: &F,
+    folders: &mut R,
     path: &'a str,
     table: &[(&'static str, Kind)],
 ) -> Result<IndexFiles, Failure<'a>>
-    ensures set { (files : Files) → F.has folder.now files
-        → IfOk result (λ read. read.set ≡ read_as (map named table.now) files no_indexes) }
-    ensures rows { IfOk result (λ read. map row_of read.files.items ≡ map (λ row. row_for (named row)) table.now) }
-    ensures found { (files : Files) → F.has folder.now files → IfOk result
-        (λ read. map (λ file. file.found) read.files.items ≡ map (λ row. found_by files (named row)) table.now) }
+    ensures read { IfOk result (λ read. ReadsRows (R.have folders.old) path.now (map named table.now)
+        (R.calls folders.old) (R.calls folders.new) read.set read.files.items) }
+    ensures refused { IfErr result (λ failure. IsUnread path.now (R.calls folders.old) (R.calls folders.new)
+        (fault_in failure)) }
+    ensures have { (had : Folders) → R.have folders.old had → R.have folders.new had }
 {
     let mut set = IndexSet::new(alloc)?;
     let mut files = Vec::new(alloc);
     for (name, kind) in table {
-        let found = read_into(alloc, &mut set, folder, path, name, *kind)?;
+        let found = read_into(alloc, &mut set, folders, path, name, *kind)?;
         tell(&mut files, IndexFile::new(name, *kind, found))?;
     }
     Ok(IndexFiles { set, files })
@@ -239,28 +229,24 @@ fn tell(files: &mut Vec<IndexFile>, file: IndexFile) -> Result<(), AllocError>
 }
 
 // Reads the index file of this name, where it is there, into a set: what was found of it.
-fn read_into<'a, F: Readable>(
+fn read_into<'a, R: IndexFolders>(
     alloc: Global,
     set: &mut IndexSet,
-    folder: &F,
+    folders: &mut R,
     path: &'a str,
     name: &'static str,
     kind: Kind,
 ) -> Result<Found, Failure<'a>>
-    ensures read { (files : Files) → F.has folder.now files
-        → OnOk result (set.new ≡ with_file set.old kind (files name.now)) }
-    ensures found { (files : Files) → F.has folder.now files
-        → IfOk result (λ found. found ≡ found_in kind (files name.now)) }
-    ensures refused { (files : Files) → F.has folder.now files
-        → IfErr result (λ failure. IsReadFault name.now kind (files name.now) (fault_in failure)) }
+    ensures read { IfOk result (ReadsFile (R.have folders.old) path.now (name.now, kind) (R.calls folders.old)
+        (R.calls folders.new) set.old set.new) }
+    ensures refused { IfErr result (λ failure. IsFileUnread path.now (name.now, kind) (R.calls folders.old)
+        (R.calls folders.new) (fault_in failure)) }
+    ensures have { (had : Folders) → R.have folders.old had → R.have folders.new had }
 {
-    let bytes = match folder.read(alloc, name) {
+    let bytes = match folders.read(alloc, path, name) {
         Ok(Some(bytes)) => bytes,
         Ok(None) => return Ok(Found::Missing),
-        Err(error) => {
-            let task = Task::ReadIndex(path, name);
-            return Err(Failure::new(Fault::from(error), task, error));
-        }
+        Err(error) => return Err(unread(Task::ReadIndex(path, name), error)),
     };
     match Index::read(alloc, &bytes, kind) {
         Ok(index) => {
@@ -281,17 +267,6 @@ fn refused_index<'a>(path: &'a str, name: &'static str, error: ReadError) -> Fai
         ReadError::NoMemory => Failure::from(fault),
         _ => Failure::advised(fault, Advice::IndexFile(path, name)),
     }
-}
-
-/// Refuses index files some of which aren't the standard's.
-pub fn refuse_others<'a>(files: &[IndexFile], folder: &'a str) -> Result<(), Failure<'a>>
-    ensures standard { IsOk result ↔ (all_standard files.now ≡ true) }
-    ensures fault { IfErr result (λ failure. fault_in failure ≡ Fault.OtherIndexes) }
-{
-    if are_standard(files) {
-        return Ok(());
-    }
-    Err(Failure::advised(Fault::OtherIndexes, Advice::OtherIndexes(folder)))
 }
 
 // Whether all of them are the standard's.

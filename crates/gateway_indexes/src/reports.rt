@@ -7,10 +7,10 @@ use crate::found::Found;
 use crate::index_files::IndexFile;
 use crate::surveying::Survey;
 use common::SLOTS;
-use std::io::{self, Write};
+use gateway_outside::{Output, Refused};
 
 /// Prints which index files were read, and which of them aren't the standard's.
-pub fn report_read<W: Write>(writer: &mut W, files: &[IndexFile]) -> io::Result<()>
+pub fn report_read<W: Output>(writer: &mut W, files: &[IndexFile]) -> Result<(), Refused>
     ensures { OnOk result (Appends (W.contents writer.old) (W.contents writer.new) (read_lines files.now)) }
 {
     writeln!(writer, "index files read: {}", count_read(files))?;
@@ -28,7 +28,7 @@ fn count_read(files: &[IndexFile]) -> usize
 }
 
 /// Prints which of the index files that were read aren't the standard's, by which texts are only shown.
-pub fn report_others<W: Write>(writer: &mut W, files: &[IndexFile]) -> io::Result<()>
+pub fn report_others<W: Output>(writer: &mut W, files: &[IndexFile]) -> Result<(), Refused>
     ensures { OnOk result (Appends (W.contents writer.old) (W.contents writer.new) (flat_map other_line files.now)) }
 {
     for file in files {
@@ -38,7 +38,7 @@ pub fn report_others<W: Write>(writer: &mut W, files: &[IndexFile]) -> io::Resul
 }
 
 // Prints that a file isn't the standard's, if it isn't.
-fn report_other<W: Write>(writer: &mut W, file: &IndexFile) -> io::Result<()>
+fn report_other<W: Output>(writer: &mut W, file: &IndexFile) -> Result<(), Refused>
     ensures { OnOk result (Appends (W.contents writer.old) (W.contents writer.new) (other_line file.now)) }
 {
     let (name, encodings) = (file.name, file.encodings);
@@ -52,7 +52,7 @@ fn report_other<W: Write>(writer: &mut W, file: &IndexFile) -> io::Result<()>
 }
 
 /// Prints how much of a spool is free.
-pub fn report_free<W: Write>(writer: &mut W, survey: &Survey) -> io::Result<()>
+pub fn report_free<W: Output>(writer: &mut W, survey: &Survey) -> Result<(), Refused>
     ensures { OnOk result (Appends (W.contents writer.old) (W.contents writer.new) (free_line survey.now)) }
 {
     writeln!(

@@ -5,10 +5,10 @@ ghost use Rattle.gateway_indexes.specs.Reports.{spool_lines};
 use crate::found::Found;
 use crate::index_files::{FILES, IndexFile};
 use enc_index::IndexSet;
+use gateway_outside::{Output, Refused};
 use serde::Serialize;
 use std::alloc::{AllocError, Global};
 use std::fmt;
-use std::io::{self, Write};
 
 /// An index in a spool, and what was found of it. Nothing is to be known of the standard's.
 #[derive(Drop)]
@@ -41,7 +41,7 @@ pub fn found_in(set: &IndexSet) -> [Found; 18] {
 }
 
 /// Prints which indexes a spool hasn't, and which aren't the standard's, by what was found of each.
-pub fn report_indexes<W: Write>(writer: &mut W, found: &[Found]) -> io::Result<()> {
+pub fn report_indexes<W: Output>(writer: &mut W, found: &[Found]) -> Result<(), Refused> {
     for ((name, kind), found) in FILES.iter().zip(found) {
         let file = IndexFile::new(name, *kind, *found);
         write!(writer, "{}", InSpool(file))?;

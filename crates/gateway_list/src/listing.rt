@@ -1,6 +1,6 @@
 //! The uploads of a spool, line by line.
 
-ghost use Rattle.std.specs.Prelude.{◌≡◌, ◌⊎◌, ℕ, Err, IfErr, IfOk, IsOk, None, Ok, OnOk, Some, Bool};
+ghost use Rattle.std.specs.Prelude.{◌≡◌, ◌⊎◌, ℕ, Err, IfErr, IfOk, IsErrAnd, IsErrOf, IsOk, None, OnOk, Bool};
 ghost use Rattle.std.specs.Io.KnownBytes.{Appends};
 ghost use Rattle.common.specs.declared.stop.Stop.{Stop};
 ghost use Rattle.spool_disk.specs.Disk.{Counts, IsImage};
@@ -13,117 +13,79 @@ ghost use Rattle.spool_image.specs.LeftOnly.{AllShow, IsSpool, LeftOrShows};
 ghost use Rattle.spool_image.specs.Opening.{ReadsBy};
 ghost use Rattle.gateway_outside.specs.declared.faults.Fault.{Fault};
 ghost use Rattle.gateway_outside.specs.Failures.{fault_in};
-ghost use Rattle.gateway_outside.specs.Listing.{AnswersAs, IsLineFault, ListRefusedFor, IsListResult, RefusesListAs};
 ghost use Rattle.gateway_outside.specs.InOrder.{IsInOrder};
-ghost use Rattle.gateway_outside.specs.SpoolFiles.{Disks, Leaves, NotOpened, with_disk};
-ghost use Rattle.gateway_outside.specs.Streams.{noted_stream};
-ghost use Rattle.gateway_list.specs.Listed.{ListsAs, RefusedList};
+ghost use Rattle.gateway_outside.specs.Listing.{AnswersAs, IsLineFault, ListRefusedFor, IsListResult, RefusesListAs};
+ghost use Rattle.gateway_outside.specs.SpoolFiles.{Disks, Leaves, with_disk};
+ghost use Rattle.gateway_list.specs.Listed.{ListedIn, ListsAt};
 ghost use Rattle.gateway_list.specs.Lines.{list_lines};
 
+use crate::losses::tell_losses;
 use crate::upload_lines::lines_of;
-use common::SLOTS;
 use gateway_indexes::{Survey, open_surveyed, report_free, report_indexes};
-use gateway_outside::{
-    Failure, Fault, Noted, SpoolFiles, SystemFiles, open_in, refused_by, refused_spool,
-};
-use gateway_texts::{losses_of, report_losses_of};
-use spool_disk::{Disk, FileDisk};
-use spool_image::Spool;
+use gateway_outside::{Failure, Fault, Output, SpoolFiles, open_in, refused_by};
+use spool_disk::Disk;
 use std::alloc::Global;
-use std::io::{self, Write};
 use upload_rules::Uploads;
 
-/// Prints the uploads of the spool in a file, by number, with their metadata or without. On standard error it prints
-/// how much of the spool is free, which indexes it hasn't or are others than the standard's, and, with the metadata,
-/// which texts have U+FFFD.
-pub fn list_file<'a>(
-    rt: &HostRuntime,
-    alloc: Global,
-    spool: &'a str,
-    long: bool,
-) -> Result<(), Failure<'a>> {
-    let mut output = Noted::new(io::writer(rt));
-    let (disk, survey) = list_in(alloc, &mut SystemFiles::new(rt), &mut output, spool, long)?;
-    // If standard error can't be written, this isn't reported.
-    drop(report_free(&mut rt.stderr(), &survey));
-    drop(report_indexes(&mut rt.stderr(), &survey.indexes));
-    if long {
-        report_losses_first(rt, alloc, spool, disk)?;
-    }
-    Ok(())
-}
-
-/// Writes a line for each upload of the spool in the file at this path, as `list_on` does, and surveys the spool. The
-/// file stays open; where it is refused it is closed.
-pub fn list_in<'a, F: SpoolFiles, W: Write>(
+/// Prints the uploads of the spool in the file at this path, by number, with their metadata or without. It tells how
+/// much of the spool is free, which indexes it hasn't or are others than the standard's, and, with the metadata, which
+/// texts have U+FFFD.
+pub fn list_in<'a, F: SpoolFiles, W: Output, E: Output>(
     alloc: Global,
     files: &mut F,
-    writer: &mut Noted<W>,
+    output: &mut W,
+    errors: &mut E,
     path: &'a str,
     long: bool,
-) -> Result<(F::File, Survey), Failure<'a>>
-    // Its disk is listed, with what `list_on` promises. The other files stay.
-    ensures listed { (disks : Disks F.File) (d : F.File) → F.holds files.old disks → disks path.now ≡ Some d
-        → IfOk result (λ opened. F.holds files.new (with_disk disks path.now None) × ListsAs F.File.Disk d opened.0 long
-        (W.contents (noted_stream writer.old)) (W.contents (noted_stream writer.new)) (Ok opened.1)) }
+) -> Result<(), Failure<'a>>
+    // The file was opened, and its uploads listed with what `list_on` promises; then, with the metadata, their texts
+    // were read with what `losses_on` promises. Or the one call that was to open it failed, and nothing was printed.
+    // The other files stay.
+    ensures lists { ListsAt F.File.Disk (F.holds files.old) (F.holds files.new) (F.unopened files.old)
+        (F.unopened files.new) path.now (W.contents output.old) (W.contents output.new) result long }
 
-    // Or it can't be opened, or it is refused as `list_on` refuses it, and then at most looked at.
-    ensures refused { (disks : Disks F.File) (d : F.File) → F.holds files.old disks → disks path.now ≡ Some d
-        → IfErr result (λ failure. Leaves (F.holds files.new) disks path.now
-        (λ d'. NotOpened d failure d' ⊎ RefusedList F.File.Disk d long (W.contents (noted_stream writer.old))
-        (W.contents (noted_stream writer.new)) (fault_in failure) d')) }
+    // `Io` is answered exactly where the output refused: what can't be told is left out.
+    ensures io { Counts (IsErrAnd result (λ failure. fault_in failure ≡ Fault.Io)) (W.refusals output.old)
+        (W.refusals output.new) }
 {
     let disk = match open_in(files, path) {
         Ok(disk) => disk,
         Err(failure) => return Err(failure),
     };
-    let (disk, listed) = list_on(alloc, writer, disk, long);
-    match listed {
-        Ok(survey) => Ok((disk, survey)),
-        Err(fault) => Err(refused_by(files, fault, writer.error(), path, disk)),
-    }
+    list_at(alloc, files, output, errors, path, disk, long)
 }
 
-// Prints on standard error which texts have U+FFFD, and how often.
-fn report_losses_first<'a>(
-    rt: &HostRuntime,
+// Lists the spool at this path, which is open, as `list_in` does. It is closed.
+fn list_at<'a, F: SpoolFiles, W: Output, E: Output>(
     alloc: Global,
-    spool: &'a str,
-    disk: FileDisk,
-) -> Result<(), Failure<'a>> {
-    let mut uploads = match Spool::open(alloc, disk) {
-        Ok(uploads) => uploads,
-        Err((disk, fault)) => return Err(refused_spool(Fault::from(fault), spool, disk)),
-    };
-    let reported = report_all_losses(&mut rt.stderr(), &mut uploads);
-    let disk = uploads.into_disk();
-    match reported {
-        // If standard error can't be written, this isn't reported.
-        Ok(()) | Err(Fault::Io) => Ok(()),
-        Err(fault) => Err(refused_spool(fault, spool, disk)),
-    }
-}
-
-// Prints of each text that has U+FFFD how often.
-fn report_all_losses<W: Write, U: Uploads>(writer: &mut W, uploads: &mut U) -> Result<(), Fault> {
-    let mut number = 0;
-    for _ in 0..SLOTS {
-        let Some(record) = uploads.record_after(number) else {
-            return Ok(());
-        };
-        number = record.number;
-        let to = record.to;
-        let losses = losses_of(uploads, number, to)?;
-        if losses > 0 {
-            report_losses_of(writer, number, losses)?;
+    files: &mut F,
+    output: &mut W,
+    errors: &mut E,
+    path: &'a str,
+    disk: F::File,
+    long: bool,
+) -> Result<(), Failure<'a>>
+    ensures lists { (disks : Disks F.File) → F.holds files.old (with_disk disks path.now None)
+        → Leaves (F.holds files.new) disks path.now
+        (ListedIn F.File.Disk disk long (W.contents output.old) (W.contents output.new) result) }
+    ensures io { Counts (IsErrAnd result (λ failure. fault_in failure ≡ Fault.Io)) (W.refusals output.old)
+        (W.refusals output.new) }
+{
+    let (disk, listed) = list_on(alloc, output, disk, long);
+    match listed {
+        Ok(survey) => {
+            // What isn't taken is left out.
+            drop(report_free(errors, &survey));
+            drop(report_indexes(errors, &survey.indexes));
+            return tell_losses(alloc, files, errors, path, disk, long);
         }
+        Err(fault) => return Err(refused_by(files, fault, output.error(), path, disk)),
     }
-    Ok(())
 }
 
 /// Writes a line for each upload of the spool on a disk, by number, with its metadata or without, and surveys the
 /// spool. The disk is handed back.
-pub fn list_on<D: Disk + Drop, W: Write>(
+pub fn list_on<D: Disk + Drop, W: Output>(
     alloc: Global,
     writer: &mut W,
     disk: D,
@@ -159,6 +121,9 @@ pub fn list_on<D: Disk + Drop, W: Write>(
         → RefusesListAs result.1 Fault.Version }
     ensures damaged { D.honest disk → IsDamaged (D.size disk) (D.current disk) → RefusesListAs result.1 Fault.Damaged }
     ensures counts { Counts (result.1 ≡ Err (Fault.Stop Stop.DiskFault)) (D.failures disk) (D.failures result.0) }
+
+    // `Io` is answered exactly where the writer refused.
+    ensures io { Counts (IsErrOf result.1 Fault.Io) (W.refusals writer.old) (W.refusals writer.new) }
 {
     match open_surveyed(alloc, disk) {
         Ok((spool, survey)) => {
@@ -176,7 +141,7 @@ pub fn list_on<D: Disk + Drop, W: Write>(
 /// Writes a line for each upload, by number, with its metadata or without: all of them at once.
 ///
 /// Refused with `Stop(NoMemory)` before anything was written, and with `Io` where the writer refused.
-pub fn write_uploads<W: Write, U: Uploads>(
+pub fn write_uploads<W: Output, U: Uploads>(
     alloc: Global,
     writer: &mut W,
     uploads: &U,
@@ -186,8 +151,9 @@ pub fn write_uploads<W: Write, U: Uploads>(
     ensures lines { (sure : Bool) (w : World) → U.represents uploads.now sure w → IsInOrder w.store
         → OnOk result (Appends (W.contents writer.old) (W.contents writer.new) (list_lines long w.store)) }
     ensures refused { IfErr result IsLineFault }
+    ensures io { Counts (IsErrOf result Fault.Io) (W.refusals writer.old) (W.refusals writer.new) }
 {
     let lines = lines_of(alloc, uploads, long)?;
-    writer.write_all(lines.as_bytes())?;
+    writer.put(lines.as_bytes())?;
     Ok(())
 }

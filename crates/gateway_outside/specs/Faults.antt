@@ -80,6 +80,11 @@ opening_fault kinds.ResourceBusy = faults.InUse
 opening_fault kinds.OutOfMemory = faults.Stop stops.NoMemory
 opening_fault kind = faults.CannotOpen
 
+-- why a folder isn't found, or a file or a stream isn't read
+abbrev pub reading_fault : ErrorKind → Fault
+reading_fault kinds.OutOfMemory = faults.Stop stops.NoMemory
+reading_fault kind = faults.Io
+
 -- why one that is open isn't lengthened or synced
 abbrev pub lengthening_fault : ErrorKind → Fault
 lengthening_fault kinds.OutOfMemory = faults.Stop stops.NoMemory

@@ -1,5 +1,5 @@
 -- Readers and writers that store something of what their calls gave.
-use Rattle.std.specs.Prelude.{ℕ, Option}
+use Rattle.std.specs.Prelude.{ℕ, ◌-◌, ◌^◌, Option}
 use Rattle.std.specs.declared.io.Error.{Error}
 use Rattle.gateway_outside.specs.declared.streams.Noted.{Noted}
 
@@ -10,6 +10,10 @@ noted_stream noted = noted.stream
 abbrev pub latest_error_of : {S : Type 0} → Noted S → Option Error
 latest_error_of noted = noted.error
 
--- how many calls it refused as output
+-- how many calls it refused as input or output
 abbrev pub refusals_of : {S : Type 0} → Noted S → ℕ
 refusals_of noted = noted.refusals
+
+-- how many more pieces it gives as input at most
+abbrev pub pieces_of : {S : Type 0} → Noted S → ℕ
+pieces_of noted = 2 ^ 64 - noted.given

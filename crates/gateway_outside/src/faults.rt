@@ -1,8 +1,7 @@
 //! Why the program ends before its work is done.
 ghost use Rattle.std.specs.Prelude.{◌≡◌, Some, option_map};
 ghost use Rattle.gateway_outside.specs.Faults.{failure_line, lengthening_fault, numbered_refusal_of, opening_fault};
-ghost use Rattle.gateway_outside.specs.Faults.{row};
-ghost use Rattle.gateway_outside.specs.Faults.{exit_status_of};
+ghost use Rattle.gateway_outside.specs.Faults.{exit_status_of, reading_fault, row};
 
 use crate::streams::Refused;
 use common::Stop;
@@ -102,6 +101,16 @@ impl Fault {
         match kind {
             ErrorKind::OutOfMemory => Fault::Stop(Stop::NoMemory),
             _ => Fault::Stop(Stop::DiskFault),
+        }
+    }
+
+    /// Why a folder isn't found, or a file or a stream isn't read, by the system's error.
+    pub fn of_reading(kind: ErrorKind) -> Self
+        ensures { result ≡ reading_fault kind }
+    {
+        match kind {
+            ErrorKind::OutOfMemory => Fault::Stop(Stop::NoMemory),
+            _ => Fault::Io,
         }
     }
 

@@ -16,7 +16,7 @@ mod streams;
 pub use advice::{Advice, Task, TextAdvice};
 pub use failures::{Failure, ended};
 pub use faults::Fault;
-pub use finding::find_folder;
+pub use finding::{find_folder, look_into};
 pub use laws::shown_in_order;
 pub use memory::MemoryFile;
 pub use openings::Unopened;
@@ -24,4 +24,4 @@ pub use spool_files::{
     SpoolFiles, SystemFiles, open_in, open_spool, refused_by, refused_in, refused_spool,
 };
 pub use standard::{Closed, files_to_open};
-pub use streams::{Noted, Output, Refused};
+pub use streams::{Input, Noted, Output, Refused};

@@ -1,13 +1,14 @@
-//! Readers and writers that store why they failed, and output that counts what it refused.
-ghost use Rattle.std.specs.Prelude.{◌≡◌, ℕ, List, None, Option, IfSome, IsErr, OnOk};
+//! Readers and writers that store why they failed, and input and output that count what they refused.
+ghost use Rattle.std.specs.Prelude.{◌≡◌, ◌≤◌, ◌<◌, ℕ, List, None, Option, IfOk, IfSome, IsErr, OnErr, OnOk};
+ghost use Rattle.std.specs.Prelude.{length, take};
 ghost use Rattle.std.specs.Fmt.{with_newline};
-ghost use Rattle.std.specs.Io.KnownBytes.{Appends};
+ghost use Rattle.std.specs.Io.KnownBytes.{Appends, Consumes, IsAtEnd, Keeps};
 ghost use Rattle.common.specs.Counts.{Counts};
 
 use std::fmt::Display;
 use std::io::{self, ErrorKind, Read, Write};
 
-/// Output was refused.
+/// Input or output was refused.
 #[derive(Clone, Copy, Debug, PartialEq, Eq, Drop)]
 pub struct Refused;
 
@@ -39,12 +40,39 @@ pub trait Output {
     fn error(&self) -> Option<io::Error>;
 }
 
-/// A reader or a writer that stores why its latest call failed. As output it counts the calls that it refused.
+/// Input that counts what it refuses.
+pub trait Input {
+    /// The bytes that it has left, where they are known.
+    ghost remaining: { Self → Option (List ℕ) };
+
+    /// How many calls it refused, up to 2^64 - 1.
+    ghost refusals: { Self → ℕ };
+
+    /// How many more pieces it gives at most.
+    ghost pieces: { Self → ℕ };
+
+    /// Reads into the prefix of the piece: how many bytes, none only at the end.
+    fn read_piece(&mut self, piece: &mut [u8]) -> Result<usize, Refused>
+        ensures within { IfOk result (λ count. count ≤ length piece.old) }
+        ensures same { length piece.new ≡ length piece.old }
+        ensures ok { IfOk result (λ count. Consumes (remaining self.old) (remaining self.new) (take count piece.new)) }
+        ensures end { IfOk result (λ count. count ≡ 0 → 0 < length piece.old → IsAtEnd (remaining self.new)) }
+        ensures unchanged { OnErr result (Keeps (remaining self.old) (remaining self.new)) }
+        ensures fewer { OnOk result (pieces self.new < pieces self.old) }
+        ensures counts { Counts (IsErr result) (refusals self.old) (refusals self.new) };
+
+    /// Why a call was refused last. `None` where none was.
+    fn error(&self) -> Option<io::Error>;
+}
+
+/// A reader or a writer that stores why its latest call failed. As input or output it counts the calls that it refused.
 #[derive(Drop)]
 pub struct Noted<S> {
     stream: S,
     error: Option<io::Error>,
     refusals: u64,
+    /// how many pieces it gave as input
+    given: u64,
 }
 
 impl<S> Noted<S> {
@@ -60,6 +88,7 @@ impl<S> Noted<S> {
             stream,
             error: None,
             refusals: 0,
+            given: 0,
         }
     }
 
@@ -119,6 +148,56 @@ impl<W: Write> Write for Noted<W> {
         let outcome = self.stream.flush();
         self.error = outcome.err();
         outcome
+    }
+}
+
+// One read, tried again where it is interrupted.
+fn read_on<R: Read>(reader: &mut R, piece: &mut [u8]) -> io::Result<usize>
+    ensures within { IfOk result (λ count. count ≤ length piece.old) }
+    ensures same { length piece.new ≡ length piece.old }
+    ensures ok { IfOk result (λ count. Consumes (R.remaining reader.old) (R.remaining reader.new)
+        (take count piece.new)) }
+    ensures end { IfOk result (λ count. count ≡ 0 → 0 < length piece.old → IsAtEnd (R.remaining reader.new)) }
+    ensures unchanged { OnErr result (Keeps (R.remaining reader.old) (R.remaining reader.new)) }
+{
+    for _ in 0..u64::MAX {
+        match reader.read(piece) {
+            Ok(count) => return Ok(count),
+            Err(error) => {
+                if error.kind() != ErrorKind::Interrupted {
+                    return Err(error);
+                }
+            }
+        }
+    }
+    Err(io::Error::from(ErrorKind::Interrupted))
+}
+
+impl<R: Read> Input for Noted<R> {
+    ghost use Rattle.gateway_outside.specs.Streams.{noted_stream, pieces_of, refusals_of};
+
+    ghost remaining = { λ noted. R.remaining (noted_stream noted) };
+
+    ghost refusals = { refusals_of };
+
+    ghost pieces = { pieces_of };
+
+    // No input has so many pieces that this one counts in vain.
+    fn read_piece(&mut self, piece: &mut [u8]) -> Result<usize, Refused> {
+        let Some(given) = self.given.checked_add(1) else {
+            return Err(self.refuse(io::Error::from(ErrorKind::FileTooLarge)));
+        };
+        match read_on(&mut self.stream, piece) {
+            Ok(count) => {
+                self.given = given;
+                Ok(count)
+            }
+            Err(error) => Err(self.refuse(error)),
+        }
+    }
+
+    fn error(&self) -> Option<io::Error> {
+        self.error
     }
 }
 

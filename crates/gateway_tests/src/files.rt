@@ -6,8 +6,8 @@ use crate::talks::Talk;
 use gateway_delete::incomplete_in;
 use gateway_export::export_file;
 use gateway_format::{NewSpool, format_at, raise_in, upgrade_in};
-use gateway_indexes::{IndexFiles, read_indexes, report_read};
-use gateway_list::{json_file, list_file, list_on};
+use gateway_indexes::SystemFolders;
+use gateway_list::{json_in, list_in, list_on};
 use gateway_outside::{Failure, Noted, SystemFiles, open_spool};
 use spool_disk::{Disk, FileDisk};
 use std::alloc::Global;
@@ -31,10 +31,11 @@ const JIS0208: &str = "gateway_file_test/index-jis0208.txt";
 
 const JIS0212: &str = "gateway_file_test/index-jis0212.txt";
 
-/// The line on standard output and, after it, the first ones on standard error. No test has whole files but those of
-/// `tests/clients`.
-const FORMATTED: &[u8] = b"formatted 16 blocks, 557 pages\n\
-    index files read: 2\n\
+/// The line of a new spool of 16 blocks.
+const MADE: &[u8] = b"formatted 16 blocks, 557 pages\n";
+
+/// The first lines on standard error then. No test has whole files but those of `tests/clients`.
+const TOLD: &[u8] = b"index files read: 2\n\
     WARNING: index-jis0208.txt isn't whole: it has 1 entries, and the standard's 7724\n\
     WARNING: texts in Shift_JIS, EUC-JP and ISO-2022-JP will be spoiled for good: make the spool again, with the \
     standard's file\n\
@@ -73,10 +74,10 @@ fn small(indexes: &str) -> NewSpool<'_> {
 
 /// Checks that the listing of a disk, with metadata, is `LISTED`.
 fn lists(rt: &impl Abort, alloc: Global, disk: FileDisk) -> FileDisk {
-    let mut lines = Vec::new(alloc);
+    let mut lines = Noted::new(Vec::new(alloc));
     let (disk, listed) = list_on(alloc, &mut lines, disk, true);
     assert!(rt; listed.is_ok());
-    assert_eq!(rt; lines.as_slice(), LISTED);
+    assert_eq!(rt; lines.into_stream().as_slice(), LISTED);
     disk
 }
 
@@ -108,12 +109,14 @@ fn spool_is_made_used_listed_and_upgraded(rt: HostRuntime) {
     fs::create_dir(&rt, FOLDER).expect(&rt, "a folder");
     fs::write(&rt, JIS0208, "0\t3000\n").expect(&rt, "a file");
     fs::write(&rt, JIS0212, "# two\n108\t02D8\n").expect(&rt, "a file");
-    let (made, mut lines) = formatted(&rt, alloc, SPOOL, small(FOLDER));
-    made.expect(&rt, "a spool");
-    let IndexFiles { set, files } = read_indexes(&rt, alloc, FOLDER).expect(&rt, "index files");
-    report_read(&mut lines, files.as_slice()).expect(&rt, "lines");
-    drop(set);
-    assert!(rt; lines.starts_with(FORMATTED));
+    let Outcome {
+        ended,
+        printed,
+        told,
+    } = formatted(&rt, alloc, SPOOL, small(FOLDER));
+    ended.expect(&rt, "a spool");
+    assert_eq!(rt; printed.as_slice(), MADE);
+    assert!(rt; told.starts_with(TOLD));
     let talk = Talk::new(&rt, alloc, STEPS);
     let disk = open_spool(&rt, SPOOL).expect(&rt, "a new spool");
     let (disk, fault, written) = ran(alloc, &talk, disk);
@@ -133,29 +136,45 @@ fn spool_is_made_used_listed_and_upgraded(rt: HostRuntime) {
         standard: true,
         ..small(FOLDER)
     };
-    let (other, _) = formatted(&rt, alloc, OTHER, standard);
-    fails(&rt, alloc, other, 2, OTHERS);
+    let other = formatted(&rt, alloc, OTHER, standard);
+    assert!(rt; other.told.starts_with(TOLD));
+    fails(&rt, alloc, other.ended, 2, OTHERS);
     assert!(rt; !fs::exists(&rt, OTHER).expect(&rt, "a folder"));
     fs::remove_dir_all(&rt, FOLDER).expect(&rt, "a folder");
 }
 
-/// Makes a spool in a file: how that ended, and what was printed.
+/// How a command that makes a spool ended.
+#[derive(Drop)]
+struct Outcome<'a> {
+    ended: Result<(), Failure<'a>>,
+    printed: Vec<u8>,
+    /// on standard error
+    told: Vec<u8>,
+}
+
+/// Makes a spool in a file.
 fn formatted<'a>(
     rt: &HostRuntime,
     alloc: Global,
     path: &'a str,
     wanted: NewSpool<'a>,
-) -> (Result<(), Failure<'a>>, Vec<u8>) {
+) -> Outcome<'a> {
     let mut output = Noted::new(Vec::new(alloc));
+    let mut errors = Noted::new(Vec::new(alloc));
     let ended = format_at(
-        rt,
         alloc,
         &mut SystemFiles::new(rt),
+        &mut SystemFolders::new(rt),
         &mut output,
+        &mut errors,
         path,
         wanted,
     );
-    (ended, output.into_stream())
+    Outcome {
+        ended,
+        printed: output.into_stream(),
+        told: errors.into_stream(),
+    }
 }
 
 /// Upgrades the spool in a file.
@@ -177,35 +196,32 @@ fn spool_stays_as_it_is(rt: HostRuntime) {
     let _ = fs::remove_dir_all(&rt, AGAIN);
     fs::create_dir(&rt, AGAIN).expect(&rt, "a folder");
     fs::write(&rt, "gateway_again_test/spool", "no spool").expect(&rt, "a file");
-    let (foreign, printed) = formatted(&rt, alloc, "gateway_again_test/spool", small(AGAIN));
-    assert!(rt; printed.is_empty());
+    let foreign = formatted(&rt, alloc, "gateway_again_test/spool", small(AGAIN));
+    assert!(rt; foreign.printed.is_empty());
     let message = "refused: 40 NotEmpty\n\
     gateway_again_test/spool isn't empty, and no spool: take another path, or --overwrite if nobody needs it. \
     An interrupted format leaves such a file; a damaged spool is one too: see docs/FORMAT.md";
-    fails(&rt, alloc, foreign, 2, message);
+    fails(&rt, alloc, foreign.ended, 2, message);
     let over = NewSpool {
         overwrite: true,
         ..small(AGAIN)
     };
-    let (made, printed) = formatted(&rt, alloc, "gateway_again_test/spool", over);
-    made.expect(&rt, "a spool");
-    assert_eq!(rt;
-        printed.as_slice(),
-        b"formatted 16 blocks, 557 pages\n".as_slice()
-    );
+    let made = formatted(&rt, alloc, "gateway_again_test/spool", over);
+    made.ended.expect(&rt, "a spool");
+    assert_eq!(rt; made.printed.as_slice(), MADE);
     let before = fs::read(&rt, "gateway_again_test/spool").expect(&rt, "its bytes");
     let longer = NewSpool { blocks: 32, ..over };
-    let (again, _) = formatted(&rt, alloc, "gateway_again_test/spool", longer);
+    let again = formatted(&rt, alloc, "gateway_again_test/spool", longer);
     let message = "refused: 13 AlreadySpool\n\
     gateway_again_test/spool is a spool, and stays as it is: take another path, or remove it yourself";
-    fails(&rt, alloc, again, 2, message);
+    fails(&rt, alloc, again.ended, 2, message);
     let index = "gateway_again_test/index-jis0212.txt";
     fs::write(&rt, index, "0\t3000\n8836\t3000\n").expect(&rt, "a file");
-    let (unread, _) = formatted(&rt, alloc, "gateway_again_test/other", small(AGAIN));
+    let unread = formatted(&rt, alloc, "gateway_again_test/other", small(AGAIN));
     fails(
         &rt,
         alloc,
-        unread,
+        unread.ended,
         2,
         "refused: 4 Range index-jis0212.txt 2\n\
         gateway_again_test/index-jis0212.txt is damaged, or no index file: fetch it again from \
@@ -228,11 +244,11 @@ fn failure_says_what_the_system_said(rt: HostRuntime) {
         standard: true,
         ..small("no_such_folder")
     };
-    let (unmade, _) = formatted(&rt, alloc, "gateway_unmade_test", standard);
+    let unmade = formatted(&rt, alloc, "gateway_unmade_test", standard);
     let message = "refused: 33 Io\n\
     cannot look into the folder no_such_folder: No such file or directory (os error 2). The standard's index files \
     are in /usr/share/wovelatsa/indexes, or encoding.spec.whatwg.org has them";
-    fails(&rt, alloc, unmade, 2, message);
+    fails(&rt, alloc, unmade.ended, 2, message);
     assert!(rt; !fs::exists(&rt, "gateway_unmade_test").expect(&rt, "a folder"));
     let nowhere = export_file(&rt, alloc, "gateway_unmade_test", "no_such_folder", false);
     let message = "refused: 33 Io\n\
@@ -244,7 +260,14 @@ fn failure_says_what_the_system_said(rt: HostRuntime) {
     gateway_used_test is in use: stop the gateway that serves it (`fuser gateway_used_test` prints its process)";
     for ended in [
         open_spool(&rt, "gateway_used_test").map(drop),
-        list_file(&rt, alloc, "gateway_used_test", false),
+        list_in(
+            alloc,
+            &mut SystemFiles::new(&rt),
+            &mut Noted::new(rt.stdout()),
+            &mut Noted::new(rt.stderr()),
+            "gateway_used_test",
+            false,
+        ),
         upgraded(&rt, alloc, "gateway_used_test"),
         export_file(&rt, alloc, "gateway_used_test", ".", false),
         incomplete_in(
@@ -256,7 +279,12 @@ fn failure_says_what_the_system_said(rt: HostRuntime) {
             &[],
             true,
         ),
-        json_file(&rt, alloc, "gateway_used_test"),
+        json_in(
+            alloc,
+            &mut SystemFiles::new(&rt),
+            &mut Noted::new(rt.stdout()),
+            "gateway_used_test",
+        ),
     ] {
         fails(&rt, alloc, ended, 2, message);
     }
@@ -309,18 +337,18 @@ fn next_number_is_raised(rt: HostRuntime) {
         first: Some(TOO_LARGE),
         ..small(RAISED)
     };
-    let (unmade, _) = formatted(&rt, alloc, RAISED_SPOOL, wanted);
-    fails(&rt, alloc, unmade, 2, NOT_THAT_LARGE);
+    let unmade = formatted(&rt, alloc, RAISED_SPOOL, wanted);
+    fails(&rt, alloc, unmade.ended, 2, NOT_THAT_LARGE);
     assert!(rt; !fs::exists(&rt, RAISED_SPOOL).expect(&rt, "a folder"));
     for (first, number, next) in RAISES.iter() {
         let wanted = NewSpool {
             first: *first,
             ..small(RAISED)
         };
-        let (made, printed) = formatted(&rt, alloc, RAISED_SPOOL, wanted);
-        made.expect(&rt, "a spool");
+        let made = formatted(&rt, alloc, RAISED_SPOOL, wanted);
+        made.ended.expect(&rt, "a spool");
         assert_eq!(rt;
-            printed.as_slice(),
+            made.printed.as_slice(),
             printed_of(&rt, alloc, *first).as_slice()
         );
         let mut lines = Noted::new(Vec::new(alloc));

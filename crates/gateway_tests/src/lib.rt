@@ -22,6 +22,8 @@ mod guests;
 #[cfg(test)]
 mod labels;
 #[cfg(test)]
+mod listings;
+#[cfg(test)]
 mod log;
 #[cfg(test)]
 mod operators;

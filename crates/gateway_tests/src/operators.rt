@@ -7,13 +7,13 @@ use enc_index::{Index, IndexSet, Kind};
 use enc_model::{Encoding, Mode};
 use gateway_delete::{delete_on, incomplete_on};
 use gateway_indexes::{
-    Found, Used, digest_of, entries_of, found_in, is_standard, report_indexes, standard_digest,
-    standard_entries, used_of,
+    Found, HeldFile, MemoryFolder, Used, digest_of, entries_of, found_in, is_standard,
+    read_indexes, read_wanted, report_indexes, standard_digest, standard_entries, used_of,
 };
 use gateway_list::list_on;
 use gateway_outside::{Fault, Noted};
-use gateway_text::{Conversion, conversion_of, text_on};
-use gateway_texts::Tally;
+use gateway_text::{Conversion, WantedText, conversion_of, text_in, text_on};
+use gateway_texts::{Signs, Tally};
 use spool_disk::MemoryDisk;
 use std::alloc::Global;
 use std::io::{self, Write};
@@ -65,10 +65,10 @@ fn uploads_are_deleted_by_their_numbers(rt: HostRuntime) {
         let (after, deleted) = delete_on(alloc, &mut lines, disk, numbers);
         assert!(rt; deleted == Ok(*all));
         assert_eq!(rt; lines.into_stream().as_slice(), *printed);
-        let mut lines = Vec::new(alloc);
+        let mut lines = Noted::new(Vec::new(alloc));
         let (after, listed) = list_on(alloc, &mut lines, after, false);
         assert!(rt; listed.is_ok());
-        assert_eq!(rt; lines.as_slice(), *left);
+        assert_eq!(rt; lines.into_stream().as_slice(), *left);
         disk = after;
     }
 }
@@ -128,9 +128,43 @@ fn index_is_told_from_the_standards(rt: HostRuntime) {
     set.set(index);
     assert_eq!(rt; Found::of_set(&set, Kind::Katakana), Found::Other(2));
     assert_eq!(rt; Found::of_set(&set, Kind::Jis0212), Found::Missing);
-    let mut lines = Vec::new(rt.alloc());
+    let mut lines = Noted::new(Vec::new(rt.alloc()));
     report_indexes(&mut lines, &found_in(&set)).expect(&rt, "lines");
-    assert!(rt; lines.starts_with(INDEXES));
+    assert!(rt; lines.into_stream().starts_with(INDEXES));
+}
+
+#[test]
+fn indexes_of_a_folder_in_memory(rt: HostRuntime) {
+    let alloc = rt.alloc();
+    let mut files = Vec::new(alloc);
+    for (name, content) in [
+        ("index-jis0212.txt", "108\t02D8\n"),
+        ("readme.txt", "no index"),
+        ("index-jis0208.txt", "0\t3000\n1\t3001\n"),
+    ] {
+        let file = HeldFile {
+            name: String::from_str(alloc, name).expect(&rt, "memory for a name"),
+            content: repeated(&rt, alloc, content.as_bytes(), 1),
+        };
+        files.push(file).expect(&rt, "memory for a file");
+    }
+    let path = String::from_str(alloc, "idx").expect(&rt, "memory for a path");
+    let mut folder = MemoryFolder::new(path, files);
+    let read = read_indexes(alloc, &mut folder, "idx").expect(&rt, "index files");
+    for (at, file) in read.files.iter().enumerate() {
+        let wanted = match at {
+            0 => Found::Other(2),
+            1 => Found::Other(1),
+            _ => Found::Missing,
+        };
+        assert_eq!(rt; file.found, wanted);
+    }
+    let lost = read_indexes(alloc, &mut folder, "other").map(drop);
+    assert!(rt; lost.is_err_and(|failure| failure.fault() == Fault::Io));
+    let mut errors = Noted::new(Vec::new(alloc));
+    let other = read_wanted(alloc, &mut folder, &mut errors, "idx", true).map(drop);
+    assert!(rt; other.is_err_and(|failure| failure.fault() == Fault::OtherIndexes));
+    assert!(rt; errors.into_stream().starts_with(b"index files read: 2\n"));
 }
 
 /// The first lines of what is told of a set with one index, which isn't the standard's.
@@ -159,12 +193,15 @@ static SIGNS: [(Encoding, &[&[u8]], u64); 6] = [
 fn signs_of_lost_bytes_are_counted(rt: HostRuntime) {
     for (to, pieces, losses) in SIGNS.iter() {
         let mut tally = Tally::new(io::sink(), *to);
+        let mut signs = Signs::of(*to);
         let mut bytes = 0u64;
         for piece in pieces.iter() {
             tally.write_all(piece).expect(&rt, "a piece");
+            signs.add(piece);
             bytes = bytes.saturating_add(piece.len() as u64);
         }
-        assert_eq!(rt; (tally.bytes(), tally.losses()), (bytes, *losses));
+        assert_eq!(rt; (signs.bytes(), signs.losses()), (bytes, *losses));
+        assert_eq!(rt; tally.losses(), *losses);
     }
 }
 
@@ -284,12 +321,20 @@ fn input_is_written_as_it_would_be_stored(rt: HostRuntime) {
     let set = IndexSet::new(alloc).expect(&rt, "memory for a set");
     for input in INPUTS.iter() {
         let bytes = repeated(&rt, alloc, input.bytes, input.times);
-        let mut written = Vec::new(alloc);
-        let mut reader = bytes.as_slice();
-        match (
-            text_on(alloc, &set, input.conversion, &mut reader, &mut written),
-            input.text,
-        ) {
+        let mut output = Noted::new(Vec::new(alloc));
+        let mut reader = Noted::new(bytes.as_slice());
+        let mut signs = Signs::of(input.conversion.to);
+        let ended = text_on(
+            alloc,
+            &set,
+            input.conversion,
+            &mut reader,
+            &mut output,
+            &mut signs,
+        );
+        let written = output.into_stream();
+        assert_eq!(rt; signs.bytes(), written.len() as u64);
+        match (ended, input.text) {
             (Ok(()), Ok(text)) => {
                 assert!(rt; written == repeated(&rt, alloc, text, input.times));
             }
@@ -298,5 +343,68 @@ fn input_is_written_as_it_would_be_stored(rt: HostRuntime) {
                 assert_eq!(rt; written.as_slice(), b"a".as_slice());
             }
         }
+    }
+}
+
+/// Each row: the labels of an input and of its text, the folder, whether a loss is refused, and how it ends and what is
+/// written. The folder has no index files.
+static TEXTS: [(&str, &str, &str, bool, Option<Fault>, &[u8]); 6] = [
+    ("utf-8", "utf-8", "idx", false, None, b"a\xEF\xBF\xBDb"),
+    (
+        "utf-8",
+        "utf-8",
+        "idx",
+        true,
+        Some(Fault::Lost),
+        b"a\xEF\xBF\xBDb",
+    ),
+    (
+        "utf-16le",
+        "utf-8",
+        "idx",
+        true,
+        Some(Fault::Lost),
+        b"\xEF\xBD\xA1\xEF\xBF\xBD",
+    ),
+    ("koi8-r", "utf-8", "idx", false, Some(Fault::BadLabel), b""),
+    (
+        "utf-8",
+        "no label",
+        "idx",
+        false,
+        Some(Fault::BadLabel),
+        b"",
+    ),
+    ("utf-8", "utf-8", "other", false, Some(Fault::Io), b""),
+];
+
+#[test]
+fn text_of_an_input(rt: HostRuntime) {
+    let alloc = rt.alloc();
+    let path = String::from_str(alloc, "idx").expect(&rt, "memory for a path");
+    let mut folder = MemoryFolder::new(path, Vec::new(alloc));
+    for (from, to, at, strict, fault, written) in TEXTS.iter() {
+        let mut input = Noted::new(b"a\xFFb".as_slice());
+        let mut output = Noted::new(Vec::new(alloc));
+        let mut errors = Noted::new(Vec::new(alloc));
+        let wanted = WantedText {
+            from: *from,
+            to: *to,
+            mode: "html",
+            strict: *strict,
+        };
+        let ended = text_in(
+            alloc,
+            &mut folder,
+            &mut input,
+            &mut output,
+            &mut errors,
+            wanted,
+            *at,
+        );
+        assert_eq!(rt; ended.err().map(|failure| failure.fault()), *fault);
+        assert_eq!(rt; output.into_stream().as_slice(), *written);
+        let losses = errors.into_stream().starts_with(b"U+FFFD in the text: ");
+        assert_eq!(rt; losses, !written.is_empty());
     }
 }

@@ -13,6 +13,7 @@ use crate::talks::{Files, Talk, fresh, with_files};
 use common::SLOTS;
 use gateway_engine::ScriptFault;
 use gateway_list::list_on;
+use gateway_outside::Noted;
 use gateway_rounds::RunFault;
 use std::alloc::Global;
 use std::process::Abort;
@@ -193,10 +194,11 @@ fn one_upload_too_many(rt: HostRuntime) {
     talk.go_on(&rt, &refused);
     let disk = fresh(&rt, rt.alloc(), 32, None);
     let disk = ends(&rt, rt.alloc(), "one upload too many", &talk, disk, None);
-    let mut lines = Vec::new(rt.alloc());
+    let mut lines = Noted::new(Vec::new(rt.alloc()));
     let (disk, listed) = list_on(rt.alloc(), &mut lines, disk, false);
     drop(disk);
     assert!(rt; listed.is_ok());
+    let lines = lines.into_stream();
     let last = slots + 1;
     let ends_in = format!(in rt.alloc();
         "\n{slots} 0/0 0 UTF-8 UTF-8 html\n{last} 0/0 0 UTF-8 UTF-8 html\n"

@@ -1,6 +1,6 @@
 -- Input that is copied as the text of an upload, piece by piece.
 use Rattle.std.proofs.Common.{◌≡◌, ◌∙◌, ap, sym, subst, refl, ℕ, List, [], ◌++◌, Option, Some, None}
-use Rattle.std.proofs.Common.{Result, Ok, Err, OnOk}
+use Rattle.std.proofs.Common.{Bool, true, false, Result, Ok, Err, OnOk}
 use Rattle.std.proofs.KnownBytes.{Appends-nil, Appends-trans, Consumes-nil, Consumes-trans}
 use Rattle.std.specs.Io.KnownBytes.{Appends, Consumes, IsAtEnd}
 use Rattle.std.proofs.Common.{append-nil}
@@ -95,6 +95,18 @@ copied_still t c s s' left mid left' prefix on held is same none unchanged =
       read = rw (append-nil is.bytes) at (Consumes-trans left mid left' is.bytes [] is.read none);
       wrote = rw unchanged is.wrote;
     })
+
+-- a piece more, or none any more
+pub copied_on : (t : Tables) (c : Conversion) (s s' : TranscoderState)
+    (left mid left' prefix on held : Option (List ℕ)) (more : Bool)
+    → Copied t c s left mid prefix on → (more ≡ true → CopiesOn t s s' mid left' on held)
+    → (more ≡ false → (s' ≡ s) × Consumes mid left' [] × IsAtEnd left' × (held ≡ on))
+    → Copied t c s' left left' prefix held × (more ≡ false → IsAtEnd left')
+copied_on t c s s' left mid left' prefix on held true is copies ends =
+    (copied_more t c s s' left mid left' prefix on held is (copies refl), λ never. absurd (cc))
+copied_on t c s s' left mid left' prefix on held false is copies ends =
+    let end = ends refl in
+    (copied_still t c s s' left mid left' prefix on held is end.0 end.1 end.3, λ none. end.2)
 
 ended : (t : Tables) (c : Conversion) (s : TranscoderState) (left left' prefix on held : Option (List ℕ))
     → Copied t c s left left' prefix on → IsAtEnd left' → EndsOn t s on held → IsConverted t c left prefix held

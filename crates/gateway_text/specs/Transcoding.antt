@@ -38,6 +38,13 @@ pub record CopiesOn (t : Tables) (before after : TranscoderState) (left left' pr
     pub fault : (added t before.transcoder piece).fault ≡ None
     pub wrote : Appends prefix held (added t before.transcoder piece).bytes
 
+-- its text was written
+pub record CodesOn (t : Tables) (before after : TranscoderState) (piece : List ℕ) (prefix held : Option (List ℕ)) :
+    Type 0 where
+  pub next : after ≡ stepped_on t before piece
+  pub fault : (added t before.transcoder piece).fault ≡ None
+  pub wrote : Appends prefix held (added t before.transcoder piece).bytes
+
 -- and what the end adds
 pub record EndsOn (t : Tables) (s : TranscoderState) (prefix held : Option (List ℕ)) : Type 0 where
   pub fault : (added_end t s.transcoder).fault ≡ None

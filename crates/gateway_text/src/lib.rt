@@ -3,4 +3,4 @@
 
 mod transcoding;
 
-pub use transcoding::{Conversion, WantedText, conversion_of, text_file, text_on};
+pub use transcoding::{Conversion, WantedText, conversion_of, text_in, text_on};

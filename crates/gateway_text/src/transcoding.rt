@@ -1,24 +1,27 @@
 //! Input as the text of an upload.
-ghost use Rattle.std.specs.Prelude.{◌≡◌, ◌<◌, ◌≤◌, [], true, false, IfErr, IfOk, IfSome, IsErrAnd, IsOk, OnOk};
-ghost use Rattle.std.specs.Prelude.{length, option_map, take};
+ghost use Rattle.std.specs.Prelude.{◌≡◌, ◌+◌, ◌<◌, [], true, false, IfErr, IfOk, IfSome, IsErrAnd, IsErrOf, IsOk};
+ghost use Rattle.std.specs.Prelude.{OnOk, option_map};
 ghost use Rattle.std.specs.Io.KnownBytes.{Consumes, IsAtEnd};
+ghost use Rattle.common.specs.Counts.{Counts};
 ghost use Rattle.enc_model.specs.Indexes.{tables};
 ghost use Rattle.enc_labels.specs.Labels.{encoding_of};
 ghost use Rattle.enc_stream.specs.TranscoderState.{IsOutput};
 ghost use Rattle.tus_request.specs.Metadata.{choice_with, mode_of};
 ghost use Rattle.gateway_outside.specs.Failures.{fault_in};
+ghost use Rattle.gateway_outside.specs.Openings.{EndsWellBut};
 ghost use Rattle.gateway_outside.specs.declared.faults.Fault.{Fault};
-ghost use Rattle.gateway_text.specs.Transcoding.{CopiesOn, EndsOn, IsConverted, IsTextFault, choice_in};
+ghost use Rattle.gateway_text.specs.Texts.{Offers, TextsAt, TextsBy};
+ghost use Rattle.gateway_text.specs.Transcoding.{CodesOn, CopiesOn, EndsOn, IsConverted, IsTextFault, choice_in};
 
 use enc_index::IndexSet;
 use enc_labels::{encoding_of, output_of};
 use enc_model::{Encoding, Mode};
 use enc_stream::Transcoder;
-use gateway_indexes::{IndexFiles, read_indexes, report_others};
-use gateway_outside::{Advice, Failure, Fault, Noted, TextAdvice};
-use gateway_texts::{Tally, report_losses};
+use gateway_indexes::{IndexFolders, read_indexes, report_others};
+use gateway_outside::{Advice, Failure, Fault, Input, Output, TextAdvice};
+use gateway_texts::{Signs, report_losses};
 use std::alloc::Global;
-use std::io::{self, ErrorKind, Read, Write};
+use std::io;
 
 // How many bytes are read at once.
 const PIECE: usize = 4096;
@@ -67,49 +70,102 @@ pub struct WantedText<'a> {
     pub strict: bool,
 }
 
-/// Writes what an upload of standard input with these labels and this mode would be stored as, by the index files of a
+/// Writes what an upload of the input with these labels and this mode would be stored as, by the index files of a
 /// folder. On standard error it writes which of these aren't the standard's, and how often the text has U+FFFD.
 /// `BadLabel` where an upload with them is refused so; `Lost` after a text that may have no U+FFFD and has one.
-pub fn text_file<'a>(
-    rt: &HostRuntime,
+pub fn text_in<'a, R: IndexFolders, I: Input, W: Output, E: Output>(
     alloc: Global,
+    folders: &mut R,
+    input: &mut I,
+    output: &mut W,
+    errors: &mut E,
     wanted: WantedText<'a>,
     folder: &'a str,
-) -> Result<(), Failure<'a>> {
-    let WantedText {
-        from,
-        to,
-        mode,
-        strict,
-    } = wanted;
+) -> Result<(), Failure<'a>>
+    // The text was written, by the indexes of this folder; or nothing was read of the input and nothing written, for
+    // one of three reasons. `Io` is answered for the text exactly where the input or the output refused.
+    ensures texts { TextsAt (R.have folders.old) (R.calls folders.old) (R.calls folders.new) folder.now
+        (I.remaining input.old) (I.remaining input.new) (W.contents output.old) (W.contents output.new)
+        (I.refusals input.old + W.refusals output.old) (I.refusals input.new + W.refusals output.new)
+        ((input.new ≡ input.old) × (output.new ≡ output.old)) result wanted.entry.from.now wanted.entry.to.now
+        wanted.entry.mode.now wanted.entry.strict }
+{
+    let WantedText { from, to, mode, .. } = wanted;
     let Some(conversion) = conversion_of(from, to, mode) else {
         return Err(refused_text(Fault::BadLabel, what_is_unknown(from, to, mode)));
     };
-    let IndexFiles { set, files } = read_indexes(rt, alloc, folder)?;
+    let read = match read_indexes(alloc, folders, folder) {
+        Ok(read) => read,
+        Err(failure) => return Err(failure),
+    };
     // If standard error can't be written, this isn't reported.
-    drop(report_others(&mut rt.stderr(), &files));
-    for (encoding, label) in [(conversion.from, from), (conversion.to, to)] {
-        if !set.offers(encoding) {
-            return Err(refused_text(Fault::BadLabel, TextAdvice::NoIndex(folder, label)));
-        }
+    drop(report_others(errors, &read.files));
+    match refuse_lacking(&read.set, conversion, &wanted, folder) {
+        Ok(()) => return text_by(alloc, &read.set, conversion, input, output, errors, &wanted),
+        Err(failure) => return Err(failure),
     }
-    let mut input = Noted::new(rt.reader());
-    let mut output = Noted::new(Tally::new(rt.stdout(), conversion.to));
-    let written = text_on(alloc, &set, conversion, &mut input, &mut output);
-    let error = output.error();
-    let tally = output.into_stream();
-    match written {
+}
+
+// Refuses a conversion for which a folder lacks an index file.
+fn refuse_lacking<'a>(
+    set: &IndexSet,
+    conversion: Conversion,
+    wanted: &WantedText<'a>,
+    folder: &'a str,
+) -> Result<(), Failure<'a>>
+    ensures offered { IsOk result → Offers set.now conversion }
+    ensures refused { IfErr result (λ failure. (fault_in failure ≡ Fault.BadLabel) × (Offers set.now conversion → ⊥)) }
+{
+    if !set.offers(conversion.from) {
+        return Err(refused_text(Fault::BadLabel, TextAdvice::NoIndex(folder, wanted.from)));
+    }
+    if !set.offers(conversion.to) {
+        return Err(refused_text(Fault::BadLabel, TextAdvice::NoIndex(folder, wanted.to)));
+    }
+    Ok(())
+}
+
+// Writes what an upload of the input would be stored as, by these indexes.
+fn text_by<'a, I: Input, W: Output, E: Output>(
+    alloc: Global,
+    set: &IndexSet,
+    conversion: Conversion,
+    input: &mut I,
+    output: &mut W,
+    errors: &mut E,
+    wanted: &WantedText<'a>,
+) -> Result<(), Failure<'a>>
+    requires { IsOutput conversion.to }
+    ensures { TextsBy (tables set.now) conversion (I.remaining input.old) (I.remaining input.new)
+        (W.contents output.old) (W.contents output.new) (I.refusals input.old + W.refusals output.old)
+        (I.refusals input.new + W.refusals output.new) result wanted.now.strict }
+{
+    let mut signs = Signs::of(conversion.to);
+    match text_on(alloc, set, conversion, input, output, &mut signs) {
         Ok(()) => {
             // If standard error can't be written, the count isn't reported.
-            let reported = report_losses(&mut rt.stderr(), tally.losses());
-            drop(reported);
-            refuse_lost(strict, from, tally.losses())
+            drop(report_losses(errors, signs.losses()));
+            return refuse_lost(wanted.strict, wanted.from, signs.losses());
         }
-        Err(Fault::Unencodable(character)) => {
-            let advice = TextAdvice::Lacks(to, character, tally.bytes());
-            Err(refused_text(Fault::Unencodable(character), advice))
+        Err(fault) => return Err(cut_text(fault, wanted.to, &signs, input.error(), output.error())),
+    }
+}
+
+// The failure of a text that was written in part.
+fn cut_text<'a>(
+    fault: Fault,
+    to: &'a str,
+    signs: &Signs,
+    input: Option<io::Error>,
+    output: Option<io::Error>,
+) -> Failure<'a>
+    ensures { fault_in result ≡ fault }
+{
+    match fault {
+        Fault::Unencodable(character) => {
+            refused_text(fault, TextAdvice::Lacks(to, character, signs.bytes()))
         }
-        Err(fault) => Err(Failure::on_streams(fault, input.error(), error)),
+        _ => Failure::on_streams(fault, input, output),
     }
 }
 
@@ -117,6 +173,7 @@ pub fn text_file<'a>(
 fn refuse_lost<'a>(strict: bool, from: &'a str, losses: u64) -> Result<(), Failure<'a>>
     ensures passes { (strict ≡ true → losses ≡ 0) → IsOk result }
     ensures refused { strict ≡ true → 0 < losses → IsErrAnd result (λ failure. fault_in failure ≡ Fault.Lost) }
+    ensures ends { EndsWellBut result Fault.Lost }
 {
     if strict && losses > 0 {
         return Err(refused_text(Fault::Lost, TextAdvice::Losses(from)));
@@ -141,98 +198,112 @@ fn what_is_unknown<'a>(from: &'a str, to: &'a str, mode: &'a str) -> TextAdvice<
     }
 }
 
-/// Writes what an upload of all that a reader has is stored as: read in pieces, and decoded and encoded by the
-/// transcoder of uploads. `Unencodable` where it has no code in the mode `fatal`; what was written then is a prefix.
-pub fn text_on<R: Read, W: Write>(
+/// Writes what an upload of all that an input has is stored as: read in pieces, and decoded and encoded by the
+/// transcoder of uploads; `signs` counts what is written. `Unencodable` where it has no code in the mode `fatal`; what
+/// was written then is a prefix.
+pub fn text_on<I: Input, W: Output>(
     alloc: Global,
     set: &IndexSet,
     conversion: Conversion,
-    reader: &mut R,
-    writer: &mut W,
+    input: &mut I,
+    output: &mut W,
+    signs: &mut Signs,
 ) -> Result<(), Fault>
     requires { IsOutput conversion.to }
-    ensures stored { OnOk result (IsConverted (tables set.now) conversion (R.remaining reader.old)
-        (W.contents writer.old)
-        (W.contents writer.new)) }
-    ensures whole { OnOk result (IsAtEnd (R.remaining reader.new)) }
+    ensures stored { OnOk result (IsConverted (tables set.now) conversion (I.remaining input.old)
+        (W.contents output.old)
+        (W.contents output.new)) }
+    ensures whole { OnOk result (IsAtEnd (I.remaining input.new)) }
     ensures refused { IfErr result IsTextFault }
+
+    // `Io` is answered exactly where the input or the output refused.
+    ensures io { Counts (IsErrOf result Fault.Io) (I.refusals input.old + W.refusals output.old)
+        (I.refusals input.new + W.refusals output.new) }
 {
     let Conversion { from, to, mode } = conversion;
     let mut transcoder = Transcoder::new(from, to, mode);
     let mut code = Vec::new(alloc);
-    for _ in 0..u64::MAX {
-        if !copy_piece(set, &mut transcoder, &mut code, reader, writer)? {
-            return copy_end(set, transcoder, code, writer);
-        }
+    let mut more = true;
+    while more {
+        more = copy_piece(set, &mut transcoder, &mut code, input, output, signs)?;
     }
-    // No input has so many pieces.
-    Err(Fault::Io)
+    copy_end(set, transcoder, code, output, signs)
 }
 
 // Reads a piece and writes its code: whether there was one.
-fn copy_piece<R: Read, W: Write>(
+fn copy_piece<I: Input, W: Output>(
     set: &IndexSet,
     transcoder: &mut Transcoder,
     code: &mut Vec<u8>,
-    reader: &mut R,
-    writer: &mut W,
+    input: &mut I,
+    output: &mut W,
+    signs: &mut Signs,
 ) -> Result<bool, Fault>
     ensures more { IfOk result (λ more. more ≡ true
-        → CopiesOn (tables set.now) transcoder.old transcoder.new (R.remaining reader.old) (R.remaining reader.new)
-        (W.contents writer.old) (W.contents writer.new)) }
+        → CopiesOn (tables set.now) transcoder.old transcoder.new (I.remaining input.old) (I.remaining input.new)
+        (W.contents output.old) (W.contents output.new)) }
     ensures end { IfOk result (λ more. more ≡ false → (transcoder.new ≡ transcoder.old)
-        × Consumes (R.remaining reader.old) (R.remaining reader.new) []
-        × IsAtEnd (R.remaining reader.new) × (W.contents writer.new ≡ W.contents writer.old)) }
+        × Consumes (I.remaining input.old) (I.remaining input.new) []
+        × IsAtEnd (I.remaining input.new) × (W.contents output.new ≡ W.contents output.old)) }
     ensures refused { IfErr result IsTextFault }
+    ensures fewer { OnOk result (I.pieces input.new < I.pieces input.old) }
+    ensures io { Counts (IsErrOf result Fault.Io) (I.refusals input.old + W.refusals output.old)
+        (I.refusals input.new + W.refusals output.new) }
 {
     let mut piece = [0; PIECE];
-    let count = read_on(reader, &mut piece)?;
+    let count = match input.read_piece(&mut piece) {
+        Ok(count) => count,
+        Err(_) => return Err(Fault::Io),
+    };
     if count == 0 {
         return Ok(false);
     }
+    match copy_code(set, transcoder, code, &piece[..count], output, signs) {
+        Ok(()) => Ok(true),
+        Err(fault) => Err(fault),
+    }
+}
+
+// Writes the code of a piece.
+fn copy_code<W: Output>(
+    set: &IndexSet,
+    transcoder: &mut Transcoder,
+    code: &mut Vec<u8>,
+    piece: &[u8],
+    output: &mut W,
+    signs: &mut Signs,
+) -> Result<(), Fault>
+    ensures copies { OnOk result (CodesOn (tables set.now) transcoder.old transcoder.new piece.now
+        (W.contents output.old) (W.contents output.new)) }
+    ensures refused { IfErr result IsTextFault }
+    ensures io { Counts (IsErrOf result Fault.Io) (W.refusals output.old) (W.refusals output.new) }
+{
     code.clear();
-    let fed = transcoder.feed(set, &piece[..count], code);
+    let fed = transcoder.feed(set, piece, code);
     // also what comes before a character without a code
-    writer.write_all(code)?;
+    output.put(code)?;
+    signs.add(code);
     fed?;
-    Ok(true)
+    Ok(())
 }
 
 // Takes the end, and writes its code.
-fn copy_end<W: Write>(
+fn copy_end<W: Output>(
     set: &IndexSet,
     transcoder: Transcoder,
     code: Vec<u8>,
-    writer: &mut W,
+    output: &mut W,
+    signs: &mut Signs,
 ) -> Result<(), Fault>
-    ensures end { OnOk result (EndsOn (tables set.now) transcoder (W.contents writer.old) (W.contents writer.new)) }
+    ensures end { OnOk result (EndsOn (tables set.now) transcoder (W.contents output.old) (W.contents output.new)) }
     ensures refused { IfErr result IsTextFault }
+    ensures io { Counts (IsErrOf result Fault.Io) (W.refusals output.old) (W.refusals output.new) }
 {
     let mut transcoder = transcoder;
     let mut code = code;
     code.clear();
     transcoder.finish(set, &mut code)?;
-    writer.write_all(&code)?;
+    output.put(&code)?;
+    signs.add(&code);
     Ok(())
-}
-
-// One read, tried again where it is interrupted.
-fn read_on<R: Read>(reader: &mut R, piece: &mut [u8]) -> io::Result<usize>
-    ensures within { IfOk result (λ count. count ≤ length piece.old) }
-    ensures same { length piece.new ≡ length piece.old }
-    ensures ok { IfOk result (λ count. Consumes (R.remaining reader.old) (R.remaining reader.new)
-        (take count piece.new)) }
-    ensures end { IfOk result (λ count. count ≡ 0 → 0 < length piece.old → IsAtEnd (R.remaining reader.new)) }
-{
-    for _ in 0..u64::MAX {
-        match reader.read(piece) {
-            Ok(count) => return Ok(count),
-            Err(error) => {
-                if error.kind() != ErrorKind::Interrupted {
-                    return Err(error);
-                }
-            }
-        }
-    }
-    Err(io::Error::from(ErrorKind::Interrupted))
 }

@@ -6,5 +6,5 @@ mod losses;
 mod naming;
 
 pub use copies::{PIECE, copy_text, read_at};
-pub use losses::{Tally, losses_of, report_losses, report_losses_of};
+pub use losses::{Signs, Tally, losses_of, report_losses, report_losses_of};
 pub use naming::{given_name, is_clean, is_hidden, is_safe_name};

@@ -11,13 +11,15 @@ ghost use Rattle.gateway_texts.specs.Losses.{losses_line, losses_line_of};
 
 use crate::copies::copy_text;
 use enc_model::Encoding;
-use gateway_outside::Fault;
+use gateway_outside::{Fault, Output, Refused};
 use std::io::{self, Write};
 use upload_rules::Uploads;
 
-/// The signs of lost bytes among bytes that were counted.
+/// The signs of lost bytes among bytes that were counted, and how many bytes these were. It is only tested what is
+/// counted. A sign is U+FFFD in UTF-8, and in the other encodings, which lack it, its reference; a text may have it for
+/// other reasons too.
 #[derive(Drop)]
-struct Signs {
+pub struct Signs {
     sign: &'static [u8],
     /// how many bytes of a sign came last
     begun: usize,
@@ -26,8 +28,22 @@ struct Signs {
 }
 
 impl Signs {
-    // Counts bytes.
-    fn add(&mut self, bytes: &[u8]) {
+    /// Those of a text in this encoding, of which nothing was counted so far.
+    pub fn of(to: Encoding) -> Self {
+        let sign: &'static [u8] = match to {
+            Encoding::Utf8 => b"\xEF\xBF\xBD",
+            _ => b"&#65533;",
+        };
+        Signs {
+            sign,
+            begun: 0,
+            bytes: 0,
+            losses: 0,
+        }
+    }
+
+    /// Counts bytes.
+    pub fn add(&mut self, bytes: &[u8]) {
         self.bytes = self.bytes.saturating_add(bytes.len() as u64);
         for byte in bytes {
             self.go_on(*byte);
@@ -46,11 +62,19 @@ impl Signs {
             self.losses = self.losses.saturating_add(1);
         }
     }
+
+    /// How many bytes were counted.
+    pub fn bytes(&self) -> u64 {
+        self.bytes
+    }
+
+    /// How many signs there were among them.
+    pub fn losses(&self) -> u64 {
+        self.losses
+    }
 }
 
-/// A writer that counts the bytes that it takes, and the signs of lost bytes among them. It is only tested what it
-/// counts. A sign is U+FFFD in UTF-8, and in the other encodings, which lack it, its reference; a text may have it for
-/// other reasons too.
+/// A writer that counts the signs of lost bytes among the bytes that it takes.
 #[derive(Drop)]
 pub struct Tally<W> {
     stream: W,
@@ -60,29 +84,15 @@ pub struct Tally<W> {
 impl<W> Tally<W> {
     /// Nothing was written so far. What is written will be in this encoding.
     pub fn new(stream: W, to: Encoding) -> Self {
-        let sign: &'static [u8] = match to {
-            Encoding::Utf8 => b"\xEF\xBF\xBD",
-            _ => b"&#65533;",
-        };
         Tally {
             stream,
-            signs: Signs {
-                sign,
-                begun: 0,
-                bytes: 0,
-                losses: 0,
-            },
+            signs: Signs::of(to),
         }
     }
 
-    /// How many bytes were written.
-    pub fn bytes(&self) -> u64 {
-        self.signs.bytes
-    }
-
-    /// How many signs of lost bytes there were among them.
+    /// How many signs of lost bytes there were among those that were written.
     pub fn losses(&self) -> u64 {
-        self.signs.losses
+        self.signs.losses()
     }
 }
 
@@ -121,14 +131,14 @@ pub fn losses_of<U: Uploads>(uploads: &mut U, number: u64, to: Encoding) -> Resu
 }
 
 /// Prints how often a text has U+FFFD.
-pub fn report_losses<W: Write>(writer: &mut W, losses: u64) -> io::Result<()>
+pub fn report_losses<W: Output>(writer: &mut W, losses: u64) -> Result<(), Refused>
     ensures { OnOk result (Appends (W.contents writer.old) (W.contents writer.new) (losses_line losses)) }
 {
     writeln!(writer, "U+FFFD in the text: {losses}")
 }
 
 /// Prints how often the text of an upload has U+FFFD.
-pub fn report_losses_of<W: Write>(writer: &mut W, number: u64, losses: u64) -> io::Result<()>
+pub fn report_losses_of<W: Output>(writer: &mut W, number: u64, losses: u64) -> Result<(), Refused>
     ensures { OnOk result (Appends (W.contents writer.old) (W.contents writer.new) (losses_line_of number losses)) }
 {
     writeln!(writer, "U+FFFD in the text of {number}: {losses}")

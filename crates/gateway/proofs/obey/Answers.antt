@@ -10,6 +10,12 @@ returns-in-DeleteIncomplete g c =
     let deletes = rw c.deref-in-DeleteIncomplete.ensures.value at c.incomplete_in.ensures.deletes in
     rw c.in-DeleteIncomplete.is (deletes, c.incomplete_in.ensures.io)
 
+pub returns-in-List : goal.returns-in-List
+returns-in-List g c = rw c.in-List.is (c.list_in.ensures.lists, c.list_in.ensures.io)
+
+pub returns-in-Json : goal.returns-in-Json
+returns-in-Json g c = rw c.in-Json.is (c.json_in.ensures.reads, c.json_in.ensures.io)
+
 pub returns-in-Upgrade : goal.returns-in-Upgrade
 returns-in-Upgrade g c = rw c.in-Upgrade.is (c.upgrade_in.ensures.upgrades, c.upgrade_in.ensures.io)
 
@@ -17,4 +23,7 @@ pub returns-in-Raise : goal.returns-in-Raise
 returns-in-Raise g c = rw c.in-Raise.is (c.raise_in.ensures.raises, c.raise_in.ensures.io)
 
 pub returns-in-Format : goal.returns-in-Format
-returns-in-Format g c = rw c.in-Format.is c.format_at.ensures
+returns-in-Format g c = rw c.in-Format.is c.format_at.ensures.formats
+
+pub returns-in-Text : goal.returns-in-Text
+returns-in-Text g c = rw c.in-Text.is c.text_in.ensures.texts

@@ -1,47 +1,49 @@
-use Rattle.std.proofs.Common.{◌≤◌, ◌∙◌, ◌+◌, ap, arith, drop, length, map, sym, take_all, ℕ, List, [], Bor}
+use Rattle.std.proofs.Common.{get_or, map, rules, take, ℕ, List, [], Bor}
+use Rattle.std.proofs.lemmas.Result.{err_from_is_err_and}
 use Rattle.enc_index.specs.declared.kind.Kind.{Kind}
 use Rattle.enc_index.specs.declared.kind.Kind.TheVariants.{Jis0208}
-use Rattle.gateway_indexes.specs.Found.{found_by, row_for, row_of}
-use Rattle.gateway_indexes.specs.IndexFiles.{named, read_as}
-use Rattle.gateway_indexes.proofs.Indexing.{read_next, read_past, told_more}
+use Rattle.gateway_indexes.specs.IndexFiles.{named}
+use Rattle.gateway_indexes.proofs.Reading.{no_memory_first, no_memory_more, read_more, read_none, rows_more}
 use Rattle.gateway_indexes.proofs.index_files.read_rows.Goals as goal
 
 abbrev other : Bor (List ℕ) × Kind
 other = (record { ref_ptr = (0, 0); now = [] }, Jis0208)
+
+pub loop-name-init : goal.loop-name-init
+loop-name-init g c = record {
+  read = read_none (g.R.IndexFolders.have c.args.folders.now) c.args.path.now
+      (g.R.IndexFolders.calls c.args.folders.now) _ _ (search rules) (search rules);
+  have = λ had is. is;
+}
 
 pub loop-name-preserved : goal.loop-name-preserved
 loop-name-preserved g c =
     let rows = c.args.table.now in
     let i = c.loop-name.name-index in
     record {
-      set = λ files has.
-          ap (λ set. read_as (map named (drop (i + 1) rows)) files set) (c.in_ok-found.ensures.read files has)
-          ∙ sym (read_next files c.loop-name.set rows i other c.loop-name-test.true)
-          ∙ c.loop-name.invariant.set files has;
-      rows =
-          told_more row_of (λ row. row_for (named row)) c.loop-name.files.items c.tell.new.files.items
-          c.new-in-loop-name.result rows i other c.loop-name.invariant.rows c.loop-name-test.true
-          c.in_ok-tell.ensures c.new-in-loop-name.ensures.row;
-      found = λ files has. told_more (λ file. file.found) (λ row. found_by files (named row)) c.loop-name.files.items
-          c.tell.new.files.items
-          c.new-in-loop-name.result rows i other (c.loop-name.invariant.found files has) c.loop-name-test.true
-          c.in_ok-tell.ensures (c.new-in-loop-name.ensures.found ∙ c.in_ok-found.ensures.found files has);
+      read = rw (rows_more rows i other c.loop-name-test.true)
+          (read_more (g.R.IndexFolders.have c.args.folders.now) (g.R.IndexFolders.have c.loop-name.folders)
+          c.args.path.now (map named (take i rows)) (named (get_or rows i other))
+          (g.R.IndexFolders.calls c.args.folders.now) (g.R.IndexFolders.calls c.loop-name.folders)
+          (g.R.IndexFolders.calls c.read_into.new.folders) c.loop-name.set c.read_into.new.set
+          c.loop-name.files.items c.tell.new.files.items c.in_ok-found.found c.new-in-loop-name.result
+          c.loop-name.invariant.have c.loop-name.invariant.read c.in_ok-found.ensures.read c.in_ok-tell.ensures
+          c.new-in-loop-name.ensures.row c.new-in-loop-name.ensures.found);
+      have = λ had is. c.read_into.ensures.have had (c.loop-name.invariant.have had is);
     }
 
-pub returns-clause-set : goal.returns-clause-set
-returns-clause-set g c files has =
-    sym (read_past files c.loop-name.set c.args.table.now c.loop-name.name-index c.loop-name-test.false)
-    ∙ c.loop-name.invariant.set files has
+pub returns-in_err-set-clause-refused : goal.returns-in_err-set-clause-refused
+returns-in_err-set-clause-refused g c =
+    let p = err_from_is_err_and c.from_residual.result c.from_residual.ensures.1 in
+    rw p.1 (no_memory_first c.args.path.now (g.R.IndexFolders.calls c.args.folders.now) _ p.2)
 
-pub returns-clause-rows : goal.returns-clause-rows
-returns-clause-rows g c =
-    let table = c.args.table.now in
-    let past : length table ≤ c.loop-name.name-index = omega arith in
-    c.loop-name.invariant.rows ∙ ap (map (λ row. row_for (named row))) (take_all c.loop-name.name-index table past)
-
-pub returns-clause-found : goal.returns-clause-found
-returns-clause-found g c files has =
-    let table = c.args.table.now in
-    let past : length table ≤ c.loop-name.name-index = omega arith in
-    c.loop-name.invariant.found files has
-    ∙ ap (map (λ row. found_by files (named row))) (take_all c.loop-name.name-index table past)
+pub returns-in_err-tell-clause-refused : goal.returns-in_err-tell-clause-refused
+returns-in_err-tell-clause-refused g c =
+    let p = err_from_is_err_and c.from_residual-in_err-tell.result c.from_residual-in_err-tell.ensures.1 in
+    let rows = c.args.table.now in
+    let i = c.loop-name.name-index in
+    rw p.1 (no_memory_more (g.R.IndexFolders.have c.args.folders.now) (g.R.IndexFolders.have c.loop-name.folders)
+    c.args.path.now (map named (take i rows)) (named (get_or rows i other)) (g.R.IndexFolders.calls c.args.folders.now)
+    (g.R.IndexFolders.calls c.loop-name.folders) (g.R.IndexFolders.calls c.read_into.new.folders) c.loop-name.set
+    c.read_into.new.set c.loop-name.files.items c.in_ok-found.found _ c.loop-name.invariant.read
+    c.in_ok-found.ensures.read p.2)

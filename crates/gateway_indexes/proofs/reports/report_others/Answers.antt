@@ -15,8 +15,8 @@ other = record { name = no_text; encodings = no_text; standard = 0; found = Miss
 pub loop-file-preserved : goal.loop-file-preserved
 loop-file-preserved g c =
     wrote_item other_line [] c.args.files.now c.loop-file.file-index other
-    (g.W.Write.contents c.args.writer.now) (g.W.Write.contents c.loop-file.writer)
-    (g.W.Write.contents c.report_other.new.writer) c.loop-file-test.true c.loop-file.invariant
+    (g.W.Output.contents c.args.writer.now) (g.W.Output.contents c.loop-file.writer)
+    (g.W.Output.contents c.report_other.new.writer) c.loop-file-test.true c.loop-file.invariant
     c.in_ok-report_other.ensures
 
 pub returns : goal.returns

@@ -5,5 +5,5 @@ use Rattle.gateway_indexes.proofs.reports.report_others.Given as goal
 
 abbrev pub invariant-loop-file : goal.invariant-loop-file
 invariant-loop-file g l =
-    Appends (g.W.Write.contents l.fn.writer) (g.W.Write.contents l.writer)
+    Appends (g.W.Output.contents l.fn.writer) (g.W.Output.contents l.writer)
     (flat_map other_line (take l.file-index l.files))

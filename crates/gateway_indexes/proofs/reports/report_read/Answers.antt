@@ -23,8 +23,8 @@ loop-file-init g c = rw (append-nil, ← c.count_read.ensures) c.in_ok-writeln.e
 pub loop-file-preserved : goal.loop-file-preserved
 loop-file-preserved g c =
     wrote_item file_lines (head c.args.files.now) c.args.files.now c.loop-file.file-index other
-    (g.W.Write.contents c.args.writer.now) (g.W.Write.contents c.loop-file.writer)
-    (g.W.Write.contents c.write.new.self) c.loop-file-test.true c.loop-file.invariant
+    (g.W.Output.contents c.args.writer.now) (g.W.Output.contents c.loop-file.writer)
+    (g.W.Output.contents c.write.new.self) c.loop-file-test.true c.loop-file.invariant
     c.in_ok-write.ensures.bytes
 
 pub returns : goal.returns

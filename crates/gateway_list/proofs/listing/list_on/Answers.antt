@@ -1,13 +1,11 @@
-use Rattle.std.proofs.Common.{ap, Err, Some, false, refl, subst, sym, true}
-use Rattle.spool_disk.specs.Views.{Lasts}
+use Rattle.std.proofs.Common.{ap, Err, Ok, Some, false, refl, true}
 use Rattle.upload_rules.specs.World.{at_rest}
-use Rattle.spool_load.proofs.ReadBys.{by_same}
-use Rattle.spool_image.specs.LeftOnly.{AllShow, LeftOrShows}
 use Rattle.spool_image.specs.Spool.{SpoolRepresents}
-use Rattle.spool_image.proofs.Opening.{view_more}
 use Rattle.gateway_outside.specs.InOrder.{in_order, shown_in_order}
-use Rattle.gateway_outside.specs.Refusals.{change_refused, lists_as, is_damaged, other_version, unopened, write_fault}
+use Rattle.gateway_outside.specs.Refusals.{change_refused, done_by, lists_as, is_damaged, other_version, unopened}
+use Rattle.gateway_outside.specs.Refusals.{write_fault}
 use Rattle.gateway_indexes.specs.declared.surveying.Survey.{Survey}
+use Rattle.gateway_list.proofs.Opened.{given_same}
 use Rattle.gateway_list.proofs.listing.list_on.Goals as goal
 
 pub returns-in-Ok-written-clause-lines : goal.returns-in-Ok-written-clause-lines
@@ -40,17 +38,18 @@ returns-in-Err-clause-damaged g c honest is = is_damaged _ _ c.from.ensures (c.i
 
 pub returns-in-Ok-written-clause-given : goal.returns-in-Ok-written-clause-given
 returns-in-Ok-written-clause-given g c =
-    by_same c.in-Ok.ensures.given (ap g.D.Disk.reads c.into_disk-disk.ensures.same)
+    given_same c.in-Ok.ensures.given (ap g.D.Disk.reads c.into_disk-disk.ensures.same)
     (λ before after is. record {
       refused = tt;
       done =
-          view_more (λ v has_view m shows. c.in-Ok-written.ensures.lines false (at_rest m (Some v.blocks))
+          done_by _ before after _ _ (Ok c.in-Ok.survey) (λ v m shows has_view.
+          c.in-Ok-written.ensures.lines false (at_rest m (Some v.blocks))
           (c.in-Ok.ensures.represents_view v m shows has_view) (shown_in_order v m shows)) is.memory;
     })
 
 pub returns-in-Err-written-clause-given : goal.returns-in-Err-written-clause-given
 returns-in-Err-written-clause-given g c =
-    by_same c.in-Ok.ensures.given (ap g.D.Disk.reads c.into_disk-disk.ensures.same)
+    given_same c.in-Ok.ensures.given (ap g.D.Disk.reads c.into_disk-disk.ensures.same)
     (λ before after is. record {
       refused =
           change_refused _ before after {T = Survey} (Err c.in-Err-written.fault)
@@ -60,5 +59,5 @@ returns-in-Err-written-clause-given g c =
 
 pub returns-in-Err-clause-given : goal.returns-in-Err-clause-given
 returns-in-Err-clause-given g c =
-    by_same c.in-Err.ensures.given refl
+    given_same c.in-Err.ensures.given refl
     (λ before after is. unopened _ before after c.in-Err.fault c.from.result c.from.ensures is.exact.refused)
