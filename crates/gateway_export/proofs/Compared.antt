@@ -1,6 +1,6 @@
 -- Files that are compared with texts, piece by piece.
 use Rattle.std.proofs.Common.{◌≡◌, ◌∙◌, ap, arith, subst, sym, ℕ, ◌+◌, ◌≤◌, Bool, true, false, List}
-use Rattle.std.proofs.Common.{◌++◌, length, take, drop}
+use Rattle.std.proofs.Common.{◌++◌, Ok, Result, length, take, drop}
 use Rattle.std.specs.Prelude.{bytes_eq}
 use Rattle.std.proofs.lemmas.List.{take_all}
 use Rattle.std.proofs.lemmas.Slice.Eq.{bytes_eq-Decides}
@@ -9,7 +9,7 @@ use Rattle.gateway_texts.specs.Copies.{AreOf}
 use Rattle.gateway_texts.specs.Pieces.{are_both, take_on}
 use Rattle.gateway_export.specs.Exporting.{IsLike, IsText}
 use Rattle.gateway_export.specs.declared.comparing.Likeness.{Likeness}
-use Rattle.gateway_export.specs.declared.comparing.Likeness.TheVariants.{Other, Same}
+use Rattle.gateway_export.specs.declared.comparing.Likeness.TheVariants.{Other, Same, Unread}
 
 same_eq : (x : List ℕ) → bytes_eq x x ≡ true
 same_eq x = grind (arith, bytes_eq-Decides x x)
@@ -46,6 +46,11 @@ like_same sure bytes text likeness is like = rw is at like
 pub like_other : (sure : Bool) (bytes text : List ℕ) (likeness : Likeness) → likeness ≡ Other
     → IsLike sure bytes text likeness → IsText sure bytes text false
 like_other sure bytes text likeness is like = rw is at like
+
+-- what is the same was read
+pub same_read : {E : Type 0} (likeness : Likeness) → likeness ≡ Same
+    → ◌≡◌ {A = Result Likeness E} (Ok likeness) (Ok Unread) → ⊥
+same_read likeness is unread = absurd (cc)
 
 -- where one piece differs, all does
 pub whole_differs : (sure : Bool) (bytes text : List ℕ) (at count : ℕ)

@@ -27,7 +27,7 @@ use Rattle.gateway_export.proofs.Named.{Apart}
 use Rattle.gateway_export.specs.declared.planning.Job as code
 
 -- one job more
-jobs_more : (shown : code.Job → Job) (jobs : List code.Job) (i : ℕ) (job : code.Job) → i < length jobs
+pub jobs_more : (shown : code.Job → Job) (jobs : List code.Job) (i : ℕ) (job : code.Job) → i < length jobs
     → job ≡ get_or jobs i job → map shown (take i jobs) ++ shown job ∷ [] ≡ map shown (take (i + 1) jobs)
 jobs_more shown jobs i job lt is =
     sym (ap (λ js. map shown js) (take_more jobs i job lt)
@@ -84,7 +84,7 @@ each_none P job none number name (inr never) = absurd never
 
 -- WHAT STAYS
 
-new_preserves : (there : Option (List ℕ)) (files : Files) (name text : List ℕ) → files name ≡ there
+pub new_preserves : (there : Option (List ℕ)) (files : Files) (name text : List ℕ) → files name ≡ there
     → PreservesFiles files (new_file there files name text)
 new_preserves (Some bytes) files name text is = λ other held here. here
 new_preserves None files name text none = λ other held here. elim (true_or_false (bytes_eq other name)) [
@@ -318,7 +318,7 @@ any_one differs is = record {
 }
 
 -- WHERE IT IS SURE the files are those of the store's texts
-surely : (m : Store) (jobs : List Job) (files now : Files) → ExportedAs true m jobs files now
+pub surely : (m : Store) (jobs : List Job) (files now : Files) → ExportedAs true m jobs files now
     → now ≡ exported m files jobs
 surely m [] files now is = is
 surely m (job ∷ jobs) files now is =

@@ -2,3 +2,8 @@ mod Compared
 mod Planned
 mod Named
 mod Exported
+mod Counting
+mod Opened
+mod Told
+mod Later
+mod Finding

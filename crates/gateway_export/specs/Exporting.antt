@@ -1,6 +1,7 @@
 -- What `export` makes of a folder's files, and what it prints of the uploads.
-use Rattle.std.specs.Prelude.{◌≡◌, ◌⊎◌, ◌||◌, ℕ, Bool, true, false, not, List, [], ◌∷◌, ◌++◌, bytes_eq, codes, decimal}
-use Rattle.std.specs.Prelude.{Option, Some, None, take}
+use Rattle.std.specs.Prelude.{◌≡◌, ◌⊎◌, ◌||◌, ◌+◌, ℕ, Bool, true, false, not, List, [], ◌∷◌, ◌++◌, bytes_eq, codes}
+use Rattle.std.specs.Prelude.{IsSome, decimal, Option, Some, None, length, take}
+use Rattle.std.specs.Io.KnownBytes.{Appends}
 use Rattle.upload_rules.specs.Reading.{text_at}
 use Rattle.upload_rules.specs.Store.{Store, upload_of}
 use Rattle.gateway_outside.specs.Files.{Files}
@@ -167,6 +168,53 @@ some_amiss done = done.differs || done.unread
 abbrev pub IsFound : Bool → List ℕ → List ℕ → Outcome → Type 0
 IsFound sure bytes text outcome = is_unread outcome ≡ false → IsText sure bytes text (not (is_other outcome))
 
+-- WHAT IS TOLD OF AN UPLOAD, by the files when it is its turn: its text was written where there was no file of its
+-- name, or is in the file that was there, or isn't; or that file couldn't be read or synced
+abbrev pub ToldAs : Files → Option (List ℕ) → List ℕ → Outcome → Type 0
+ToldAs files None text outcome = outcome ≡ Incomplete
+ToldAs files (Some name) text (Exported told) = (told.now ≡ name) × (files name ≡ None)
+ToldAs files (Some name) text (There told) = (told.now ≡ name) × (files name ≡ Some text)
+ToldAs files (Some name) text (Differs told) = (told.now ≡ name) × (differs_from (files name) text ≡ true)
+ToldAs files (Some name) text (Unread told) = (told.now ≡ name) × IsSome (files name)
+ToldAs files (Some name) text (Failed told) = ⊥
+ToldAs files (Some name) text Incomplete = ⊥
+
+abbrev pub ToldOne : Store → Files → Job → Outcome → Type 0
+ToldOne m files job outcome = ToldAs files job.1 (text_at m (upload_of m job.0)) outcome
+
+-- of each
+abbrev pub AreTold : Store → Files → List Job → List Outcome → Type 0
+AreTold m files [] [] = Unit {0}
+AreTold m files (job ∷ jobs) (outcome ∷ outcomes) =
+    ToldOne m files job outcome × AreTold m (exported_one m files job) jobs outcomes
+AreTold m files _ _ = ⊥
+
+-- how many of some kind
+abbrev pub is_exported : Outcome → Bool
+is_exported (Exported name) = true
+is_exported outcome = false
+
+abbrev pub is_there : Outcome → Bool
+is_there (There name) = true
+is_there outcome = false
+
+abbrev pub one_if : Bool → ℕ
+one_if true = 1
+one_if false = 0
+
+abbrev pub how_many : (Outcome → Bool) → List Outcome → ℕ
+how_many test [] = 0
+how_many test (outcome ∷ outcomes) = one_if (test outcome) + how_many test outcomes
+
+-- a file of this name that was there, and what it came to
+abbrev pub IsOfFound : List ℕ → Outcome → Type 0
+IsOfFound name (There told) = told.now ≡ name
+IsOfFound name (Differs told) = told.now ≡ name
+IsOfFound name (Unread told) = told.now ≡ name
+IsOfFound name (Exported told) = ⊥
+IsOfFound name (Failed told) = ⊥
+IsOfFound name Incomplete = ⊥
+
 -- of each: its text was written into this file, or is in it already, or the file is another one or couldn't be read, or
 -- writing it failed, or it isn't complete
 abbrev pub outcome_line : ℕ → Outcome → List ℕ
@@ -186,3 +234,30 @@ abbrev pub summary_line : ℕ → ℕ → ℕ → Bool → List ℕ
 summary_line exported uploads there differs =
     codes "exported " ++ (decimal exported ++ (codes " of " ++ (decimal uploads ++ (codes " uploads, "
     ++ (decimal there ++ summary_end differs)))))
+
+-- THE LINES OF UPLOADS, one for each
+abbrev pub told_lines : List Job → List Outcome → List ℕ
+told_lines [] outcomes = []
+told_lines (job ∷ jobs) [] = []
+told_lines (job ∷ jobs) (outcome ∷ outcomes) = outcome_line job.0 outcome ++ told_lines jobs outcomes
+
+-- what is told of each was printed and counted
+pub record TellsEach (m : Store) (files : Files) (jobs : List Job) (before after : Option (List ℕ))
+    (exported there : ℕ) : Type 0
+  where
+    pub outcomes : List Outcome
+    pub told : AreTold m files jobs outcomes
+    pub exported_is : exported ≡ how_many is_exported outcomes
+    pub there_is : there ≡ how_many is_there outcomes
+    pub wrote : Appends before after (told_lines jobs outcomes)
+
+-- WHAT IS PRINTED of an export, and counted: a line of each upload, and one of all
+pub record Tells (m : Store) (files : Files) (jobs : List Job) (before after : Option (List ℕ)) (done : ExportTally) :
+    Type 0
+  where
+    pub outcomes : List Outcome
+    pub told : AreTold m files jobs outcomes
+    pub exported_is : done.exported ≡ how_many is_exported outcomes
+    pub there_is : done.there ≡ how_many is_there outcomes
+    pub wrote : Appends before after
+        (told_lines jobs outcomes ++ summary_line done.exported (length jobs) done.there done.differs)

@@ -1,6 +1,11 @@
 -- What a folder's calls leave of its files.
 use Rattle.std.specs.Prelude.{◌≡◌, ◌⊎◌, Bool, true, false, List, Option, None, Some, ℕ, bytes_eq, if◌then◌else◌}
+use Rattle.common.specs.declared.stop.Stop.TheVariants.{NoMemory}
 use Rattle.gateway_outside.specs.Files.{Files}
+use Rattle.gateway_outside.specs.declared.faults.Fault.{Fault}
+use Rattle.gateway_outside.specs.declared.faults.Fault.TheVariants.{Io, Stop}
+use Rattle.gateway_export.specs.declared.folders.FolderError.{FolderError}
+use Rattle.gateway_export.specs.declared.folders.FolderError.TheVariants as errors
 
 -- with these bytes under this name, and all else as it was
 abbrev pub with_file : Files → List ℕ → List ℕ → Files
@@ -33,3 +38,8 @@ pub record HoldsAll (holds : Files → Type 0) (files : Files) : Type 0 where
 -- what outlasts a crash still does
 abbrev pub StillLast : (List ℕ → Type 0) → (List ℕ → Type 0) → Type 0
 StillLast lasting lasting' = (name : List ℕ) → lasting name → lasting' name
+
+-- what is answered where a call failed
+abbrev pub folder_fault : FolderError → Fault
+folder_fault errors.NoMemory = Stop NoMemory
+folder_fault errors.Refused = Io

@@ -1,6 +1,6 @@
 //! Files that are there, compared with the texts of uploads.
-ghost use Rattle.std.specs.Prelude.{◌≡◌, ◌<◌, ◌≤◌, ◌+◌, ◌-◌, ℕ, Bool, List, IfErr, IfOk, IsErrOf, OnOk, Some, drop};
-ghost use Rattle.std.specs.Prelude.{length, min, take};
+ghost use Rattle.std.specs.Prelude.{◌≡◌, ◌<◌, ◌≤◌, ◌+◌, ◌-◌, ℕ, Bool, List, IfErr, IfOk, IsErrOf, Ok, OnOk, Some};
+ghost use Rattle.std.specs.Prelude.{drop, length, min, take};
 ghost use Rattle.common.specs.Given.{MoreReads};
 ghost use Rattle.common.specs.declared.stop.Stop.{Stop};
 ghost use Rattle.upload_rules.specs.Answers.{Counts, Quiet};
@@ -11,12 +11,13 @@ ghost use Rattle.gateway_outside.specs.declared.faults.Fault.{Fault};
 ghost use Rattle.gateway_outside.specs.Changing.{IsChangeFault};
 ghost use Rattle.gateway_outside.specs.Files.{Files};
 ghost use Rattle.gateway_export.specs.Exporting.{IsLike};
+ghost use Rattle.gateway_export.specs.declared.comparing.Likeness.{Likeness};
 ghost use Rattle.gateway_export.specs.Folders.{StillLast};
 
-use crate::folders::Folder;
+use crate::folders::{Folder, FolderError};
+use common::Stop;
 use gateway_outside::Fault;
 use gateway_texts::{PIECE, read_at};
-use std::io;
 use upload_rules::Uploads;
 
 /// Whether a file that is there is a text.
@@ -53,6 +54,12 @@ pub(crate) fn compare_text<F: Folder, U: Uploads>(
     ensures counts { Counts (IsErrOf result (Fault.Stop Stop.DiskFault)) (U.failures uploads.old)
         (U.failures uploads.new) }
     ensures reads { MoreReads (U.reads uploads.old) (U.reads uploads.new) }
+
+    // It couldn't be read exactly where the folder refused that.
+    ensures unread { Counts (result ≡ Ok Likeness.Unread) (F.unread folder.old) (F.unread folder.new) }
+    ensures refusals { F.refusals folder.new ≡ F.refusals folder.old }
+    ensures never_io { (sure : Bool) (w : World) → U.represents uploads.old sure w
+        → IfErr result (λ fault. fault ≡ Fault.Io → ⊥) }
 {
     if len != text_len(uploads, number) {
         return Ok(Likeness::Other);
@@ -69,8 +76,8 @@ pub(crate) fn compare_text<F: Folder, U: Uploads>(
     Ok(Likeness::Same)
 }
 
-// How many bytes the text of an upload has.
-fn text_len<U: Uploads>(uploads: &U, number: u64) -> u64
+/// How many bytes the text of an upload has.
+pub(crate) fn text_len<U: Uploads>(uploads: &U, number: u64) -> u64
     ensures { (sure : Bool) (w : World) → U.represents uploads.now sure w
         → result ≡ length (text_at w.store (upload_of w.store number)) }
 {
@@ -106,6 +113,11 @@ fn compare_piece<F: Folder, U: Uploads>(
     ensures counts { Counts (IsErrOf result (Fault.Stop Stop.DiskFault)) (U.failures uploads.old)
         (U.failures uploads.new) }
     ensures reads { MoreReads (U.reads uploads.old) (U.reads uploads.new) }
+    ensures unread { Counts (result ≡ Ok Likeness.Unread) (F.unread folder.old) (F.unread folder.new) }
+    ensures refusals { F.refusals folder.new ≡ F.refusals folder.old }
+    ensures never_io { (sure : Bool) (w : World) → U.represents uploads.old sure w → 0 < count
+        → at + count ≤ length (text_at w.store (upload_of w.store number))
+        → IfErr result (λ fault. fault ≡ Fault.Io → ⊥) }
 {
     let mut buffer = [0; PIECE];
     let piece = &mut buffer[..count];
@@ -113,20 +125,8 @@ fn compare_piece<F: Folder, U: Uploads>(
     match folder.has_at(name, at, piece) {
         Ok(true) => Ok(Likeness::Same),
         Ok(false) => Ok(Likeness::Other),
-        Err(error) => {
-            pass_over(error)?;
-            Ok(Likeness::Unread)
-        }
-    }
-}
-
-/// A file that is there couldn't be read or synced, which is no reason to leave the others. Refused with `NoMemory`,
-/// where that is why.
-pub(crate) fn pass_over(error: io::Error) -> Result<(), Fault>
-    ensures { IfErr result (λ fault. fault ≡ Fault.Stop Stop.NoMemory) }
-{
-    match Fault::from(error) {
-        Fault::Stop(stop) => Err(Fault::Stop(stop)),
-        _ => Ok(()),
+        // That a file that is there can't be read is no reason to leave the others.
+        Err(FolderError::Refused) => Ok(Likeness::Unread),
+        Err(FolderError::NoMemory) => Err(Fault::Stop(Stop::NoMemory)),
     }
 }

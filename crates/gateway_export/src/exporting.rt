@@ -1,7 +1,7 @@
 //! The texts of a spool's uploads, written into files.
 
-ghost use Rattle.std.specs.Prelude.{◌≡◌, [], ◌∷◌, ℕ, Bool, Err, IfErr, IfOk, IsErrOf, IsOk, OnOk, ◌||◌, false, map};
-ghost use Rattle.std.specs.Prelude.{true};
+ghost use Rattle.std.specs.Prelude.{◌≡◌, [], ◌∷◌, ℕ, Bool, Err, IfErr, IfOk, IsErr, IsErrAnd, IsErrOf, IsOk, OnOk};
+ghost use Rattle.std.specs.Prelude.{◌||◌, ◌+◌, ◌<◌, ◌^◌, false, map, true};
 ghost use Rattle.std.specs.Io.KnownBytes.{Appends};
 ghost use Rattle.common.specs.Given.{MoreReads};
 ghost use Rattle.common.specs.declared.stop.Stop.{Stop};
@@ -13,68 +13,29 @@ ghost use Rattle.spool_image.specs.LeftOnly.{AllShow, IsSpool};
 ghost use Rattle.spool_image.specs.Opening.{OpeningReadsBy};
 ghost use Rattle.gateway_outside.specs.declared.faults.Fault.{Fault};
 ghost use Rattle.gateway_outside.specs.Changing.{IsChangeResult, IsChangeFault};
-ghost use Rattle.gateway_outside.specs.Failures.{fault_in};
 ghost use Rattle.gateway_outside.specs.Files.{Files};
 ghost use Rattle.gateway_outside.specs.Leaving.{LeavesOne};
 ghost use Rattle.gateway_outside.specs.InOrder.{IsInOrder};
 ghost use Rattle.gateway_outside.specs.Listing.{AnswersAs, ListRefusedFor, RefusesListAs};
 ghost use Rattle.gateway_export.specs.Exporting.{AllLast, Exports, ExportsAs, ExportsSome, ExportsSomeAs, HoldsEach};
 ghost use Rattle.gateway_export.specs.Exporting.{TellsOf, exported, is_other, is_unread, some_amiss, some_differ};
-ghost use Rattle.gateway_export.specs.Exporting.{summary_line};
+ghost use Rattle.gateway_export.specs.Exporting.{Tells, TellsEach, is_exported, is_there, one_if, summary_line};
 ghost use Rattle.gateway_export.specs.Folders.{HoldsAll, StillLast};
+ghost use Rattle.gateway_export.specs.Refused.{IsStop, RefusedAs, UnreadAs};
 ghost use Rattle.gateway_export.specs.Planning.{job_in, jobs_of};
 
-use crate::folders::{FileFolder, Folder};
+use crate::folders::Folder;
 use crate::outcomes::{Outcome, do_job};
 use crate::planning::{Job, plan};
-use gateway_outside::{Advice, Failure, Fault, Noted, Task, open_spool, refused_spool};
+use gateway_outside::{Fault, Output, Refused};
 use spool_disk::Disk;
 use spool_image::Spool;
 use std::alloc::Global;
-use std::io::{self, Write};
 use upload_rules::Uploads;
-
-/// Writes the text of each complete upload of a spool, or of each upload, into a file of its own in a folder, and
-/// prints a line for each upload. A file gets its name once it is whole. A file that was there before stays as it is,
-/// and the others are still written. If such a file couldn't be read or synced, the call is refused at the end, with
-/// `Io`; or else, if one isn't its upload's text, byte for byte, with `FileDiffers`.
-pub fn export_file<'a>(
-    rt: &'a HostRuntime,
-    alloc: Global,
-    spool: &'a str,
-    folder: &'a str,
-    all: bool,
-) -> Result<(), Failure<'a>> {
-    let mut output = Noted::new(io::writer(rt));
-    let mut files = FileFolder::find(rt, alloc, folder)?;
-    let (disk, exported) = export_on(alloc, &mut output, &mut files, open_spool(rt, spool)?, all);
-    match (exported, files.error()) {
-        (Ok(done), _) if done.unread => Err(unread_in(folder, files.unread())),
-        (Ok(done), _) if done.differs => {
-            Err(Failure::advised(Fault::FileDiffers, Advice::Differs(folder)))
-        }
-        (Ok(_), _) => Ok(()),
-        (Err(Fault::Io), Some(error)) => {
-            Err(Failure::new(Fault::Io, Task::WriteInto(folder), error))
-        }
-        (Err(Fault::Io), None) => Err(Failure::on_streams(Fault::Io, None, output.error())),
-        (Err(fault), _) => Err(refused_spool(fault, spool, disk)),
-    }
-}
-
-// Some files of this folder couldn't be read or synced, the first for this reason.
-fn unread_in<'a>(folder: &'a str, error: Option<io::Error>) -> Failure<'a>
-    ensures { fault_in result ≡ Fault.Io }
-{
-    match error {
-        Some(error) => Failure::new(Fault::Io, Task::ReadTexts(folder), error),
-        None => Failure::from(Fault::Io),
-    }
-}
 
 /// Writes the text of each complete upload of the spool on a disk, or of each upload, into a file of a folder, and a
 /// line for each upload. The disk is handed back.
-pub fn export_on<D: Disk + Drop, F: Folder, W: Write>(
+pub fn export_on<D: Disk + Drop, F: Folder, W: Output>(
     alloc: Global,
     writer: &mut W,
     folder: &mut F,
@@ -107,6 +68,11 @@ pub fn export_on<D: Disk + Drop, F: Folder, W: Write>(
         → IfOk result.1 (λ done. TellsOf done.differs done.unread
         (some_differ m files (jobs_of (F.takes folder.old) all m))) }
 
+    // What is printed is a line of each upload, by the files when it is its turn, and one of all, with their counts.
+    ensures tells { (n : ℕ) (m : Store) → IsSpool D.Disk disk n m → (files : Files) → F.holds folder.old files
+        → IfOk result.1 (Tells m files (jobs_of (F.takes folder.old) all m) (W.contents writer.old)
+        (W.contents writer.new)) }
+
     // The disk shows the same uploads still, and a crash at any moment of it leaves them.
     ensures shows { (n : ℕ) (m : Store) → IsSpool D.Disk disk n m → IsOk result.1 → AllShow D.Disk result.0 n m }
     ensures lasts { (n : ℕ) (m : Store) → IsSpool D.Disk disk n m → LeavesOne D.Disk disk result.0 n m (m ∷ []) }
@@ -127,6 +93,12 @@ pub fn export_on<D: Disk + Drop, F: Folder, W: Write>(
         → RefusesListAs result.1 Fault.Version }
     ensures damaged { D.honest disk → IsDamaged (D.size disk) (D.current disk) → RefusesListAs result.1 Fault.Damaged }
     ensures counts { Counts (result.1 ≡ Err (Fault.Stop Stop.DiskFault)) (D.failures disk) (D.failures result.0) }
+
+    // `Io` is answered exactly where the writer or the folder refused, but that a fault's line may be lost. `unread` is
+    // whether the folder refused to read or sync a file that was there.
+    ensures io { RefusedAs (IsErrOf result.1 Fault.Io) (IsErrAnd result.1 IsStop) (W.refusals writer.old)
+        (W.refusals writer.new) (F.refusals folder.old) (F.refusals folder.new) }
+    ensures unread { UnreadAs result.1 (F.unread folder.old) (F.unread folder.new) }
 {
     match Spool::open(alloc, disk) {
         Ok(mut spool) => {
@@ -141,7 +113,7 @@ pub fn export_on<D: Disk + Drop, F: Folder, W: Write>(
 /// are made before the first file.
 ///
 /// Refused with `NoMemory`, `DiskFault` or `Io` at one of them: the files of those before it are written.
-pub fn export_uploads<W: Write, F: Folder, U: Uploads>(
+pub fn export_uploads<W: Output, F: Folder, U: Uploads>(
     alloc: Global,
     writer: &mut W,
     folder: &mut F,
@@ -172,6 +144,12 @@ pub fn export_uploads<W: Write, F: Folder, U: Uploads>(
         → AllLast (F.lasting folder.new) (jobs_of (F.takes folder.old) all w.store)) }
     ensures still { StillLast (F.lasting folder.old) (F.lasting folder.new) }
 
+    // What is printed is a line of each upload, by the files when it is its turn, and one of all, with their counts.
+    ensures tells { (w : World) → U.represents uploads.old true w → IsInOrder w.store → (files : Files)
+        → F.holds folder.old files
+        → IfOk result (Tells w.store files (jobs_of (F.takes folder.old) all w.store) (W.contents writer.old)
+        (W.contents writer.new)) }
+
     // The uploads stay as they are, and whatever a crash may leave.
     ensures represents { (sure : Bool) (w : World) → U.represents uploads.old sure w
         → OnOk result (U.represents uploads.new sure w) }
@@ -181,6 +159,13 @@ pub fn export_uploads<W: Write, F: Folder, U: Uploads>(
     ensures counts { Counts (IsErrOf result (Fault.Stop Stop.DiskFault)) (U.failures uploads.old)
         (U.failures uploads.new) }
     ensures reads { MoreReads (U.reads uploads.old) (U.reads uploads.new) }
+
+    // `Io` is answered exactly where the writer or the folder refused, but that a fault's line may be lost. `unread` is
+    // whether the folder refused to read or sync a file that was there.
+    ensures io { (sure : Bool) (w : World) → U.represents uploads.old sure w
+        → RefusedAs (IsErrOf result Fault.Io) (IsErrAnd result IsStop) (W.refusals writer.old)
+        (W.refusals writer.new) (F.refusals folder.old) (F.refusals folder.new) }
+    ensures unread { UnreadAs result (F.unread folder.old) (F.unread folder.new) }
 {
     let jobs = plan(alloc, uploads, folder, all)?;
     let done = do_jobs(writer, folder, uploads, &jobs)?;
@@ -202,7 +187,7 @@ pub struct ExportTally {
 }
 
 // Writes texts into files, and a line for each upload.
-fn do_jobs<W: Write, F: Folder, U: Uploads>(
+fn do_jobs<W: Output, F: Folder, U: Uploads>(
     writer: &mut W,
     folder: &mut F,
     uploads: &mut U,
@@ -219,6 +204,9 @@ fn do_jobs<W: Write, F: Folder, U: Uploads>(
         (some_differ w.store files (map (job_in (F.takes folder.old)) jobs.now))) }
     ensures settled { (files : Files) → F.holds folder.old files → IfOk result (λ done. some_amiss done ≡ false
         → AllLast (F.lasting folder.new) (map (job_in (F.takes folder.old)) jobs.now)) }
+    ensures tells { (w : World) → U.represents uploads.old true w → (files : Files) → F.holds folder.old files
+        → IfOk result (λ done. TellsEach w.store files (map (job_in (F.takes folder.old)) jobs.now)
+        (W.contents writer.old) (W.contents writer.new) done.exported done.there) }
     ensures still { StillLast (F.lasting folder.old) (F.lasting folder.new) }
     ensures preserves { (files : Files) → F.holds folder.old files → HoldsAll (F.holds folder.new) files }
     ensures represents { (sure : Bool) (w : World) → U.represents uploads.old sure w
@@ -229,6 +217,10 @@ fn do_jobs<W: Write, F: Folder, U: Uploads>(
     ensures counts { Counts (IsErrOf result (Fault.Stop Stop.DiskFault)) (U.failures uploads.old)
         (U.failures uploads.new) }
     ensures reads { MoreReads (U.reads uploads.old) (U.reads uploads.new) }
+    ensures io { (sure : Bool) (w : World) → U.represents uploads.old sure w
+        → RefusedAs (IsErrOf result Fault.Io) (IsErrAnd result IsStop) (W.refusals writer.old)
+        (W.refusals writer.new) (F.refusals folder.old) (F.refusals folder.new) }
+    ensures unread { UnreadAs result (F.unread folder.old) (F.unread folder.new) }
 {
     let mut done = ExportTally {
         exported: 0,
@@ -236,6 +228,8 @@ fn do_jobs<W: Write, F: Folder, U: Uploads>(
         differs: false,
         unread: false,
     };
+    // so few that they can be counted
+    let _few = jobs.len();
     for job in jobs {
         let outcome = do_job(writer, folder, uploads, job)?;
         done = done.and(outcome);
@@ -248,6 +242,9 @@ impl ExportTally {
     fn and(self, outcome: Outcome) -> Self
         ensures differs { result.differs ≡ (self.differs || is_other outcome.entry) }
         ensures unread { result.unread ≡ (self.unread || is_unread outcome.entry) }
+        ensures exported { self.exported + 1 < 2 ^ 64
+            → result.exported ≡ self.exported + one_if (is_exported outcome.entry) }
+        ensures there { self.there + 1 < 2 ^ 64 → result.there ≡ self.there + one_if (is_there outcome.entry) }
     {
         ExportTally {
             exported: self
@@ -263,9 +260,10 @@ impl ExportTally {
 }
 
 // Prints how many texts were written, of how many uploads, how many were there, and whether a file isn't its text.
-fn report_done<W: Write>(writer: &mut W, done: ExportTally, uploads: usize) -> io::Result<()>
-    ensures { OnOk result (Appends (W.contents writer.old) (W.contents writer.new)
+fn report_done<W: Output>(writer: &mut W, done: ExportTally, uploads: usize) -> Result<(), Refused>
+    ensures line { OnOk result (Appends (W.contents writer.old) (W.contents writer.new)
         (summary_line done.exported uploads done.there done.differs)) }
+    ensures counts { Counts (IsErr result) (W.refusals writer.old) (W.refusals writer.new) }
 {
     let ExportTally {
         exported,

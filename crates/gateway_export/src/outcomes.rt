@@ -1,7 +1,7 @@
 //! The export of one upload's text, and what became of it.
 
-ghost use Rattle.std.specs.Prelude.{◌≡◌, [], ◌∷◌, ℕ, List, Bool, IfErr, IfOk, IfSome, IsErrOf, OnErr, OnOk, Some};
-ghost use Rattle.std.specs.Prelude.{false, length, string_bytes, true};
+ghost use Rattle.std.specs.Prelude.{◌≡◌, [], ◌∷◌, ℕ, List, Bool, IfErr, IfOk, IfSome, IsErr, IsErrAnd, IsErrOf};
+ghost use Rattle.std.specs.Prelude.{IsOkAnd, IsSome, IsSomeAnd, OnErr, OnOk, Some, false, length, string_bytes, true};
 ghost use Rattle.std.specs.Io.KnownBytes.{Appends};
 ghost use Rattle.common.specs.Given.{MoreReads};
 ghost use Rattle.common.specs.declared.stop.Stop.{Stop};
@@ -14,16 +14,17 @@ ghost use Rattle.gateway_outside.specs.Changing.{IsChangeFault};
 ghost use Rattle.gateway_outside.specs.Files.{Files};
 ghost use Rattle.gateway_export.specs.Exporting.{AllLast, DoneAs, ExportsAs, ExportsOneAs, FailsAs, IsFound, TellsOf};
 ghost use Rattle.gateway_export.specs.Exporting.{TakenAs, WroteAs, differs_one, is_amiss, is_other, is_unread};
-ghost use Rattle.gateway_export.specs.Exporting.{outcome_line};
+ghost use Rattle.gateway_export.specs.Exporting.{IsOfFound, ToldOne, outcome_line};
 ghost use Rattle.gateway_export.specs.Folders.{HoldsAll, StillLast};
+ghost use Rattle.gateway_export.specs.Refused.{IsStop, RefusedAs};
 ghost use Rattle.gateway_export.specs.Planning.{job_in};
 
-use crate::comparing::{Likeness, compare_text, pass_over};
-use crate::folders::Folder;
+use crate::comparing::{Likeness, compare_text};
+use crate::folders::{Folder, FolderError};
 use crate::planning::Job;
-use gateway_outside::Fault;
-use gateway_texts::copy_text;
-use std::io::{self, Write};
+use crate::writing::copy_into;
+use common::Stop;
+use gateway_outside::{Fault, Output, Refused};
 use upload_rules::Uploads;
 
 /// What became of an upload.
@@ -44,7 +45,7 @@ pub(crate) enum Outcome<'j> {
 }
 
 /// Writes a text into a file, where that is to be done, and a line.
-pub(crate) fn do_job<'j, W: Write, F: Folder, U: Uploads>(
+pub(crate) fn do_job<'j, W: Output, F: Folder, U: Uploads>(
     writer: &mut W,
     folder: &mut F,
     uploads: &mut U,
@@ -60,6 +61,13 @@ pub(crate) fn do_job<'j, W: Write, F: Folder, U: Uploads>(
     ensures differs { (w : World) → U.represents uploads.old true w → (files : Files) → F.holds folder.old files
         → IfOk result (λ outcome. TellsOf (is_other outcome) (is_unread outcome)
         (differs_one w.store files (job_in (F.takes folder.old) job.now))) }
+
+    // What is told is so, and its line is printed.
+    ensures told { (w : World) → U.represents uploads.old true w → (files : Files) → F.holds folder.old files
+        → IfOk result (λ outcome. ToldOne w.store files (job_in (F.takes folder.old) job.now) outcome) }
+    ensures line { IfOk result (λ outcome. Appends (W.contents writer.old) (W.contents writer.new)
+        (outcome_line job.now.number outcome)) }
+
     ensures settled { (files : Files) → F.holds folder.old files → IfOk result (λ outcome. is_amiss outcome ≡ false
         → AllLast (F.lasting folder.new) (job_in (F.takes folder.old) job.now ∷ [])) }
     ensures names { F.takes folder.new ≡ F.takes folder.old }
@@ -73,6 +81,13 @@ pub(crate) fn do_job<'j, W: Write, F: Folder, U: Uploads>(
     ensures counts { Counts (IsErrOf result (Fault.Stop Stop.DiskFault)) (U.failures uploads.old)
         (U.failures uploads.new) }
     ensures reads { MoreReads (U.reads uploads.old) (U.reads uploads.new) }
+
+    // `Io` is answered exactly where the writer or the folder refused, but that a fault's line may be lost.
+    ensures io { (sure : Bool) (w : World) → U.represents uploads.old sure w
+        → RefusedAs (IsErrOf result Fault.Io) (IsErrAnd result IsStop) (W.refusals writer.old)
+        (W.refusals writer.new) (F.refusals folder.old) (F.refusals folder.new) }
+    ensures unread { IfOk result (λ outcome. Counts (is_unread outcome ≡ true) (F.unread folder.old)
+        (F.unread folder.new)) }
 {
     match (export_job(folder, uploads, job), &job.name) {
         (Ok(outcome), _) => {
@@ -107,6 +122,8 @@ fn export_job<'j, F: Folder, U: Uploads>(
     ensures differs { (w : World) → U.represents uploads.old true w → (files : Files) → F.holds folder.old files
         → IfOk result (λ outcome. TellsOf (is_other outcome) (is_unread outcome)
         (differs_one w.store files (job_in (F.takes folder.old) job.now))) }
+    ensures told { (w : World) → U.represents uploads.old true w → (files : Files) → F.holds folder.old files
+        → IfOk result (λ outcome. ToldOne w.store files (job_in (F.takes folder.old) job.now) outcome) }
     ensures settled { (files : Files) → F.holds folder.old files → IfOk result (λ outcome. is_amiss outcome ≡ false
         → AllLast (F.lasting folder.new) (job_in (F.takes folder.old) job.now ∷ [])) }
     ensures names { F.takes folder.new ≡ F.takes folder.old }
@@ -120,11 +137,15 @@ fn export_job<'j, F: Folder, U: Uploads>(
     ensures counts { Counts (IsErrOf result (Fault.Stop Stop.DiskFault)) (U.failures uploads.old)
         (U.failures uploads.new) }
     ensures reads { MoreReads (U.reads uploads.old) (U.reads uploads.new) }
+    ensures io { (sure : Bool) (w : World) → U.represents uploads.old sure w
+        → Counts (IsErrOf result Fault.Io) (F.refusals folder.old) (F.refusals folder.new) }
+    ensures unread { Counts (IsOkAnd result (λ outcome. is_unread outcome ≡ true)) (F.unread folder.old)
+        (F.unread folder.new) }
 {
     let Some(name) = &job.name else {
         return Ok(Outcome::Incomplete);
     };
-    match export_as(folder, uploads, job.number, name.as_str())? {
+    match export_as(folder, uploads, job.number, name.as_str(), false)? {
         Some(outcome) => Ok(outcome),
         None => export_plain(folder, uploads, job),
     }
@@ -146,6 +167,8 @@ fn export_plain<'j, F: Folder, U: Uploads>(
     ensures differs { (w : World) → U.represents uploads.old true w → (files : Files) → F.holds folder.old files
         → IfOk result (λ outcome. TellsOf (is_other outcome) (is_unread outcome)
         (differs_one w.store files (job.now.number, Some (string_bytes job.now.plain)))) }
+    ensures told { (w : World) → U.represents uploads.old true w → (files : Files) → F.holds folder.old files
+        → IfOk result (λ outcome. ToldOne w.store files (job.now.number, Some (string_bytes job.now.plain)) outcome) }
     ensures settled { (files : Files) → F.holds folder.old files → IfOk result (λ outcome. is_amiss outcome ≡ false
         → F.lasting folder.new (string_bytes job.now.plain)) }
     ensures names { F.takes folder.new ≡ F.takes folder.old }
@@ -159,19 +182,25 @@ fn export_plain<'j, F: Folder, U: Uploads>(
     ensures counts { Counts (IsErrOf result (Fault.Stop Stop.DiskFault)) (U.failures uploads.old)
         (U.failures uploads.new) }
     ensures reads { MoreReads (U.reads uploads.old) (U.reads uploads.new) }
+    ensures io { (sure : Bool) (w : World) → U.represents uploads.old sure w
+        → Counts (IsErrOf result Fault.Io) (F.refusals folder.old) (F.refusals folder.new) }
+    ensures unread { Counts (IsOkAnd result (λ outcome. is_unread outcome ≡ true)) (F.unread folder.old)
+        (F.unread folder.new) }
 {
-    match export_as(folder, uploads, job.number, job.plain.as_str())? {
+    match export_as(folder, uploads, job.number, job.plain.as_str(), true)? {
         Some(outcome) => Ok(outcome),
         None => Err(Fault::Io),
     }
 }
 
-// Writes a text into the file of this name, where that is to be done. `None` where the folder doesn't take the name.
+// Writes a text into the file of this name, where that is to be done. `None` where the folder doesn't take the name,
+// unless the text needs it.
 fn export_as<'j, F: Folder, U: Uploads>(
     folder: &mut F,
     uploads: &mut U,
     number: u64,
     name: &'j str,
+    needed: bool,
 ) -> Result<Option<Outcome<'j>>, Fault>
     ensures files { (sure : Bool) (w : World) → U.represents uploads.old sure w → (files : Files)
         → F.holds folder.old files
@@ -185,6 +214,8 @@ fn export_as<'j, F: Folder, U: Uploads>(
     ensures differs { (w : World) → U.represents uploads.old true w → (files : Files) → F.holds folder.old files
         → IfOk result (λ done. IfSome done (λ outcome. TellsOf (is_other outcome) (is_unread outcome)
         (differs_one w.store files (number, Some name.now)))) }
+    ensures told { (w : World) → U.represents uploads.old true w → (files : Files) → F.holds folder.old files
+        → IfOk result (λ done. IfSome done (ToldOne w.store files (number, Some name.now))) }
     ensures settled { (files : Files) → F.holds folder.old files → IfOk result (λ done. IfSome done (λ outcome.
         is_amiss outcome ≡ false → F.lasting folder.new name.now)) }
     ensures names { F.takes folder.new ≡ F.takes folder.old }
@@ -198,12 +229,17 @@ fn export_as<'j, F: Folder, U: Uploads>(
     ensures counts { Counts (IsErrOf result (Fault.Stop Stop.DiskFault)) (U.failures uploads.old)
         (U.failures uploads.new) }
     ensures reads { MoreReads (U.reads uploads.old) (U.reads uploads.new) }
+    ensures needed { needed ≡ true → IfOk result IsSome }
+    ensures io { (sure : Bool) (w : World) → U.represents uploads.old sure w
+        → Counts (IsErrOf result Fault.Io) (F.refusals folder.old) (F.refusals folder.new) }
+    ensures unread { Counts (IsOkAnd result (λ done. IsSomeAnd done (λ outcome. is_unread outcome ≡ true)))
+        (F.unread folder.old) (F.unread folder.new) }
 {
     if let Some(len) = folder.len_of(name)? {
         let outcome = found(folder, uploads, number, name, len)?;
         return Ok(Some(outcome));
     }
-    if write_text(folder, uploads, number, name)? {
+    if write_text(folder, uploads, number, name, needed)? {
         Ok(Some(Outcome::Exported(name)))
     } else {
         Ok(None)
@@ -221,6 +257,7 @@ fn found<'j, F: Folder, U: Uploads>(
     ensures same { (sure : Bool) (w : World) → U.represents uploads.old sure w → (files : Files) (bytes : List ℕ)
         → F.holds folder.old files → files name.now ≡ Some bytes → len ≡ length bytes
         → IfOk result (IsFound sure bytes (text_at w.store (upload_of w.store number))) }
+    ensures kind { IfOk result (IsOfFound name.now) }
     ensures settled { (files : Files) → F.holds folder.old files
         → IfOk result (λ outcome. is_amiss outcome ≡ false → F.lasting folder.new name.now) }
     ensures names { F.takes folder.new ≡ F.takes folder.old }
@@ -234,6 +271,11 @@ fn found<'j, F: Folder, U: Uploads>(
     ensures counts { Counts (IsErrOf result (Fault.Stop Stop.DiskFault)) (U.failures uploads.old)
         (U.failures uploads.new) }
     ensures reads { MoreReads (U.reads uploads.old) (U.reads uploads.new) }
+    ensures unread { Counts (IsOkAnd result (λ outcome. is_unread outcome ≡ true)) (F.unread folder.old)
+        (F.unread folder.new) }
+    ensures refusals { F.refusals folder.new ≡ F.refusals folder.old }
+    ensures never_io { (sure : Bool) (w : World) → U.represents uploads.old sure w
+        → IfErr result (λ fault. fault ≡ Fault.Io → ⊥) }
 {
     match compare_text(folder, uploads, number, name, len)? {
         Likeness::Same => settle(folder, name),
@@ -245,28 +287,33 @@ fn found<'j, F: Folder, U: Uploads>(
 // Makes a file last that is the text.
 fn settle<'j, F: Folder>(folder: &mut F, name: &'j str) -> Result<Outcome<'j>, Fault>
     ensures kept { IfOk result (λ outcome. is_other outcome ≡ false) }
+    ensures kind { IfOk result (IsOfFound name.now) }
     ensures settled { (files : Files) → F.holds folder.old files
         → IfOk result (λ outcome. is_unread outcome ≡ false → F.lasting folder.new name.now) }
     ensures names { F.takes folder.new ≡ F.takes folder.old }
     ensures still { StillLast (F.lasting folder.old) (F.lasting folder.new) }
     ensures preserves { (files : Files) → F.holds folder.old files → F.holds folder.new files }
     ensures refused { IfErr result (λ fault. fault ≡ Fault.Stop Stop.NoMemory) }
+    ensures unread { Counts (IsOkAnd result (λ outcome. is_unread outcome ≡ true)) (F.unread folder.old)
+        (F.unread folder.new) }
+    ensures refusals { F.refusals folder.new ≡ F.refusals folder.old }
 {
     match folder.settle(name) {
         Ok(()) => Ok(Outcome::There(name)),
-        Err(error) => {
-            pass_over(error)?;
-            Ok(Outcome::Unread(name))
-        }
+        // That a file that is there can't be synced is no reason to leave the others.
+        Err(FolderError::Refused) => Ok(Outcome::Unread(name)),
+        Err(FolderError::NoMemory) => Err(Fault::Stop(Stop::NoMemory)),
     }
 }
 
 // Writes a text into a new file, which then has the name. `false` where the folder doesn't take it: then nothing stays.
+// That is refused where the text needs the name.
 fn write_text<F: Folder, U: Uploads>(
     folder: &mut F,
     uploads: &mut U,
     number: u64,
     name: &str,
+    needed: bool,
 ) -> Result<bool, Fault>
     ensures taken { (files : Files) → F.holds folder.old files
         → IfOk result (λ taken. taken ≡ F.takes folder.old name.now) }
@@ -290,10 +337,14 @@ fn write_text<F: Folder, U: Uploads>(
     ensures counts { Counts (IsErrOf result (Fault.Stop Stop.DiskFault)) (U.failures uploads.old)
         (U.failures uploads.new) }
     ensures reads { MoreReads (U.reads uploads.old) (U.reads uploads.new) }
+    ensures needed { needed ≡ true → IfOk result (λ taken. taken ≡ true) }
+    ensures io { (sure : Bool) (w : World) → U.represents uploads.old sure w
+        → Counts (IsErrOf result Fault.Io) (F.refusals folder.old) (F.refusals folder.new) }
+    ensures unread { F.unread folder.new ≡ F.unread folder.old }
 {
     let mut file = folder.begin()?;
-    match copy_text(&mut file, uploads, number) {
-        Ok(()) => Ok(folder.end(file, name)?),
+    match copy_into(folder, &mut file, uploads, number) {
+        Ok(()) => Ok(folder.end(file, name, needed)?),
         Err(fault) => {
             folder.give_up(file);
             Err(fault)
@@ -302,9 +353,10 @@ fn write_text<F: Folder, U: Uploads>(
 }
 
 // Prints what became of an upload.
-fn report_outcome<W: Write>(writer: &mut W, number: u64, outcome: Outcome) -> io::Result<()>
-    ensures { OnOk result (Appends (W.contents writer.old) (W.contents writer.new)
+fn report_outcome<W: Output>(writer: &mut W, number: u64, outcome: Outcome) -> Result<(), Refused>
+    ensures line { OnOk result (Appends (W.contents writer.old) (W.contents writer.new)
         (outcome_line number outcome.entry)) }
+    ensures counts { Counts (IsErr result) (W.refusals writer.old) (W.refusals writer.new) }
 {
     match outcome {
         Outcome::Exported(name) => writeln!(writer, "exported {number} {name}"),

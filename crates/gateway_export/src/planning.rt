@@ -1,8 +1,9 @@
 //! Which texts are to be written, and the names of their files.
 ghost use Rattle.std.specs.Prelude.{◌≡◌, IfErr, IfOk, OnOk, Bool, ◌∷◌, ◌++◌, [], map, option_map, string_bytes};
+ghost use Rattle.common.specs.declared.stop.Stop.{Stop};
 ghost use Rattle.upload_rules.specs.Lengths.{is_length};
 ghost use Rattle.upload_rules.specs.World.{World};
-ghost use Rattle.gateway_outside.specs.Changing.{IsStreamFault};
+ghost use Rattle.gateway_outside.specs.declared.faults.Fault.{Fault};
 ghost use Rattle.gateway_outside.specs.Files.{Files};
 ghost use Rattle.gateway_outside.specs.InOrder.{IsInOrder};
 ghost use Rattle.gateway_export.specs.Planning.{file_name, job_for, job_in, jobs_of, name_or, number_name, taken_or};
@@ -32,7 +33,7 @@ pub struct Job {
 /// hyphen and the name that its metadata gives, where that is safe and the folder takes it, and else its number and
 /// `.txt`: the plain name, which each job has too, since a folder may refuse the other one only later.
 ///
-/// Refused with `NoMemory`, or with `Io` by the folder.
+/// Refused with `NoMemory`.
 pub fn plan<U: Uploads, F: Folder>(
     alloc: Global,
     uploads: &U,
@@ -44,7 +45,7 @@ pub fn plan<U: Uploads, F: Folder>(
         → F.holds folder.now files
         → IfOk result (λ jobs. map (job_in (F.takes folder.now)) jobs.items
         ≡ jobs_of (F.takes folder.now) all w.store) }
-    ensures refused { IfErr result IsStreamFault }
+    ensures refused { IfErr result (λ fault. fault ≡ Fault.Stop Stop.NoMemory) }
 {
     let mut jobs = Vec::new(alloc);
     let mut number = 0;
@@ -71,7 +72,7 @@ fn push_job<F: Folder>(
         → OnOk result (map (job_in (F.takes folder.now)) jobs.new.items
         ≡ map (job_in (F.takes folder.now)) jobs.old.items ++ job_for (F.takes folder.now) all record.now.number
         (is_length record.now.declared record.now.accepted) record.now.metadata.bytes.items ∷ []) }
-    ensures refused { IfErr result IsStreamFault }
+    ensures refused { IfErr result (λ fault. fault ≡ Fault.Stop Stop.NoMemory) }
 {
     let name = if all || is_length(record.declared, record.accepted) {
         Some(file_name(alloc, folder, record.number, record.metadata.as_str())?)
@@ -100,7 +101,7 @@ fn file_name<F: Folder>(
     ensures name { (files : Files) → F.holds folder.now files
         → IfOk result (λ name. taken_or (F.takes folder.now) (string_bytes name) (number_name number)
         ≡ file_name (F.takes folder.now) number metadata.now) }
-    ensures refused { IfErr result IsStreamFault }
+    ensures refused { IfErr result (λ fault. fault ≡ Fault.Stop Stop.NoMemory) }
 {
     match long_name(alloc, folder, number, metadata)? {
         Some(name) => Ok(name),
@@ -111,7 +112,7 @@ fn file_name<F: Folder>(
 // The name by an upload's number alone.
 fn plain_name(alloc: Global, number: u64) -> Result<String, Fault>
     ensures name { IfOk result (λ name. string_bytes name ≡ number_name number) }
-    ensures refused { IfErr result IsStreamFault }
+    ensures refused { IfErr result (λ fault. fault ≡ Fault.Stop Stop.NoMemory) }
 {
     Ok(format!(in alloc; "{number}.txt")?)
 }
@@ -126,7 +127,7 @@ fn long_name<F: Folder>(
     ensures name { (files : Files) → F.holds folder.now files
         → IfOk result (λ name. name_or (F.takes folder.now) (option_map string_bytes name) number
         ≡ file_name (F.takes folder.now) number metadata.now) }
-    ensures refused { IfErr result IsStreamFault }
+    ensures refused { IfErr result (λ fault. fault ≡ Fault.Stop Stop.NoMemory) }
 {
     let Some(given) = given_name(alloc, metadata.as_bytes())? else {
         return Ok(None);

@@ -5,8 +5,11 @@ use crate::spools::ends;
 use crate::steps::Step::{self, Added, Deferred, Made, Open};
 use crate::talks::{Talk, fresh};
 use common::Stop;
-use gateway_export::{ExportTally, FileFolder, export_on};
-use gateway_outside::Fault;
+use gateway_export::{
+    ExportTally, FileFolder, Folder, FolderError, HeldText, MemoryPlace, MemoryTexts, export_in,
+    export_on,
+};
+use gateway_outside::{Fault, MemoryFile, Noted};
 use spool_disk::MemoryDisk;
 use std::alloc::Global;
 use std::fs;
@@ -119,7 +122,7 @@ fn texts_are_written_into_files(rt: HostRuntime) {
         let left = format!(in alloc; "{folder}/.gateway-export").expect(&rt, "memory for a path");
         fs::write(&rt, left.as_str(), "a part").expect(&rt, "a file");
         let mut into = FileFolder::find(&rt, alloc, folder).expect(&rt, "a folder");
-        let mut lines = Vec::new(alloc);
+        let mut lines = Noted::new(Vec::new(alloc));
         let (after, exported) = export_on(alloc, &mut lines, &mut into, disk, row.all);
         let done = exported.expect(&rt, "an export");
         assert_eq!(rt;
@@ -128,7 +131,7 @@ fn texts_are_written_into_files(rt: HostRuntime) {
             "{folder}"
         );
         assert!(rt; !fs::exists(&rt, left.as_str()).expect(&rt, "a look at the folder"));
-        assert_eq!(rt; lines.as_slice(), row.lines);
+        assert_eq!(rt; lines.into_stream().as_slice(), row.lines);
         for (name, text) in row.files.iter() {
             let path = format!(in alloc; "{folder}/{name}").expect(&rt, "memory for a path");
             let found = fs::read(&rt, path.as_str()).expect(&rt, name);
@@ -144,7 +147,7 @@ struct Hindered {
     /// What the file has.
     found: &'static str,
     call: Call,
-    kind: ErrorKind,
+    error: FolderError,
     lines: &'static [u8],
     outcome: Result<ExportTally, Fault>,
     /// What the file `4-letter.txt` has afterwards, where there is one.
@@ -163,7 +166,7 @@ static HINDERED: [Hindered; 5] = [
     Hindered {
         found: "ab",
         call: Call::Read,
-        kind: ErrorKind::PermissionDenied,
+        error: FolderError::Refused,
         lines: b"incomplete 1\nunread 2 2-letter.txt\nexported 3 3.txt\nexported 4 4-letter.txt\nincomplete 5\n\
         exported 2 of 5 uploads, 0 there\n",
         outcome: Ok(ExportTally {
@@ -175,7 +178,7 @@ static HINDERED: [Hindered; 5] = [
     Hindered {
         found: "ab",
         call: Call::Sync,
-        kind: ErrorKind::Other,
+        error: FolderError::Refused,
         lines: b"incomplete 1\nunread 2 2-letter.txt\nexported 3 3.txt\nexported 4 4-letter.txt\nincomplete 5\n\
         exported 2 of 5 uploads, 0 there\n",
         outcome: Ok(ExportTally {
@@ -188,7 +191,7 @@ static HINDERED: [Hindered; 5] = [
     Hindered {
         found: "xy",
         call: Call::Sync,
-        kind: ErrorKind::Other,
+        error: FolderError::Refused,
         lines: b"incomplete 1\ndiffers 2 2-letter.txt\nexported 3 3.txt\nexported 4 4-letter.txt\nincomplete 5\n\
         exported 2 of 5 uploads, 0 there; a file that was there isn't the text of its upload\n",
         outcome: Ok(ExportTally {
@@ -201,7 +204,7 @@ static HINDERED: [Hindered; 5] = [
     Hindered {
         found: "ab",
         call: Call::Read,
-        kind: ErrorKind::OutOfMemory,
+        error: FolderError::NoMemory,
         lines: b"incomplete 1\n",
         outcome: Err(Fault::Stop(Stop::NoMemory)),
         later: None,
@@ -209,7 +212,7 @@ static HINDERED: [Hindered; 5] = [
     Hindered {
         found: "ab",
         call: Call::Name,
-        kind: ErrorKind::StorageFull,
+        error: FolderError::Refused,
         lines: b"incomplete 1\nthere 2 2-letter.txt\nfailed 3 3.txt\n",
         outcome: Err(Fault::Io),
         later: None,
@@ -221,11 +224,11 @@ fn others_are_written(rt: HostRuntime) {
     let alloc = rt.alloc();
     let mut disk = spool_with_five(&rt, alloc);
     for row in HINDERED.iter() {
-        let failing = Some((row.call, row.kind));
+        let failing = Some((row.call, row.error));
         let mut shelf = Shelf::new(&rt, alloc, "2-letter.txt", row.found, failing, None);
-        let mut lines = Vec::new(alloc);
+        let mut lines = Noted::new(Vec::new(alloc));
         let (after, exported) = export_on(alloc, &mut lines, &mut shelf, disk, false);
-        assert_eq!(rt; lines.as_slice(), row.lines);
+        assert_eq!(rt; lines.into_stream().as_slice(), row.lines);
         assert_eq!(rt; exported, row.outcome);
         assert_eq!(rt; shelf.text("2-letter.txt"), Some(row.found.as_bytes()));
         assert_eq!(rt;
@@ -250,14 +253,96 @@ fn refused_name_gives_way_to_the_number(rt: HostRuntime) {
     let mut disk = spool_with_five(&rt, alloc);
     let mut shelf = Shelf::new(&rt, alloc, "2-letter.txt", "ab", None, Some("4-letter.txt"));
     for wanted in REFUSED.iter() {
-        let mut lines = Vec::new(alloc);
+        let mut lines = Noted::new(Vec::new(alloc));
         let (after, exported) = export_on(alloc, &mut lines, &mut shelf, disk, false);
         exported.expect(&rt, "an export");
-        assert_eq!(rt; lines.as_slice(), *wanted);
+        assert_eq!(rt; lines.into_stream().as_slice(), *wanted);
         assert_eq!(rt; shelf.text("4-letter.txt"), None);
         assert_eq!(rt; shelf.text("4.txt"), Some(b"ef".as_slice()));
         disk = after;
     }
+}
+
+/// An order to export, over a spool and a folder in memory that takes names of at most 12 bytes.
+struct Order {
+    spool: &'static str,
+    folder: &'static str,
+    all: bool,
+    outcome: Result<(), Fault>,
+    lines: &'static [u8],
+}
+
+static ORDERS: [Order; 5] = [
+    Order {
+        spool: "spool",
+        folder: "elsewhere",
+        all: false,
+        outcome: Err(Fault::Io),
+        lines: b"",
+    },
+    Order {
+        spool: "elsewhere",
+        folder: "texts",
+        all: false,
+        outcome: Err(Fault::CannotOpen),
+        lines: b"",
+    },
+    Order {
+        spool: "spool",
+        folder: "texts",
+        all: false,
+        outcome: Err(Fault::FileDiffers),
+        lines: b"incomplete 1\nexported 2 2-letter.txt\nexported 3 3.txt\ndiffers 4 4-letter.txt\nincomplete 5\n\
+        exported 2 of 5 uploads, 0 there; a file that was there isn't the text of its upload\n",
+    },
+    Order {
+        spool: "spool",
+        folder: "texts",
+        all: true,
+        outcome: Err(Fault::FileDiffers),
+        lines: b"exported 1 1.txt\nthere 2 2-letter.txt\nthere 3 3.txt\ndiffers 4 4-letter.txt\n\
+        exported 5 5-later\nexported 2 of 5 uploads, 2 there; a file that was there isn't the text of its upload\n",
+    },
+    Order {
+        spool: "spool",
+        folder: "texts",
+        all: false,
+        outcome: Err(Fault::FileDiffers),
+        lines: b"incomplete 1\nthere 2 2-letter.txt\nthere 3 3.txt\ndiffers 4 4-letter.txt\nincomplete 5\n\
+        exported 0 of 5 uploads, 2 there; a file that was there isn't the text of its upload\n",
+    },
+];
+
+#[test]
+fn command_exports_into_a_folder_in_memory(rt: HostRuntime) {
+    let alloc = rt.alloc();
+    let spool = format!(in alloc; "spool").expect(&rt, "a path");
+    let mut files = MemoryFile::new(alloc, spool, spool_with_five(&rt, alloc));
+    let name = format!(in alloc; "4-letter.txt").expect(&rt, "a name");
+    let content = b"mine".to_vec(alloc).expect(&rt, "a text");
+    let mut held = Vec::new(alloc);
+    let pushed = held.push(HeldText { name, content });
+    assert!(rt; pushed.is_ok());
+    let path = format!(in alloc; "texts").expect(&rt, "a path");
+    let mut places = MemoryPlace::new(path, MemoryTexts::new(alloc, 12, held));
+    for order in ORDERS.iter() {
+        let mut output = Noted::new(Vec::new(alloc));
+        let exported = export_in(
+            alloc,
+            &mut files,
+            &mut places,
+            &mut output,
+            order.spool,
+            order.folder,
+            order.all,
+        );
+        assert_eq!(rt; exported.map_err(|failure| failure.fault()), order.outcome);
+        assert_eq!(rt; output.into_stream().as_slice(), order.lines);
+    }
+    let folder = places.into_folder().expect(&rt, "a folder");
+    assert_eq!(rt; folder.text("2-letter.txt"), Some(b"ab".as_slice()));
+    assert_eq!(rt; folder.text("4-letter.txt"), Some(b"mine".as_slice()));
+    assert_eq!(rt; folder.text("5-later"), Some(b"".as_slice()));
 }
 
 const UNSYNCED: &str = "gateway_unsynced_test";
@@ -272,12 +357,12 @@ fn unread_file_is_named(rt: HostRuntime) {
     fs::create_dir(&rt, UNSYNCED).expect(&rt, "a folder");
     symlink(&rt, "/proc/self/status", LINK).expect(&rt, "a link");
     let mut into = FileFolder::find(&rt, alloc, UNSYNCED).expect(&rt, "a folder");
-    let mut lines = Vec::new(alloc);
+    let mut lines = Noted::new(Vec::new(alloc));
     let disk = spool_with_five(&rt, alloc);
     let (_, exported) = export_on(alloc, &mut lines, &mut into, disk, true);
     let done = exported.expect(&rt, "an export");
     assert_eq!(rt; (done.exported, done.unread), (4, true));
-    let error = into.unread().expect(&rt, "a reason");
+    let error = into.unread_error().expect(&rt, "a reason");
     assert_eq!(rt; error.kind(), ErrorKind::InvalidInput);
     fs::remove_dir_all(&rt, UNSYNCED).expect(&rt, "a folder");
 }

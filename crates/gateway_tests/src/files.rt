@@ -4,7 +4,7 @@ use crate::spools::{opened, ran};
 use crate::steps::Step::{self, Added, Deferred, Made, Open};
 use crate::talks::Talk;
 use gateway_delete::incomplete_in;
-use gateway_export::export_file;
+use gateway_export::{SystemPlaces, export_in};
 use gateway_format::{NewSpool, format_at, raise_in, upgrade_in};
 use gateway_indexes::SystemFolders;
 use gateway_list::{json_in, list_in, list_on};
@@ -233,6 +233,24 @@ fn spool_stays_as_it_is(rt: HostRuntime) {
     fs::remove_dir_all(&rt, AGAIN).expect(&rt, "a folder");
 }
 
+// Exports a spool into a folder.
+fn exported<'a>(
+    rt: &'a HostRuntime,
+    alloc: Global,
+    spool: &'a str,
+    folder: &'a str,
+) -> Result<(), Failure<'a>> {
+    export_in(
+        alloc,
+        &mut SystemFiles::new(rt),
+        &mut SystemPlaces::new(rt),
+        &mut Noted::new(rt.stdout()),
+        spool,
+        folder,
+        false,
+    )
+}
+
 #[test]
 fn failure_says_what_the_system_said(rt: HostRuntime) {
     let alloc = rt.alloc();
@@ -250,7 +268,7 @@ fn failure_says_what_the_system_said(rt: HostRuntime) {
     are in /usr/share/wovelatsa/indexes, or encoding.spec.whatwg.org has them";
     fails(&rt, alloc, unmade.ended, 2, message);
     assert!(rt; !fs::exists(&rt, "gateway_unmade_test").expect(&rt, "a folder"));
-    let nowhere = export_file(&rt, alloc, "gateway_unmade_test", "no_such_folder", false);
+    let nowhere = exported(&rt, alloc, "gateway_unmade_test", "no_such_folder");
     let message = "refused: 33 Io\n\
     cannot look into the folder no_such_folder: No such file or directory (os error 2). The texts are written into a \
     folder that is there: make it first";
@@ -269,7 +287,7 @@ fn failure_says_what_the_system_said(rt: HostRuntime) {
             false,
         ),
         upgraded(&rt, alloc, "gateway_used_test"),
-        export_file(&rt, alloc, "gateway_used_test", ".", false),
+        exported(&rt, alloc, "gateway_used_test", "."),
         incomplete_in(
             alloc,
             &mut SystemFiles::new(&rt),

@@ -123,6 +123,9 @@ pub fn read_at<U: Uploads>(
     ensures counts { Counts (IsErrOf result (Fault.Stop Stop.DiskFault)) (U.failures uploads.old)
         (U.failures uploads.new) }
     ensures reads { MoreReads (U.reads uploads.old) (U.reads uploads.new) }
+    ensures never_io { (sure : Bool) (w : World) → U.represents uploads.old sure w → 0 < length piece.old
+        → at + length piece.old ≤ length (text_at w.store (upload_of w.store number))
+        → IfErr result (λ fault. fault ≡ Fault.Io → ⊥) }
 {
     match uploads.read_text(number, at, piece) {
         Ok(count) if count == piece.len() => Ok(()),

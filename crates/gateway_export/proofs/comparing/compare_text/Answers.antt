@@ -1,14 +1,15 @@
 use Rattle.std.proofs.Common.{◌∙◌, arith, drop, refl, take}
-use Rattle.spool_disk.proofs.Gave.{grew_on}
+use Rattle.gateway_export.proofs.Later.{more_on}
 use Rattle.upload_rules.specs.Reading.{text_at}
 use Rattle.upload_rules.specs.Store.{upload_of}
 use Rattle.gateway_outside.specs.Counted.{unfailed}
 use Rattle.gateway_texts.specs.Pieces.{quiet_both}
-use Rattle.gateway_export.proofs.Compared.{like_other, like_same, same_more, whole_differs, whole_same}
+use Rattle.gateway_export.proofs.Compared.{like_other, like_same, same_more, same_read, whole_differs}
+use Rattle.gateway_export.proofs.Compared.{whole_same}
 use Rattle.gateway_export.proofs.comparing.compare_text.Goals as goal
 
 pub returns-in_err-compare_piece-clause-reads : goal.returns-in_err-compare_piece-clause-reads
-returns-in_err-compare_piece-clause-reads g c = grew_on c.loop-at.invariant.8 c.in_err-compare_piece.ensures.reads
+returns-in_err-compare_piece-clause-reads g c = more_on c.loop-at.invariant.8 c.in_err-compare_piece.ensures.reads
 
 pub returns-in-Other-clause-same : goal.returns-in-Other-clause-same
 returns-in-Other-clause-same g c sure w represents files bytes holds is long =
@@ -23,10 +24,10 @@ returns-in-Other-clause-same g c sure w represents files bytes holds is long =
     (omega (arith, le, len, c.if-len-text_len.false, c.loop-at-test.true, c.min-count.ensures))))
 
 pub returns-in-Other-clause-reads : goal.returns-in-Other-clause-reads
-returns-in-Other-clause-reads g c = grew_on c.loop-at.invariant.8 c.in_ok-compare_piece.ensures.reads
+returns-in-Other-clause-reads g c = more_on c.loop-at.invariant.8 c.in_ok-compare_piece.ensures.reads
 
 pub returns-in-Unread-clause-reads : goal.returns-in-Unread-clause-reads
-returns-in-Unread-clause-reads g c = grew_on c.loop-at.invariant.8 c.in_ok-compare_piece.ensures.reads
+returns-in-Unread-clause-reads g c = more_on c.loop-at.invariant.8 c.in_ok-compare_piece.ensures.reads
 
 pub returns-in_err-compare_piece-clause-names : goal.returns-in_err-compare_piece-clause-names
 returns-in_err-compare_piece-clause-names g c = c.in_err-compare_piece.ensures.names ∙ c.loop-at.invariant.7
@@ -58,7 +59,9 @@ loop-at-preserved g c =
           (one.same sure w (was.3 sure w represents) files bytes (was.4 files holds) is
           (omega (arith, le, len, c.if-len-text_len.false, c.loop-at-test.true, c.min-count.ensures)))).yes refl),
       one.names ∙ was.7,
-      grew_on was.8 one.reads,
+      more_on was.8 one.reads,
+      unfailed _ _ _ (λ e. same_read c.in_ok-compare_piece.field-0 c.in-Same.is e) one.unread ∙ was.9,
+      one.refusals ∙ was.10,
     )
 
 pub returns-clause-same : goal.returns-clause-same

@@ -22,6 +22,8 @@ invariant-loop-at g l =
     → AreOf sure (take l.at bytes) (take l.at (text_at w.store (upload_of w.store l.number))))
     × (g.F.Folder.takes l.folder ≡ g.F.Folder.takes l.fn.folder)
     × MoreReads (g.U.Uploads.reads l.fn.uploads) (g.U.Uploads.reads l.uploads)
+    × (g.F.Folder.unread l.folder ≡ g.F.Folder.unread l.fn.folder)
+    × (g.F.Folder.refusals l.folder ≡ g.F.Folder.refusals l.fn.folder)
 
 abbrev pub decreases-loop-at : goal.decreases-loop-at
 decreases-loop-at g l = l.len - l.at

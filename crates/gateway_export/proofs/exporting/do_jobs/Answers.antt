@@ -1,13 +1,17 @@
-use Rattle.std.proofs.Common.{◌≡◌, ◌+◌, ◌∙◌, [], ◌∷◌, ℕ, Bool, List, false, map, subst, take, true}
+use Rattle.std.proofs.Common.{◌≡◌, ◌+◌, ◌<◌, ◌^◌, ◌∙◌, [], ◌∷◌, ℕ, Bool, List, arith, false, length, map}
+use Rattle.std.proofs.Common.{subst, take, true}
 use Rattle.std.proofs.lemmas.List.{take_all}
-use Rattle.spool_disk.proofs.Gave.{grew_on}
+use Rattle.gateway_export.proofs.Later.{more_on}
 use Rattle.gateway_outside.specs.Counted.{unfailed}
 use Rattle.gateway_texts.specs.Pieces.{quiet_both}
-use Rattle.gateway_export.specs.Exporting.{AllLast, ExportsAs, ExportsOneAs, TellsOf, differs_one, is_amiss}
-use Rattle.gateway_export.specs.Exporting.{is_other, is_unread, some_amiss, some_differ}
+use Rattle.gateway_export.specs.Exporting.{AllLast, ExportsAs, ExportsOneAs, TellsOf, ToldOne, differs_one}
+use Rattle.gateway_export.specs.Exporting.{is_amiss, is_other, is_unread, some_amiss, some_differ}
 use Rattle.gateway_export.specs.Planning.{job_in}
+use Rattle.gateway_export.proofs.Counting.{by_none, counts_both, handed_on, refused_after, refused_on}
+use Rattle.gateway_export.proofs.Counting.{unrefused}
 use Rattle.gateway_export.proofs.Exported.{amiss_more, as_either, as_more, as_some, differ_more, holds_both}
-use Rattle.gateway_export.proofs.Exported.{last_more, tells_more}
+use Rattle.gateway_export.proofs.Exported.{last_more, surely, tells_more}
+use Rattle.gateway_export.proofs.Told.{few_exported, few_there, told_more}
 use Rattle.gateway_export.proofs.exporting.do_jobs.Goals as goal
 
 pub returns-in_err-outcome-clause-whole : goal.returns-in_err-outcome-clause-whole
@@ -31,7 +35,19 @@ returns-in_err-outcome-clause-still g c name lasts = c.in_err-outcome.ensures.st
     lasts)
 
 pub returns-in_err-outcome-clause-reads : goal.returns-in_err-outcome-clause-reads
-returns-in_err-outcome-clause-reads g c = grew_on c.loop-job.invariant.9 c.in_err-outcome.ensures.reads
+returns-in_err-outcome-clause-reads g c = more_on c.loop-job.invariant.9 c.in_err-outcome.ensures.reads
+
+pub returns-in_err-outcome-clause-io : goal.returns-in_err-outcome-clause-io
+returns-in_err-outcome-clause-io g c sure w represents =
+    let is = c.loop-job.invariant in
+    let so_far = is.10 sure w represents in
+    refused_on c.from_residual.result _ _ _ _ _ (handed_on c.from_residual.result _ c.from_residual.ensures.1)
+    (refused_after _ _ _ _ _ _ _ _ so_far.0 so_far.1 (c.in_err-outcome.ensures.io sure w (is.2 sure w represents)))
+
+pub returns-clause-io : goal.returns-clause-io
+returns-clause-io g c sure w represents =
+    let so_far = c.loop-job.invariant.10 sure w represents in
+    by_none _ _ _ _ _ (λ io. absurd (cc)) so_far.0 so_far.1
 
 pub returns-clause-files : goal.returns-clause-files
 returns-clause-files g c sure w represents files held =
@@ -48,6 +64,11 @@ pub returns-clause-differs : goal.returns-clause-differs
 returns-clause-differs g c w represents files held =
     rw (take_all c.loop-job.job-index c.args.jobs.now c.loop-job-test.false)
     at (c.loop-job.invariant.4 w represents files held)
+
+pub returns-clause-tells : goal.returns-clause-tells
+returns-clause-tells g c w represents files held =
+    rw (take_all c.loop-job.job-index c.args.jobs.now c.loop-job-test.false)
+    at (c.loop-job.invariant.12 w represents files held)
 
 pub returns-clause-settled : goal.returns-clause-settled
 returns-clause-settled g c files held none =
@@ -102,5 +123,28 @@ loop-job-preserved g c =
           holds_both (g.F.Folder.holds c.loop-job.folder) (g.F.Folder.holds c.do_job.new.folder) files
           (is.7 files held) one.preserves,
       one.names ∙ is.8,
-      grew_on is.9 one.reads,
+      more_on is.9 one.reads,
+      λ sure w represents.
+          let so_far = is.10 sure w represents in
+          let none = unrefused _ _ _ _ _ _ (λ io. absurd (cc)) (λ stop. stop)
+          (one.io sure w (is.2 sure w represents)) in
+          (none.0 ∙ so_far.0, none.1 ∙ so_far.1),
+      counts_both was.unread (is_unread outcome) c.and-done.result.unread _ _ _ c.and-done.ensures.unread is.11
+          one.unread,
+      λ w represents files held.
+          let so_far = is.12 w represents files held in
+          let now = is.3 true w represents files held in
+          let a = g.W.Output.contents c.args.writer.now in
+          let b = g.W.Output.contents c.loop-job.writer in
+          let few : length c.args.jobs.now < 2 ^ 64 = omega arith in
+          told_more w.store files shown c.args.jobs.now c.loop-job.job-index a b was.exported was.there
+          c.loop-job-test.true so_far now.now job outcome (g.W.Output.contents c.do_job.new.writer)
+          c.and-done.result.exported c.and-done.result.there c.job-item.is
+          (surely w.store (map shown (take c.loop-job.job-index c.args.jobs.now)) files now.now now.are)
+          (subst (λ (t : List ℕ → Bool). ToldOne w.store now.now (job_in t job) outcome) is.8
+          (one.told w (is.2 true w represents) now.now now.held)) one.line
+          (c.and-done.ensures.exported (few_exported w.store files shown c.args.jobs.now c.loop-job.job-index a b
+          was.exported was.there c.loop-job-test.true so_far few))
+          (c.and-done.ensures.there (few_there w.store files shown c.args.jobs.now c.loop-job.job-index a b
+          was.exported was.there c.loop-job-test.true so_far few)),
     )

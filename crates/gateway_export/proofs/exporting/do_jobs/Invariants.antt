@@ -1,9 +1,11 @@
 use Rattle.std.proofs.Common.{◌≡◌, map, take, Bool, true, false}
+use Rattle.common.specs.Counts.{Counts}
 use Rattle.common.specs.Given.{MoreReads}
 use Rattle.upload_rules.specs.Answers.{Quiet}
 use Rattle.upload_rules.specs.World.{World}
 use Rattle.gateway_outside.specs.Files.{Files}
-use Rattle.gateway_export.specs.Exporting.{AllLast, ExportsAs, TellsOf, some_amiss, some_differ}
+use Rattle.gateway_export.specs.Exporting.{AllLast, ExportsAs, TellsEach, TellsOf, some_amiss}
+use Rattle.gateway_export.specs.Exporting.{some_differ}
 use Rattle.gateway_export.specs.Folders.{HoldsAll, StillLast}
 use Rattle.gateway_export.specs.Planning.{job_in}
 use Rattle.gateway_export.proofs.exporting.do_jobs.Given as goal
@@ -28,3 +30,11 @@ invariant-loop-job g l =
     × ((files : Files) → g.F.Folder.holds l.fn.folder files → HoldsAll (g.F.Folder.holds l.folder) files)
     × (g.F.Folder.takes l.folder ≡ g.F.Folder.takes l.fn.folder)
     × MoreReads (g.U.Uploads.reads l.fn.uploads) (g.U.Uploads.reads l.uploads)
+    × ((sure : Bool) (w : World) → g.U.Uploads.represents l.fn.uploads sure w
+    → (g.W.Output.refusals l.writer ≡ g.W.Output.refusals l.fn.writer)
+    × (g.F.Folder.refusals l.folder ≡ g.F.Folder.refusals l.fn.folder))
+    × Counts (l.done.unread ≡ true) (g.F.Folder.unread l.fn.folder) (g.F.Folder.unread l.folder)
+    × ((w : World) → g.U.Uploads.represents l.fn.uploads true w → (files : Files)
+    → g.F.Folder.holds l.fn.folder files
+    → TellsEach w.store files (map (job_in (g.F.Folder.takes l.fn.folder)) (take l.job-index l.jobs))
+    (g.W.Output.contents l.fn.writer) (g.W.Output.contents l.writer) l.done.exported l.done.there)

@@ -1,5 +1,5 @@
-use Rattle.std.proofs.Common.{[], ◌∷◌, Some, ap, false, inl, inr, refl, true}
-use Rattle.spool_disk.proofs.Gave.{grew_none, grew_on}
+use Rattle.std.proofs.Common.{◌≡◌, [], ◌∷◌, Some, ap, false, inl, inr, refl, true}
+use Rattle.gateway_export.proofs.Later.{more_on, no_more}
 use Rattle.upload_rules.specs.World.{at_rest}
 use Rattle.spool_load.proofs.ReadBys.{by_same}
 use Rattle.spool_image.specs.Spool.{disk_of, block_count_of}
@@ -9,6 +9,9 @@ use Rattle.gateway_outside.specs.Lasting.{all_show, lasts_over, when_ok}
 use Rattle.gateway_outside.specs.Refusals.{change_refused, done_by, is_damaged, ok_each, other_version, unopened}
 use Rattle.gateway_texts.specs.Pieces.{quiet_limits}
 use Rattle.gateway_export.specs.Planning.{jobs_of}
+use Rattle.gateway_outside.specs.declared.faults.Fault.TheVariants.{Io}
+use Rattle.gateway_export.proofs.Counting.{by_none}
+use Rattle.gateway_export.proofs.Opened.{opened_never}
 use Rattle.gateway_export.proofs.Exported.{any_differs, exports, surely_all, surely_each, surely_some}
 use Rattle.gateway_export.proofs.Named.{apart, spool_rises}
 use Rattle.gateway_export.proofs.exporting.export_on.Goals as goal
@@ -101,7 +104,7 @@ returns-in-Ok-clause-given g c =
             (done.ensures.files false (at_rest m (Some v.blocks)) (c.in-Ok.ensures.represents_view v m shows has_view)
             (shown_in_order v m shows) files held)))) is.memory;
       });
-      others = grew_on done.ensures.reads (grew_none (ap g.D.Disk.reads c.into_disk.ensures.same));
+      others = more_on done.ensures.reads (no_more (ap g.D.Disk.reads c.into_disk.ensures.same));
     }
 
 pub returns-in-Err-clause-given : goal.returns-in-Err-clause-given
@@ -110,5 +113,22 @@ returns-in-Err-clause-given g c =
       opened = g.D.Disk.reads c.in-Err.disk;
       by = by_same c.in-Err.ensures.given refl
           (λ before after is. unopened _ before after c.in-Err.fault c.from.result c.from.ensures is.exact.refused);
-      others = grew_none refl;
+      others = no_more refl;
     }
+
+pub returns-in-Ok-clause-io : goal.returns-in-Ok-clause-io
+returns-in-Ok-clause-io g c =
+    let view = c.in-Ok.ensures.view in
+    c.export_uploads-exported.ensures.io false (at_rest view.1 (Some view.0.blocks))
+    (c.in-Ok.ensures.represents_view view.0 view.1 view.3 view.2)
+
+pub returns-in-Err-clause-io : goal.returns-in-Err-clause-io
+returns-in-Err-clause-io g c =
+    by_none _ _ _ _ _
+    (λ io. let same : c.from.result ≡ Io = cc in opened_never c.in-Err.fault c.from.result c.from.ensures same)
+    refl refl
+
+pub returns-in-Ok-clause-tells : goal.returns-in-Ok-clause-tells
+returns-in-Ok-clause-tells g c n m is =
+    c.export_uploads-exported.ensures.tells (at_rest m (Some n)) (c.in-Ok.ensures.represents n m is)
+    (in_order g.D.Disk c.args.disk n m is)
