@@ -2,6 +2,9 @@
 use Rattle.std.proofs.Common.{ℕ, ◌<◌, ◌≡◌, Bool, true, false, not, ◌&&◌, List, [], ◌∷◌, None, refl, sym, ◌∙◌, ap, subst}
 use Rattle.std.proofs.Common.{drop, if◌then◌else◌, All, append-nil}
 use Rattle.std.specs.List.{concat}
+use Rattle.std.specs.Str.{IsUtf8}
+use Rattle.std.proofs.Common.{◌++◌, arith}
+use lib.Utf8.{encode as spelled, encodes, scalar, scalars}
 use Rattle.std.proofs.lemmas.List.Elements.{All-nil, All-cons, All-head, All-tail, All-drop}
 use Rattle.enc_model.specs.declared.Encoding.{Encoding}
 use Rattle.enc_model.specs.declared.Encoding.TheVariants as encodings
@@ -160,3 +163,38 @@ unfolding text
 text_well x from mode bytes ended valid all =
     encoded_well (tables x) mode (decode (tables x) from bytes ended) ended
     (decode_scalars x from bytes ended valid all)
+
+-- the same as a text
+code_is : (c : ℕ) → utf8_bytes c ≡ spelled c
+unfolding spelled
+code_is c = refl
+
+codes_of : (cs : List ℕ) → concat (written cs) ≡ encodes cs
+codes_of [] = refl
+codes_of (c ∷ cs) = ap (λ b. b ++ concat (written cs)) (code_is c) ∙ ap (λ b. spelled c ++ b) (codes_of cs)
+
+scalar_is : (c : ℕ) → is_scalar c ≡ true → scalar c ≡ true
+scalar_is c is = grind arith
+
+scalars_of : (cs : List ℕ) → AreScalars cs → scalars cs ≡ true
+scalars_of [] all = refl
+scalars_of (c ∷ cs) all =
+    let one = scalar_is c (All-head (λ z. is_scalar z ≡ true) c cs all) in
+    rw one (scalars_of cs (All-tail (λ z. is_scalar z ≡ true) c cs all))
+
+pub text_utf8 : (x : IndexSet) (from : Encoding) (mode : Mode) (bytes : List ℕ) (ended : Bool) → IsIndexSet x
+    → AreBytes bytes → IsUtf8 (text (tables x) from encodings.Utf8 mode bytes ended).bytes
+unfolding text
+text_utf8 x from mode bytes ended valid all =
+    let cs = decode (tables x) from bytes ended in (
+      cs,
+      (
+        scalars_of cs (decode_scalars x from bytes ended valid all),
+        sym (ap (λ (r : Coded). r.bytes) (encoded_is (tables x) mode cs ended) ∙ codes_of cs),
+      ),
+    )
+
+pub text_fault : (t : Tables) (from : Encoding) (mode : Mode) (bytes : List ℕ) (ended : Bool)
+    → (text t from encodings.Utf8 mode bytes ended).fault ≡ None
+unfolding text
+text_fault t from mode bytes ended = encoded_fault t mode (decode t from bytes ended) ended

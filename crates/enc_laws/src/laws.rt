@@ -2,6 +2,7 @@
 
 ghost use Rattle.std.specs.Prelude.{◌≡◌, ◌≤◌, ◌++◌, ℕ, List, [], ◌∷◌, Bool, true, false, None, length};
 ghost use Rattle.std.specs.List.{concat};
+ghost use Rattle.std.specs.Str.{IsUtf8};
 ghost use Rattle.enc_model.specs.declared.Encoding.{Encoding};
 ghost use Rattle.enc_model.specs.declared.Encoding.TheVariants.{Utf8};
 ghost use Rattle.enc_model.specs.declared.Mode.{Mode};
@@ -62,4 +63,13 @@ pub fn well_formed_at_every_moment()
     ensures { (x : IndexSet) (from : Encoding) (mode : Mode) (bytes : List ℕ) (ended : Bool) → IsIndexSet x
         → AreBytes bytes
         → IsWellFormed (text (tables x) from Utf8 mode bytes ended).bytes }
+{}
+
+/// It is a text as `str` has it, too, in which no character lacks a code.
+#[tactic(auto, using(crate::proofs::Texts::text_utf8, crate::proofs::Texts::text_fault))]
+pub fn utf8_at_every_moment()
+    ensures utf8 { (x : IndexSet) (from : Encoding) (mode : Mode) (bytes : List ℕ) (ended : Bool) → IsIndexSet x
+        → AreBytes bytes → IsUtf8 (text (tables x) from Utf8 mode bytes ended).bytes }
+    ensures fault { (t : Tables) (from : Encoding) (mode : Mode) (bytes : List ℕ) (ended : Bool)
+        → (text t from Utf8 mode bytes ended).fault ≡ None }
 {}

@@ -3,12 +3,13 @@ use Rattle.std.proofs.Common.{◌≡◌, ◌∙◌, ◌≢◌, ◌++◌, ℕ, �
 use Rattle.std.proofs.Common.{[], ◌∷◌, Bool, below_more, cond, false, length-append, map, subst, sym, true}
 use Rattle.std.proofs.Math.ListN.{set, length-set}
 use Rattle.std.proofs.KnownBytes.{Consumes-trans}
-use Rattle.std.proofs.lemmas.List.Elements.{filter_more}
+use Rattle.std.proofs.lemmas.List.Elements.{All-append, filter_more}
 use Rattle.std.proofs.lemmas.List.{append-nil, get_or-set_other, get_or-set_same, length-take-le, map-set, map_push}
 use Rattle.std.proofs.lemmas.List.{set-get_or}
 use Rattle.std.specs.Io.KnownBytes.{Consumes}
 use Rattle.std.specs.List.{All, AllWithin, filter}
 use Rattle.enc_model.specs.Encode.{Tables}
+use Rattle.enc_laws.specs.WellFormed.{AreBytes}
 use Rattle.gateway_labels.specs.Labels.{HaveRead}
 use Rattle.gateway_labels.specs.Trials.{IsTrialOf}
 use Rattle.gateway_labels.specs.declared.trial.Trial.{Trial}
@@ -47,15 +48,16 @@ fed_all P Q xs i are past k d high = are.fed k d (omega arith) (omega arith)
 
 pub read_more : (t : Tables) (trials next : List Trial) (left mid left' : Option (List ℕ)) (bytes count : ℕ)
     (part piece : List ℕ) → HaveRead t trials left mid bytes → Consumes mid left' (take count part)
-    → piece ≡ take count part → count ≤ length part
+    → piece ≡ take count part → count ≤ length part → AreBytes piece
     → ((input : List ℕ) → All (λ trial. IsTrialOf t trial input) trials
     → All (λ trial. IsTrialOf t trial (input ++ piece)) next)
     → HaveRead t next left left' (bytes + count)
-read_more t trials next left mid left' bytes count part piece have read is within feed = record {
+read_more t trials next left mid left' bytes count part piece have read is within of_bytes feed = record {
   input = have.input ++ piece;
   read =
       Consumes-trans left mid left' have.input piece have.read
       (subst (λ (x : List ℕ). Consumes mid left' x) (sym is) read);
+  bytes_are = All-append (λ b. b < 0x100) have.input piece have.bytes_are of_bytes;
   many =
       ap (λ (n : ℕ). n + count) have.many
       ∙ ap (λ (n : ℕ). length have.input + n) (sym (ap length is ∙ length-take-le count part within))

@@ -1,4 +1,5 @@
 pub mod Counting
 pub mod Fed
 pub mod Scripts
+pub mod Told
 pub mod Trying

@@ -4,6 +4,7 @@ use Rattle.std.specs.Io.KnownBytes.{Consumes, IsAtEnd}
 use Rattle.enc_model.specs.declared.Encoding.{Encoding}
 use Rattle.enc_model.specs.declared.Encoding.TheVariants as e
 use Rattle.enc_model.specs.Encode.{Tables}
+use Rattle.enc_laws.specs.WellFormed.{AreBytes}
 use Rattle.gateway_labels.specs.Trials.{IsChoiceOf, IsTrialOf}
 use Rattle.gateway_labels.specs.declared.reading.Labels.{Labels}
 use Rattle.gateway_labels.specs.declared.trial.Trial.{Trial}
@@ -19,6 +20,7 @@ all_encodings =
 pub record HaveRead (t : Tables) (trials : List Trial) (left left' : Option (List ℕ)) (bytes : ℕ) : Type 0 where
   pub input : List ℕ
   pub read : Consumes left left' input
+  pub bytes_are : AreBytes input
   pub many : bytes ≡ length input
   pub have : All (λ trial. IsTrialOf t trial input) trials
 

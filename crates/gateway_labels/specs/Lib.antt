@@ -1,6 +1,8 @@
 pub mod Classes
 pub mod Counted
+pub mod Labelled
 pub mod Labels
+pub mod Lines
 pub mod Measured
 pub mod Ordered
 pub mod Reasons

@@ -1,5 +1,5 @@
 -- What an encoding makes of some bytes.
-use Rattle.std.specs.Prelude.{◌≡◌, ℕ, Bool, List, chars}
+use Rattle.std.specs.Prelude.{◌≡◌, ℕ, Bool, false, List, chars}
 use Rattle.sha2.specs.Sha256.{sha256}
 use Rattle.enc_model.specs.declared.Encoding.{Encoding}
 use Rattle.enc_model.specs.declared.Encoding.TheVariants.{Utf8}
@@ -23,6 +23,7 @@ tried trial = trial.transcoder.transcoder.from
 
 -- these bytes were read, and all is known of the text so far
 pub record IsTrialOf (t : Tables) (trial : Trial) (input : List ℕ) : Type 0 where
+  pub going : trial.transcoder.spent ≡ false
   pub to : trial.transcoder.transcoder.to ≡ Utf8
   pub mode : trial.transcoder.transcoder.mode ≡ Html
   pub at : IsStateAt t trial.transcoder.transcoder input

@@ -1,168 +1,127 @@
-//! The choices as lines for a reader, and as lines of JSON.
+//! The choices as lines for a reader.
+ghost use Rattle.std.specs.Prelude.{◌≡◌, ◌++◌, [], IfOk, OnOk, string_bytes};
+ghost use Rattle.gateway_labels.specs.Lines.{behind, have_same, is_also, is_first, is_in_common, label_lines, line_of};
+ghost use Rattle.gateway_labels.specs.Lines.{lines_of_texts, names_behind, shown_line};
 
-use crate::choice::Choice;
-use crate::reading::{Labels, encodings};
-use enc_index::IndexSet;
+use crate::choice::{Choice, number_of};
 use enc_labels::name_of;
-use serde::Serialize;
 use std::alloc::{AllocError, Global};
-use std::io::{self, ErrorKind, Write};
+use std::fmt::Write;
 
-/// The choices that share a text, as they are in a line.
-#[derive(Drop, Serialize)]
-struct Group<'a> {
-    labels: Vec<&'static str>,
-    /// how many U+FFFD the text has
-    lost: u64,
-    strangeness: u64,
-    /// null for a text of ASCII alone
-    line: Option<&'a str>,
-}
-
-/// The last line of JSON: what was read.
-#[derive(Drop, Serialize)]
-struct Read {
-    bytes: u64,
-    /// whether the text ended with them
-    whole: bool,
-    /// the encodings whose index files aren't there
-    lacking: Vec<&'static str>,
-}
-
-/// Writes a line for each text that the choices have, in their order, with the names of its encodings. A text of ASCII
-/// alone that several have in common is the only one.
-pub fn write_lines<W: Write>(alloc: Global, writer: &mut W, choices: &[Choice]) -> io::Result<()> {
-    for (place, choice) in choices.iter().enumerate() {
-        let Some(group) = group_of(alloc, choices, place, choice)? else {
-            continue;
-        };
-        if group.line.is_none() && group.strangeness == 0 && group.labels.len() > 1 {
-            return write_any(writer, &group);
-        }
-        write_group(writer, &group)?;
-    }
-    Ok(())
-}
-
-/// The same as lines of JSON, without a word on ASCII, and a last line of what was read.
-pub fn write_json<W: Write>(
-    alloc: Global,
-    writer: &mut W,
-    set: &IndexSet,
-    labels: &Labels,
-) -> io::Result<()> {
-    let choices = labels.choices.as_slice();
-    for (place, choice) in choices.iter().enumerate() {
-        if let Some(group) = group_of(alloc, choices, place, choice)? {
-            write_object(alloc, writer, &group)?;
-        }
-    }
-    let read = Read {
-        bytes: labels.bytes,
-        whole: labels.is_whole,
-        lacking: lacking_in(alloc, set)?,
+/// The lines of choices: one for each text that they have, in their order, with the names of its encodings. A text of
+/// ASCII alone that stands first, isn't strange, and that several have in common, is the only one.
+pub fn lines_of(alloc: Global, choices: &[Choice]) -> Result<String, AllocError>
+    ensures { IfOk result (λ lines. string_bytes lines ≡ label_lines choices.now) }
+{
+    let Some((first, _)) = choices.split_first() else {
+        return Ok(String::new(alloc));
     };
-    write_object(alloc, writer, &read)
+    let others = names_behind(alloc, ", ", first, choices)?;
+    if is_in_common(first, others.as_str()) {
+        let name = name_of(first.encoding);
+        return format!(in alloc; "any of these: {name}{others}: ASCII alone\n");
+    }
+    lines_of_texts(alloc, choices)
 }
 
-/// Writes which part of a text was read, where it isn't all, and which encodings weren't tried.
-pub fn write_notes<W: Write>(
-    alloc: Global,
-    writer: &mut W,
-    set: &IndexSet,
-    labels: &Labels,
-    folder: &str,
-) -> io::Result<()> {
-    if !labels.is_whole {
-        writeln!(
-            writer,
-            "read: the first {} bytes; --all reads all",
-            labels.bytes
-        )?;
+// Whether a text is of ASCII alone, isn't strange, and is that of these others too.
+fn is_in_common(choice: &Choice, others: &str) -> bool
+    ensures { result ≡ is_in_common choice.now others.now }
+{
+    choice.line.is_none() && choice.strangeness == 0 && !others.is_empty()
+}
+
+// A line for each text.
+fn lines_of_texts(alloc: Global, choices: &[Choice]) -> Result<String, AllocError>
+    ensures { IfOk result (λ lines. string_bytes lines ≡ lines_of_texts choices.now) }
+{
+    let mut lines = String::new(alloc);
+    for choice in choices {
+        push_line(alloc, &mut lines, choices, choice)?;
     }
-    let lacking = lacking_in(alloc, set)?;
-    if lacking.is_empty() {
+    Ok(lines)
+}
+
+// Adds the line of a choice that is the first with its text.
+fn push_line(
+    alloc: Global,
+    lines: &mut String,
+    choices: &[Choice],
+    choice: &Choice,
+) -> Result<(), AllocError>
+    ensures { OnOk result (string_bytes lines.new ≡ string_bytes lines.old ++ line_of choices.now choice.now) }
+{
+    if !is_first(choices, choice) {
         return Ok(());
     }
-    write!(
-        writer,
-        "not tried, since {folder} lacks their index files: "
-    )?;
-    write_names(writer, &lacking)?;
-    writeln!(writer)
+    let others = names_behind(alloc, ", also ", choice, choices)?;
+    let name = name_of(choice.encoding);
+    let line = shown_line(choice);
+    writeln!(lines, "{name}{others}: {} lost: {line}", choice.lost)
 }
 
-// The choices with the text of one, unless one before it has that text.
-fn group_of<'a>(
+// The line that is shown of a text.
+fn shown_line(choice: &Choice) -> &str
+    ensures { result.now ≡ shown_line choice.now }
+{
+    match &choice.line {
+        Some(line) => line.as_str(),
+        None => "ASCII alone",
+    }
+}
+
+// The names of the others that have the text of a choice: the first behind a joint of its own, the rest behind commas.
+fn names_behind(
     alloc: Global,
-    choices: &'a [Choice],
-    place: usize,
-    first: &'a Choice,
-) -> Result<Option<Group<'a>>, AllocError> {
-    let mut labels = Vec::new(alloc);
-    for (at, choice) in choices.iter().enumerate() {
-        if choice.digest == first.digest {
-            if at < place {
-                return Ok(None);
-            }
-            labels.push(name_of(choice.encoding))?;
+    joint: &str,
+    choice: &Choice,
+    choices: &[Choice],
+) -> Result<String, AllocError>
+    ensures { IfOk result (λ names. string_bytes names ≡ names_behind joint.now choice.now [] choices.now) }
+{
+    let mut names = String::new(alloc);
+    let mut rest = choices;
+    while let Some((other, more)) = rest.split_first() {
+        if is_also(other, choice) {
+            push_name(&mut names, joint, name_of(other.encoding))?;
         }
+        rest = more;
     }
-    Ok(Some(Group {
-        labels,
-        lost: first.lost,
-        strangeness: first.strangeness,
-        line: first.line.as_deref(),
-    }))
+    Ok(names)
 }
 
-fn write_any<W: Write>(writer: &mut W, group: &Group) -> io::Result<()> {
-    write!(writer, "any of these: ")?;
-    write_names(writer, &group.labels)?;
-    writeln!(writer, ": ASCII alone")
+// Adds a name.
+fn push_name(names: &mut String, joint: &str, name: &str) -> Result<(), AllocError>
+    ensures { OnOk result (string_bytes names.new ≡ behind joint.now (string_bytes names.old) name.now) }
+{
+    let joint = if names.is_empty() { joint } else { ", " };
+    write!(names, "{joint}{name}")
 }
 
-fn write_group<W: Write>(writer: &mut W, group: &Group) -> io::Result<()> {
-    for (place, label) in group.labels.iter().enumerate() {
-        let before = match place {
-            0 => "",
-            1 => ", also ",
-            _ => ", ",
-        };
-        write!(writer, "{before}{label}")?;
-    }
-    let line = group.line.unwrap_or("ASCII alone");
-    writeln!(writer, ": {} lost: {line}", group.lost)
-}
-
-fn write_names<W: Write>(writer: &mut W, names: &[&'static str]) -> io::Result<()> {
-    let mut before = "";
-    for name in names {
-        write!(writer, "{before}{name}")?;
-        before = ", ";
-    }
-    Ok(())
-}
-
-// The names of the encodings that a set doesn't offer.
-fn lacking_in(alloc: Global, set: &IndexSet) -> Result<Vec<&'static str>, AllocError> {
-    let mut lacking = Vec::new(alloc);
-    for encoding in encodings() {
-        if !set.offers(*encoding) {
-            lacking.push(name_of(*encoding))?;
+/// Whether a choice is the first that has its text.
+pub(crate) fn is_first(choices: &[Choice], choice: &Choice) -> bool
+    ensures { result ≡ is_first choice.now choices.now }
+{
+    let mut rest = choices;
+    while let Some((other, more)) = rest.split_first() {
+        if have_same(other, choice) {
+            return number_of(other.encoding) == number_of(choice.encoding);
         }
+        rest = more;
     }
-    Ok(lacking)
+    false
 }
 
-fn write_object<W: Write, T: Serialize>(
-    alloc: Global,
-    writer: &mut W,
-    object: &T,
-) -> io::Result<()> {
-    // It fails only when out of memory.
-    let Ok(line) = serde_json::to_string(alloc, object) else {
-        return Err(io::Error::from(ErrorKind::OutOfMemory));
-    };
-    writeln!(writer, "{line}")
+// Whether another choice has the text of one.
+fn is_also(other: &Choice, choice: &Choice) -> bool
+    ensures { result ≡ is_also choice.now other.now }
+{
+    have_same(other, choice) && number_of(other.encoding) != number_of(choice.encoding)
+}
+
+/// Whether two choices have the same text, by its digest.
+pub(crate) fn have_same(one: &Choice, other: &Choice) -> bool
+    ensures { result ≡ have_same one.now other.now }
+{
+    one.digest == other.digest
 }

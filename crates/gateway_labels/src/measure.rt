@@ -1,5 +1,8 @@
 //! What is known of a text.
 ghost use Rattle.std.specs.Prelude.{◌≡◌, ◌++◌, ℕ, List, OnOk, IfErr};
+ghost use Rattle.std.specs.Str.{IsUtf8};
+ghost use Rattle.gateway_labels.specs.Reasons.{IsUntold};
+ghost use Rattle.gateway_labels.specs.declared.unread.Unread.{Unread};
 
 use crate::classes::Classes;
 use crate::counts::Counts;
@@ -36,8 +39,10 @@ impl Measure {
 
     /// Goes on with the bytes of a text in UTF-8. After an error nothing is known of it.
     pub fn add(&mut self, classes: &mut Classes, bytes: &[u8]) -> Result<(), Unread>
-        ensures { (before : List ℕ) → IsMeasured self.old before
+        ensures known { (before : List ℕ) → IsMeasured self.old before
             → OnOk result (IsMeasured self.new (before ++ bytes.now)) }
+        ensures told { IsUtf8 bytes.now → IfErr result (λ unread. unread ≡ Unread.NoMemory) }
+        ensures untold { IfErr result IsUntold }
     {
         let Ok(text) = str::from_utf8(bytes) else {
             return Err(Unread::NoText);

@@ -1,13 +1,18 @@
-//! The choices for the bytes of a reader.
-ghost use Rattle.std.specs.Prelude.{◌≡◌, ◌≤◌, ◌<◌, ◌++◌, ◌∷◌, ℕ, List, All, IfOk, OnOk, length, map, take, []};
-ghost use Rattle.std.specs.Prelude.{true, false};
+//! The choices for the bytes of an input.
+ghost use Rattle.std.specs.Prelude.{◌≡◌, ◌≤◌, ◌<◌, ◌++◌, ◌∷◌, ℕ, List, All, IfErr, IfOk, IsErrOf, OnOk, length, map};
+ghost use Rattle.std.specs.Prelude.{take, [], true, false};
 ghost use Rattle.std.specs.List.{filter};
 ghost use Rattle.std.specs.List.Sorted.{IsPermutation};
-ghost use Rattle.std.specs.Io.KnownBytes.{Consumes, IsAtEnd};
+ghost use Rattle.std.specs.Io.KnownBytes.{IsAtEnd};
+ghost use Rattle.common.specs.Counts.{Counts};
 ghost use Rattle.enc_model.specs.Encode.{Tables};
 ghost use Rattle.enc_model.specs.Indexes.{offers, tables};
 ghost use Rattle.gateway_labels.specs.Labels.{AreLabels, HaveRead, all_encodings};
 ghost use Rattle.gateway_labels.specs.Ordered.{IsInOrder};
+ghost use Rattle.enc_index.specs.Sets.{IsIndexSet};
+ghost use Rattle.enc_laws.specs.WellFormed.{AreBytes};
+ghost use Rattle.gateway_labels.specs.Reasons.{IsRefusal, IsUntold};
+ghost use Rattle.gateway_labels.specs.declared.unread.Unread.{Unread};
 ghost use Rattle.gateway_labels.specs.Trials.{IsChoiceOf, IsTrialOf, tried};
 
 use crate::choice::{Choice, put_in_order};
@@ -15,9 +20,10 @@ use crate::desk::Desk;
 use crate::trial::Trial;
 use crate::unread::Unread;
 use enc_index::IndexSet;
+use enc_labels::name_of;
 use enc_model::Encoding;
+use gateway_outside::Input;
 use std::alloc::{AllocError, Global};
-use std::io::{self, ErrorKind, Read};
 
 /// How many bytes of a text are read where not all are.
 pub const FIRST: u64 = 1_048_576;
@@ -61,32 +67,49 @@ pub struct Labels {
     pub is_whole: bool,
 }
 
-/// All encodings, by their numbers.
-pub(crate) fn encodings() -> &'static [Encoding]
+// All encodings, by their numbers.
+fn encodings() -> &'static [Encoding]
     ensures { result.now ≡ all_encodings }
 {
     ENCODINGS.as_slice()
 }
 
-/// What each encoding of a set makes of the first bytes that a reader has, at most so many: read in pieces, and decoded
+/// The names of the encodings that a set doesn't offer.
+pub(crate) fn lacking_in(alloc: Global, set: &IndexSet) -> Result<Vec<&'static str>, AllocError> {
+    let mut lacking = Vec::new(alloc);
+    for encoding in encodings() {
+        if !set.offers(*encoding) {
+            lacking.push(name_of(*encoding))?;
+        }
+    }
+    Ok(lacking)
+}
+
+/// What each encoding of a set makes of the first bytes that an input has, at most so many: read in pieces, and decoded
 /// as an upload is. If there are just so many, they count as the first ones of a longer text. Memory doesn't grow with
 /// the text. After an error nothing is known of what was read.
-pub fn labels_on<R: Read>(
+pub fn labels_on<I: Input>(
     alloc: Global,
     set: &IndexSet,
-    reader: &mut R,
+    input: &mut I,
     most: u64,
 ) -> Result<Labels, Unread>
-    ensures labels { IfOk result (AreLabels (tables set.now) (R.remaining reader.old) (R.remaining reader.new)) }
+    ensures labels { IfOk result (AreLabels (tables set.now) (I.remaining input.old) (I.remaining input.new)) }
     ensures offered { IfOk result (λ labels. IsPermutation (filter (offers set.now) all_encodings)
         (map (λ choice. choice.encoding) labels.choices.items)) }
     ensures order { IfOk result (λ labels. IsInOrder labels.choices.items) }
     ensures most { IfOk result (λ labels. labels.bytes ≤ most) }
     ensures part { IfOk result (λ labels. labels.is_whole ≡ false → labels.bytes ≡ most) }
+
+    // An encoding makes a text of any bytes. `Input` is answered exactly where the input refused.
+    ensures refused { IfErr result IsRefusal }
+    ensures io { Counts (IsErrOf result Unread.Input) (I.refusals input.old) (I.refusals input.new) }
 {
+    // only for what it says of the set
+    let _ = set.to_area(0);
     let mut trials = trials_of(alloc, set, encodings())?;
     let mut desk = Desk::new(alloc)?;
-    let (bytes, is_whole) = read_all(set, &mut desk, &mut trials, reader, most)?;
+    let (bytes, is_whole) = read_all(set, &mut desk, &mut trials, input, most)?;
     let mut choices = end_all(alloc, set, &mut desk, trials, is_whole)?;
     put_in_order(&mut choices)?;
     Ok(Labels {
@@ -115,25 +138,28 @@ fn trials_of(
 }
 
 // Reads to the end, or so many bytes: how many, and whether the end came.
-fn read_all<R: Read>(
+fn read_all<I: Input>(
     set: &IndexSet,
     desk: &mut Desk,
     trials: &mut Vec<Trial>,
-    reader: &mut R,
+    input: &mut I,
     most: u64,
 ) -> Result<(u64, bool), Unread>
     ensures read { All (λ trial. IsTrialOf (tables set.now) trial []) trials.old.items → IfOk result
-        (λ read. HaveRead (tables set.now) trials.new.items (R.remaining reader.old) (R.remaining reader.new) read.0) }
-    ensures end { IfOk result (λ read. read.1 ≡ true → IsAtEnd (R.remaining reader.new)) }
+        (λ read. HaveRead (tables set.now) trials.new.items (I.remaining input.old) (I.remaining input.new) read.0) }
+    ensures end { IfOk result (λ read. read.1 ≡ true → IsAtEnd (I.remaining input.new)) }
     ensures same { OnOk result (map tried trials.new.items ≡ map tried trials.old.items) }
     ensures most { IfOk result (λ read. read.0 ≤ most) }
     ensures part { IfOk result (λ read. read.1 ≡ false → read.0 ≡ most) }
+    ensures told { IsIndexSet set.now → All (λ trial. IsTrialOf (tables set.now) trial []) trials.old.items
+        → IfErr result IsRefusal }
+    ensures io { Counts (IsErrOf result Unread.Input) (I.refusals input.old) (I.refusals input.new) }
 {
     let mut bytes = 0;
     let mut piece = [0; PIECE];
     while bytes < most {
         let part = &mut piece[..room_for(most - bytes)];
-        let count = read_on(reader, part)?;
+        let count = input.read_piece(part)?;
         if count == 0 {
             return Ok((bytes, true));
         }
@@ -175,6 +201,11 @@ fn feed_all(
     ensures same { OnOk result (map tried trials.new.items ≡ map tried trials.old.items) }
     ensures fed { (input : List ℕ) → All (λ trial. IsTrialOf (tables set.now) trial input) trials.old.items
         → OnOk result (All (λ trial. IsTrialOf (tables set.now) trial (input ++ piece.now)) trials.new.items) }
+    ensures told { (input : List ℕ) → IsIndexSet set.now → AreBytes input
+        → All (λ trial. IsTrialOf (tables set.now) trial input) trials.old.items
+        → IfErr result (λ unread. unread ≡ Unread.NoMemory) }
+    ensures untold { IfErr result IsUntold }
+    ensures bytes { AreBytes piece.now }
 {
     for trial in trials.iter_mut() {
         trial.feed(set, desk, piece)?;
@@ -194,6 +225,10 @@ fn end_all(
         (λ choices. map (λ choice. choice.encoding) choices.items ≡ map tried trials.items) }
     ensures choices { (input : List ℕ) → All (λ trial. IsTrialOf (tables set.now) trial input) trials.items
         → IfOk result (λ choices. All (λ choice. IsChoiceOf (tables set.now) choice input is_whole) choices.items) }
+    ensures told { (input : List ℕ) → IsIndexSet set.now → AreBytes input
+        → All (λ trial. IsTrialOf (tables set.now) trial input) trials.items
+        → IfErr result (λ unread. unread ≡ Unread.NoMemory) }
+    ensures untold { IfErr result IsUntold }
 {
     let mut choices = Vec::new(alloc);
     for trial in trials {
@@ -208,25 +243,4 @@ fn add_choice(choices: &mut Vec<Choice>, choice: Choice) -> Result<(), AllocErro
 {
     choices.push(choice)?;
     Ok(())
-}
-
-// One read, tried again where it is interrupted.
-fn read_on<R: Read>(reader: &mut R, piece: &mut [u8]) -> io::Result<usize>
-    ensures within { IfOk result (λ count. count ≤ length piece.old) }
-    ensures same { length piece.new ≡ length piece.old }
-    ensures ok { IfOk result (λ count. Consumes (R.remaining reader.old) (R.remaining reader.new)
-        (take count piece.new)) }
-    ensures end { IfOk result (λ count. count ≡ 0 → 0 < length piece.old → IsAtEnd (R.remaining reader.new)) }
-{
-    for _ in 0..u64::MAX {
-        match reader.read(piece) {
-            Ok(count) => return Ok(count),
-            Err(error) => {
-                if error.kind() != ErrorKind::Interrupted {
-                    return Err(error);
-                }
-            }
-        }
-    }
-    Err(io::Error::from(ErrorKind::Interrupted))
 }

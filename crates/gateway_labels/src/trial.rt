@@ -1,13 +1,18 @@
 //! What an encoding makes of some bytes.
-ghost use Rattle.std.specs.Prelude.{◌≡◌, ◌++◌, ℕ, List, IfOk, OnOk, []};
+ghost use Rattle.std.specs.Prelude.{◌≡◌, ◌++◌, ℕ, List, IfErr, IfOk, OnOk, []};
 ghost use Rattle.enc_model.specs.Encode.{Tables};
 ghost use Rattle.enc_model.specs.Indexes.{tables};
+ghost use Rattle.enc_index.specs.Sets.{IsIndexSet};
+ghost use Rattle.enc_laws.specs.WellFormed.{AreBytes};
+ghost use Rattle.gateway_labels.specs.Reasons.{IsUntold};
+ghost use Rattle.gateway_labels.specs.declared.unread.Unread.{Unread};
 
 use crate::choice::Choice;
 use crate::desk::Desk;
 use crate::measure::Measure;
 use crate::unread::Unread;
 use enc_index::IndexSet;
+use enc_laws::{text_ends, utf8_at_every_moment};
 use enc_model::{Encoding, Mode};
 use enc_stream::Transcoder;
 use sha2::Digest;
@@ -42,7 +47,11 @@ impl Trial {
         ensures read { (input : List ℕ) → IsTrialOf (tables set.now) self.old input
             → OnOk result (IsTrialOf (tables set.now) self.new (input ++ piece.now)) }
         ensures encoding { OnOk result (tried self.new ≡ tried self.old) }
+        ensures told { (input : List ℕ) → IsIndexSet set.now → AreBytes input
+            → IsTrialOf (tables set.now) self.old input → IfErr result (λ unread. unread ≡ Unread.NoMemory) }
+        ensures untold { IfErr result IsUntold }
     {
+        utf8_at_every_moment();
         desk.text.clear();
         self.transcoder.feed(set, piece, &mut desk.text)?;
         self.measure.add(&mut desk.classes, &desk.text)?;
@@ -54,6 +63,9 @@ impl Trial {
         ensures text { (input : List ℕ) → IsTrialOf (tables set.now) self input
             → IfOk result (λ choice. IsChoiceOf (tables set.now) choice input is_whole) }
         ensures encoding { IfOk result (λ choice. choice.encoding ≡ tried self) }
+        ensures told { (input : List ℕ) → IsIndexSet set.now → AreBytes input → IsTrialOf (tables set.now) self input
+            → IfErr result (λ unread. unread ≡ Unread.NoMemory) }
+        ensures untold { IfErr result IsUntold }
     {
         let encoding = self.transcoder.from();
         let Measure {
@@ -77,9 +89,14 @@ impl Trial {
         desk: &mut Desk,
         is_whole: bool,
     ) -> Result<Measure, Unread>
-        ensures { (input : List ℕ) → IsTrialOf (tables set.now) self input
+        ensures known { (input : List ℕ) → IsTrialOf (tables set.now) self input
             → IfOk result (λ measure. IsMeasured measure (text_as (tables set.now) (tried self) input is_whole)) }
+        ensures told { (input : List ℕ) → IsIndexSet set.now → AreBytes input → IsTrialOf (tables set.now) self input
+            → IfErr result (λ unread. unread ≡ Unread.NoMemory) }
+        ensures untold { IfErr result IsUntold }
     {
+        utf8_at_every_moment();
+        text_ends();
         let Trial {
             mut transcoder,
             mut measure,

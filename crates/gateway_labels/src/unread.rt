@@ -1,17 +1,17 @@
 //! Why a text has no labels.
 
 use enc_stream::TranscodeError;
+use gateway_outside::Refused;
 use std::alloc::AllocError;
-use std::io::{self, ErrorKind};
 
 /// Why a text has no labels.
-#[derive(Clone, Copy, Debug, Drop)]
+#[derive(Clone, Copy, Debug, PartialEq, Eq, Drop)]
 pub enum Unread {
     /// Out of memory.
     NoMemory,
-    /// The reader failed.
-    Input(io::Error),
-    /// An encoding made no text of it. It is only tested that each makes one.
+    /// The input was refused.
+    Input,
+    /// An encoding made no text of it, which none does.
     NoText,
 }
 
@@ -26,16 +26,14 @@ impl From<AllocError> for Unread {
     }
 }
 
-impl From<io::Error> for Unread {
-    ghost use Rattle.gateway_labels.specs.Reasons.{IsReasonOf};
+impl From<Refused> for Unread {
+    ghost use Rattle.std.specs.Prelude.{◌≡◌};
+    ghost use Rattle.gateway_labels.specs.declared.unread.Unread.{Unread};
 
-    ghost from_gives = { λ error unread. IsReasonOf error unread };
+    ghost from_gives = { λ _ unread. unread ≡ Unread.Input };
 
-    fn from(error: io::Error) -> Self {
-        match error.kind() {
-            ErrorKind::OutOfMemory => Unread::NoMemory,
-            _ => Unread::Input(error),
-        }
+    fn from(_refused: Refused) -> Self {
+        Unread::Input
     }
 }
 

@@ -1,7 +1,8 @@
 //! Which labels a text may have, without index files: by UTF-8 and UTF-16 alone.
 
 use enc_index::IndexSet;
-use gateway_labels::{FIRST, labels_on, write_json, write_lines};
+use gateway_labels::{FIRST, json_of, labels_on, lines_of};
+use gateway_outside::Noted;
 use std::process::Abort;
 
 /// Each row: some bytes, how many of them are read at most, and the lines that are printed. A text of no bytes; one
@@ -39,17 +40,15 @@ fn labels_are_printed_in_order(rt: HostRuntime) {
     let alloc = rt.alloc();
     let set = IndexSet::new(alloc).expect(&rt, "memory for a set");
     for (bytes, most, lines) in TEXTS.iter() {
-        let mut reader = *bytes;
-        let labels = labels_on(alloc, &set, &mut reader, *most).expect(&rt, "it can be read");
-        let mut written = Vec::new(alloc);
-        write_lines(alloc, &mut written, &labels.choices).expect(&rt, "memory for lines");
-        assert_eq!(&rt; written.as_slice(), lines.as_bytes());
+        let mut input = Noted::new(*bytes);
+        let labels = labels_on(alloc, &set, &mut input, *most).expect(&rt, "it can be read");
+        let printed = lines_of(alloc, &labels.choices).expect(&rt, "memory for lines");
+        assert_eq!(&rt; printed.as_str(), *lines);
     }
-    let mut reader: &[u8] = b"a\xC3\xA9";
-    let labels = labels_on(alloc, &set, &mut reader, 3).expect(&rt, "it can be read");
-    let mut written = Vec::new(alloc);
-    write_json(alloc, &mut written, &set, &labels).expect(&rt, "memory for lines");
-    let first: &[u8] =
-        b"{\"labels\":[\"UTF-8\"],\"lost\":0,\"strangeness\":0,\"line\":\"a\xC3\xA9\"}\n";
-    assert!(&rt; written.as_slice().starts_with(first));
+    let bytes: &[u8] = b"a\xC3\xA9";
+    let mut input = Noted::new(bytes);
+    let labels = labels_on(alloc, &set, &mut input, 3).expect(&rt, "it can be read");
+    let printed = json_of(alloc, &set, &labels).expect(&rt, "memory for lines");
+    let first = "{\"labels\":[\"UTF-8\"],\"lost\":0,\"strangeness\":0,\"line\":\"a\u{E9}\"}\n";
+    assert!(&rt; printed.starts_with(first));
 }

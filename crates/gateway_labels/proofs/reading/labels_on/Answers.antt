@@ -1,4 +1,4 @@
-use Rattle.std.proofs.Common.{◌∙◌, List, ap, map, subst}
+use Rattle.std.proofs.Common.{◌∙◌, List, ap, map, rules, subst}
 use Rattle.std.proofs.lemmas.List.Sorted.{All-permutation, IsPermutation-map}
 use Rattle.std.specs.List.{filter}
 use Rattle.std.specs.List.Sorted.{IsPermutation}
@@ -31,3 +31,15 @@ returns-clause-offered g c =
     ∙ ap (λ (xs : List Encoding). filter (offers c.args.set.now) xs) c.encodings.ensures)
     (IsPermutation-map encoding_of c.in_ok-choices.choices.items c.put_in_order.new.choices.items
     c.in_ok-put_in_order.ensures.same)
+
+pub returns-in_err-bytes-clause-refused : goal.returns-in_err-bytes-clause-refused
+returns-in_err-bytes-clause-refused g c =
+    let told = c.in_err-bytes.ensures.told c.to_area.ensures.valid
+    (c.in_ok-trials.ensures.trials (tables c.args.set.now)) in
+    search rules
+
+pub returns-in_err-choices-clause-refused : goal.returns-in_err-choices-clause-refused
+returns-in_err-choices-clause-refused g c =
+    let have = c.in_ok-bytes.ensures.read (c.in_ok-trials.ensures.trials (tables c.args.set.now)) in
+    let told = c.in_err-choices.ensures.told have.input c.to_area.ensures.valid have.bytes_are have.have in
+    search rules

@@ -10,7 +10,8 @@ invariant-loop-bytes g l = record {
   most : l.bytes ≤ l.most;
   same : map tried l.trials.items ≡ map tried l.fn.trials.items;
   have : All (λ trial. IsTrialOf (tables l.set) trial []) l.fn.trials.items
-      → HaveRead (tables l.set) l.trials.items (g.R.Read.remaining l.fn.reader) (g.R.Read.remaining l.reader) l.bytes;
+      → HaveRead (tables l.set) l.trials.items (g.I.Input.remaining l.fn.input) (g.I.Input.remaining l.input) l.bytes;
+  unrefused : g.I.Input.refusals l.input ≡ g.I.Input.refusals l.fn.input;
 }
 
 abbrev pub decreases-loop-bytes : goal.decreases-loop-bytes

@@ -3,8 +3,8 @@ use Rattle.std.proofs.lemmas.Str.{IsUtf8-append, chars-append}
 use Rattle.gateway_labels.specs.Counted.{IsCounted}
 use Rattle.gateway_labels.proofs.measure.Measure.add.Goals as goal
 
-pub returns : goal.returns
-returns c before is =
+pub returns-clause-known : goal.returns-clause-known
+returns-clause-known c before is =
     let bytes = c.args.bytes.now in
     let read = c.in-Ok.ensures.cases in
     record {

@@ -7,7 +7,7 @@ use Rattle.gateway_labels.proofs.trial.Trial.end.Goals as goal
 pub returns-clause-text : goal.returns-clause-text
 returns-clause-text c input is =
     let t = tables c.args.set.now in
-    let known = c.in_ok-counts.ensures input is in
+    let known = c.in_ok-counts.ensures.known input is in
     let text = text_as t (tried c.args.self) input c.args.is_whole in
     subst (λ (e : Encoding). IsChoiceOf t
     (record {
