@@ -1,2 +1,1 @@
-pub mod Labelling
 pub mod Obeys

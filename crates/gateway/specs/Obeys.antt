@@ -1,11 +1,11 @@
 -- WHAT EACH ORDER DOES to the files and streams outside, by what they hold before and after.
 use Rattle.std.specs.Prelude.{◌≡◌, ◌+◌, ℕ, List, Option, Result, IsErrAnd, ⊤}
 use Rattle.common.specs.Counts.{Counts}
-use Rattle.spool_disk.specs.declared.disk.Disk.{Ghosts}
+use Rattle.spool_disk.specs.declared.disk.Disk as disks
 use Rattle.gateway_orders.specs.declared.orders.Order.{Order}
 use Rattle.gateway_orders.specs.declared.orders.Order.TheVariants as orders
-use Rattle.gateway_orders.specs.declared.orders.Order.TheVariants.{Delete, DeleteIncomplete, Format, Raise, Text}
-use Rattle.gateway_orders.specs.declared.orders.Order.TheVariants.{Upgrade}
+use Rattle.gateway_orders.specs.declared.orders.Order.TheVariants.{Delete, DeleteIncomplete, Export, Format}
+use Rattle.gateway_orders.specs.declared.orders.Order.TheVariants.{Labels, Raise, Script, Text, Upgrade}
 use Rattle.gateway_outside.specs.Failures.{fault_in}
 use Rattle.gateway_outside.specs.SpoolFiles.{Disks}
 use Rattle.gateway_outside.specs.declared.failures.Failure.{Failure}
@@ -18,16 +18,23 @@ use Rattle.gateway_format.specs.Raising.{RaisesAt}
 use Rattle.gateway_format.specs.Upgrading.{UpgradesAt}
 use Rattle.gateway_list.specs.Listed.{JsonAt, ListsAt}
 use Rattle.gateway_delete.specs.Deleted.{DeletesAt, FindsAt}
+use Rattle.gateway_export.specs.Command.{ExportsAt}
+use Rattle.gateway_export.specs.declared.folders.Folder as folders
+use Rattle.gateway_export.specs.declared.places.FolderSearch.{FolderSearch}
+use Rattle.gateway_run.specs.Scripts.{ScriptsAt}
 use Rattle.gateway_text.specs.Texts.{TextsAt}
+use Rattle.gateway_labels.specs.Labelled.{LabelsAt}
 
 -- `Io` is answered exactly where the output refused
 abbrev pub IoByOutput : {T : Type 0} → ℕ → ℕ → Result T Failure → Type 0
 IoByOutput refused refused' result = Counts (IsErrAnd result (λ failure. fault_in failure ≡ Io)) refused refused'
 
 -- of the other orders nothing is said here yet
-module _ {D : Type 0} (disk : Ghosts D) (holds holds' : Disks D → Type 0) (shut shut' : List Unopened)
-    (have : Folders → Type 0) (asked asked' : List FolderCall) (left left' : Option (List ℕ)) (unread unread' : ℕ)
-    (before after : Option (List ℕ)) (refused refused' : ℕ) (Untouched : Type 0)
+module _ {D F B : Type 0} (disk : disks.Ghosts D) (folder : folders.Ghosts F B) (holds holds' : Disks D → Type 0)
+    (shut shut' : List Unopened) (have : Folders → Type 0) (asked asked' : List FolderCall)
+    (stand stand' : Disks F → Type 0) (searches searches' : List FolderSearch) (left left' : Option (List ℕ))
+    (unread unread' : ℕ) (before after : Option (List ℕ)) (refused refused' : ℕ)
+    (script written written' : Option (List ℕ)) (Unasked Unexported Untouched : Type 0)
     (result : Result (Unit {0}) Failure) where
   abbrev pub Obeys : Order → Type 0
   Obeys (Format spool blocks indexes overwrite standard first) =
@@ -49,4 +56,12 @@ module _ {D : Type 0} (disk : Ghosts D) (holds holds' : Disks D → Type 0) (shu
   Obeys (Text from to mode indexes strict) =
       TextsAt have asked asked' indexes.now left left' before after (unread + refused) (unread' + refused') Untouched
       result from.now to.now mode.now strict
+  Obeys (Labels indexes all json) =
+      LabelsAt have asked asked' indexes.now left left' before after (unread + refused) (unread' + refused') Untouched
+      result all json
+  Obeys (Script spool) =
+      ScriptsAt disk holds holds' shut shut' spool.now result script written written' Untouched Unasked
+  Obeys (Export spool path all) =
+      ExportsAt disk folder holds holds' shut shut' spool.now before after refused refused' result all stand stand'
+      searches searches' path.now Unexported
   Obeys order = ⊤

@@ -4,24 +4,23 @@
 ghost use Rattle.std.specs.Prelude.{◌≡◌};
 ghost use Rattle.gateway.specs.Obeys.{Obeys};
 
-mod labelling;
-
 use clap::Error;
 use clap::error::ErrorKind;
 use common::Stop;
 use gateway_delete::{delete_in, incomplete_in};
-use gateway_export::export_file;
+use gateway_engine::{CountedRead, CountedWrite};
+use gateway_export::{Places, SystemPlaces, export_in};
 use gateway_format::{NewSpool, format_at, raise_in, upgrade_in};
 use gateway_indexes::{IndexFolders, SystemFolders};
+use gateway_labels::{WantedLabels, labels_in};
 use gateway_list::{json_in, list_in};
 use gateway_orders::{Order, Service, USAGE, read_order, report_usage};
 use gateway_outside::{
     Closed, Failure, Fault, Input, Noted, Output, SpoolFiles, SystemFiles, Task, ended,
 };
-use gateway_run::run_script;
+use gateway_run::script_in;
 use gateway_text::{WantedText, text_in};
 use gateway_up::{Reporting, serve_file, serve_up};
-use labelling::labels_file;
 use std::alloc::Global;
 use std::net::SocketAddr;
 use std::process::ExitCode;
@@ -51,6 +50,7 @@ fn run(rt: &HostRuntime, words: &[String]) -> u8 {
 fn obey_system<'a>(rt: &'a HostRuntime, order: Order<'a>) -> Result<u8, Failure<'a>> {
     let mut files = SystemFiles::new(rt);
     let mut folders = SystemFolders::new(rt);
+    let mut places = SystemPlaces::new(rt);
     let mut input = Noted::new(rt.reader());
     let mut output = Noted::new(io::writer(rt));
     let mut errors = Noted::new(rt.stderr());
@@ -58,6 +58,7 @@ fn obey_system<'a>(rt: &'a HostRuntime, order: Order<'a>) -> Result<u8, Failure<
         rt,
         &mut files,
         &mut folders,
+        &mut places,
         &mut input,
         &mut output,
         &mut errors,
@@ -69,20 +70,32 @@ fn obey_system<'a>(rt: &'a HostRuntime, order: Order<'a>) -> Result<u8, Failure<
 }
 
 // Does an order, over these files and streams.
-fn obey<'a, F: SpoolFiles, R: IndexFolders, I: Input, W: Output, E: Output>(
+fn obey<'a, F, R, P, I, W, E>(
     rt: &'a HostRuntime,
     files: &mut F,
     folders: &mut R,
+    places: &mut P,
     input: &mut I,
     output: &mut W,
     errors: &mut E,
     order: Order<'a>,
 ) -> Result<(), Failure<'a>>
-    ensures { Obeys F.File.Disk (F.holds files.old) (F.holds files.new) (F.unopened files.old) (F.unopened files.new)
-        (R.have folders.old) (R.calls folders.old) (R.calls folders.new) (I.remaining input.old)
-        (I.remaining input.new) (I.refusals input.old) (I.refusals input.new) (W.contents output.old)
-        (W.contents output.new) (W.refusals output.old) (W.refusals output.new)
-        ((input.new ≡ input.old) × (output.new ≡ output.old)) result order.entry }
+where
+    F: SpoolFiles,
+    R: IndexFolders,
+    P: Places,
+    I: Input + CountedRead,
+    W: Output + CountedWrite,
+    E: Output,
+    ensures { Obeys F.File.Disk P.Folder.Folder (F.holds files.old) (F.holds files.new) (F.unopened files.old)
+        (F.unopened files.new) (R.have folders.old) (R.calls folders.old) (R.calls folders.new) (P.holds places.old)
+        (P.holds places.new) (P.searches places.old) (P.searches places.new) (I.Input.remaining input.old)
+        (I.Input.remaining input.new) (I.Input.refusals input.old) (I.Input.refusals input.new)
+        (W.Output.contents output.old) (W.Output.contents output.new) (W.Output.refusals output.old)
+        (W.Output.refusals output.new) (I.CountedRead.remaining input.old) (W.CountedWrite.contents output.old)
+        (W.CountedWrite.contents output.new) (files.new ≡ files.old)
+        ((files.new ≡ files.old) × (output.new ≡ output.old)) ((input.new ≡ input.old) × (output.new ≡ output.old))
+        result order.entry }
 {
     let alloc = rt.alloc();
     match order {
@@ -103,7 +116,7 @@ fn obey<'a, F: SpoolFiles, R: IndexFolders, I: Input, W: Output, E: Output>(
             };
             format_at(alloc, files, folders, output, errors, spool, wanted)
         }
-        Order::Script { spool } => run_script(rt, alloc, spool),
+        Order::Script { spool } => script_in(alloc, files, input, output, spool),
         Order::Serve(service) => serve(rt, service),
         Order::Up {
             spool,
@@ -117,8 +130,13 @@ fn obey<'a, F: SpoolFiles, R: IndexFolders, I: Input, W: Output, E: Output>(
         Order::DeleteIncomplete { spool, but, yes } => {
             incomplete_in(alloc, files, output, errors, spool, &but, yes)
         }
-        Order::Export { spool, folder, all } => export_file(rt, alloc, spool, folder, all),
-        Order::Labels { indexes, all, json } => labels_file(rt, alloc, indexes, all, json),
+        Order::Export { spool, folder, all } => {
+            export_in(alloc, files, places, output, spool, folder, all)
+        }
+        Order::Labels { indexes, all, json } => {
+            let wanted = WantedLabels { all, json };
+            labels_in(alloc, folders, input, output, errors, wanted, indexes)
+        }
         Order::Text {
             from,
             to,

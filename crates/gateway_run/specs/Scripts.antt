@@ -1,5 +1,6 @@
 -- What a run of a script over the spool in a file comes to.
-use Rattle.std.specs.Prelude.{◌≡◌, ◌⊎◌, ℕ, List, Option, Some, Result, Ok, Err, IsErrAnd, OnErr}
+use Rattle.std.specs.Prelude.{◌≡◌, ◌⊎◌, ℕ, true, false, List, Option, Some, Result, Ok, Err, IsErrAnd, OnErr, bytes_eq}
+use Rattle.std.specs.Prelude.{codes}
 use Rattle.spool_disk.specs.Disk.{Counts}
 use Rattle.spool_disk.specs.declared.disk.Disk.{Ghosts}
 use Rattle.upload_rules.specs.Store.{Store}
@@ -65,3 +66,7 @@ module _ {T D : Type 0} (disk : Ghosts D) (holds holds' : Disks D → Type 0) (s
   RunsAt = (disks : Disks D) (d : D) → holds disks → disks path ≡ Some d → Leaves holds' disks path (λ d'.
       IsErrAnd result (λ failure. StaysShut shut shut' path d failure d' × none)
       ⊎ RanIn disk d result input before after none d')
+
+  -- or over a fresh spool in memory for `-`: then no file is asked for
+  abbrev pub ScriptsAt : Type 0 → Type 0
+  ScriptsAt unasked = (bytes_eq path (codes "-") ≡ false → RunsAt) × (bytes_eq path (codes "-") ≡ true → unasked)

@@ -1,6 +1,6 @@
-//! Standard input, run as a script over a spool in a file or in memory.
+//! Input, run as a script over a spool in a file or in memory.
 #![tactic(auto)]
 
 mod scripting;
 
-pub use scripting::run_script;
+pub use scripting::script_in;

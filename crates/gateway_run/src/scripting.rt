@@ -1,11 +1,11 @@
-//! Running standard input as a script over a spool.
-ghost use Rattle.std.specs.Prelude.{◌≡◌, bytes_eq, codes, false};
+//! Running the input as a script over a spool.
+ghost use Rattle.std.specs.Prelude.{◌≡◌, bytes_eq, codes, false, true};
 ghost use Rattle.gateway_outside.specs.Failures.{fault_in};
-ghost use Rattle.gateway_run.specs.Scripts.{RunsAt, run_fault};
+ghost use Rattle.gateway_run.specs.Scripts.{RunsAt, ScriptsAt, run_fault};
 
 use enc_index::IndexSet;
-use gateway_engine::{Counted, CountedRead, CountedWrite, RunFault, ScriptFault, run};
-use gateway_outside::{Failure, Fault, Noted, SpoolFiles, SystemFiles, open_in, refused_in};
+use gateway_engine::{CountedRead, CountedWrite, RunFault, ScriptFault, run};
+use gateway_outside::{Failure, Fault, Input, Output, SpoolFiles, open_in, refused_in};
 use spool_disk::MemoryDisk;
 use spool_image::{format, pages_of};
 use spool_journal::PAGE;
@@ -15,21 +15,25 @@ use std::io;
 // How many text blocks a spool in memory has.
 const MEMORY_BLOCKS: u32 = 64;
 
-/// Runs standard input as a script over the spool in a file, or over a fresh one in memory for `-`.
-pub fn run_script<'a>(rt: &HostRuntime, alloc: Global, spool: &'a str) -> Result<(), Failure<'a>> {
-    let mut input = Noted::new(rt.reader());
-    let mut output = Noted::new(rt.stdout());
-    let mut reader = Counted::new(&mut input);
-    let mut writer = Counted::new(&mut output);
-    match run_at(
-        alloc,
-        &mut SystemFiles::new(rt),
-        spool,
-        &mut reader,
-        &mut writer,
-    ) {
-        Ok(()) => Ok(()),
-        Err(failure) => Err(by_streams(failure, input.error(), output.error())),
+/// Runs the input as a script over the spool in the file at this path, or over a fresh one in memory for `-`.
+pub fn script_in<'a, F: SpoolFiles, I: Input + CountedRead, W: Output + CountedWrite>(
+    alloc: Global,
+    files: &mut F,
+    input: &mut I,
+    output: &mut W,
+    spool: &'a str,
+) -> Result<(), Failure<'a>>
+    // Where the file can be opened the script is run over its spool, with what `gateway_engine::run` promises, and the
+    // failure is the run's. Where the one call that was to open it failed, neither the input nor the output was
+    // called. The other files stay. For `-` no file is asked for.
+    ensures script { ScriptsAt F.File.Disk (F.holds files.old) (F.holds files.new) (F.unopened files.old)
+        (F.unopened files.new) spool.now result (I.CountedRead.remaining input.old)
+        (W.CountedWrite.contents output.old) (W.CountedWrite.contents output.new)
+        ((input.new ≡ input.old) × (output.new ≡ output.old)) (files.new ≡ files.old) }
+{
+    match run_at(alloc, files, spool, input, output) {
+        Ok(()) => return Ok(()),
+        Err(failure) => return Err(by_streams(failure, input.error(), output.error())),
     }
 }
 
@@ -58,6 +62,7 @@ fn run_at<'a, F: SpoolFiles, R: CountedRead, W: CountedWrite>(
     ensures file { bytes_eq spool.now (codes "-") ≡ false → RunsAt F.File.Disk (F.holds files.old) (F.holds files.new)
         (F.unopened files.old) (F.unopened files.new) spool.now result (R.remaining reader.old) (W.contents writer.old)
         (W.contents writer.new) ((reader.new ≡ reader.old) × (writer.new ≡ writer.old)) }
+    ensures memory { bytes_eq spool.now (codes "-") ≡ true → files.new ≡ files.old }
 {
     if spool == "-" {
         return run_in_memory(alloc, reader, writer);

@@ -27,3 +27,12 @@ returns-in-Format g c = rw c.in-Format.is c.format_at.ensures.formats
 
 pub returns-in-Text : goal.returns-in-Text
 returns-in-Text g c = rw c.in-Text.is c.text_in.ensures.texts
+
+pub returns-in-Labels : goal.returns-in-Labels
+returns-in-Labels g c = rw c.in-Labels.is c.labels_in.ensures.labels
+
+pub returns-in-Script : goal.returns-in-Script
+returns-in-Script g c = rw c.in-Script.is c.script_in.ensures.script
+
+pub returns-in-Export : goal.returns-in-Export
+returns-in-Export g c = rw c.in-Export.is c.export_in.ensures.exports
