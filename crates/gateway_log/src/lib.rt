@@ -3,7 +3,6 @@
 
 mod counts;
 mod heads;
-mod listeners;
 mod refusals;
 mod shown;
 mod stock;
@@ -11,7 +10,6 @@ mod streams;
 mod talks;
 mod writing;
 
-pub use listeners::Logged;
 pub use stock::{Progress, Stock};
 pub use streams::LoggedStream;
 pub use talks::Call;

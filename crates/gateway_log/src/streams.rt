@@ -3,7 +3,7 @@
 use crate::writing::Log;
 use std::io::{self, Read, Write};
 use std::net::{OpenStream, Shutdown, SocketAddr};
-use std::time::{Clock, Duration};
+use std::time::Clock;
 
 /// The end of a stream: dropping it tells the log.
 struct Watch<'a, T: Clock, W: Write + Drop> {
@@ -27,8 +27,10 @@ pub struct LoggedStream<'a, S, T: Clock, W: Write + Drop> {
 }
 
 impl<'a, S, T: Clock, W: Write + Drop> LoggedStream<'a, S, T, W> {
-    /// The stream of the client with this number.
-    pub(crate) fn new(stream: S, log: &'a Log<'a, T, W>, client: u64) -> Self {
+    /// The stream of a client that was just accepted from this address: from now on the log has it. Whether its reads
+    /// and writes wait is settled by then: nothing asks that of it.
+    pub fn new(stream: S, log: &'a Log<'a, T, W>, address: SocketAddr) -> Self {
+        let client = log.accept(address);
         let watch = Watch { log, client };
         LoggedStream { stream, watch }
     }
@@ -60,61 +62,9 @@ impl<S: Write, T: Clock, W: Write + Drop> Write for LoggedStream<'_, S, T, W> {
     }
 }
 
-// All calls but `try_clone`: what passed over a clone would be missing in the log.
+// What a server needs once a connection is closed, and nothing else.
 impl<S: OpenStream, T: Clock, W: Write + Drop> OpenStream for LoggedStream<'_, S, T, W> {
-    fn peer_addr(&self) -> io::Result<SocketAddr> {
-        self.stream.peer_addr()
-    }
-
-    fn local_addr(&self) -> io::Result<SocketAddr> {
-        self.stream.local_addr()
-    }
-
     fn shutdown(&self, how: Shutdown) -> io::Result<()> {
         self.stream.shutdown(how)
-    }
-
-    fn set_nodelay(&self, nodelay: bool) -> io::Result<()> {
-        self.stream.set_nodelay(nodelay)
-    }
-
-    fn nodelay(&self) -> io::Result<bool> {
-        self.stream.nodelay()
-    }
-
-    fn set_nonblocking(&self, nonblocking: bool) -> io::Result<()> {
-        self.stream.set_nonblocking(nonblocking)
-    }
-
-    fn set_read_timeout(&self, dur: Option<Duration>) -> io::Result<()> {
-        self.stream.set_read_timeout(dur)
-    }
-
-    fn set_write_timeout(&self, dur: Option<Duration>) -> io::Result<()> {
-        self.stream.set_write_timeout(dur)
-    }
-
-    fn read_timeout(&self) -> io::Result<Option<Duration>> {
-        self.stream.read_timeout()
-    }
-
-    fn write_timeout(&self) -> io::Result<Option<Duration>> {
-        self.stream.write_timeout()
-    }
-
-    fn take_error(&self) -> io::Result<Option<io::Error>> {
-        self.stream.take_error()
-    }
-
-    fn peek(&self, buf: &mut [u8]) -> io::Result<usize> {
-        self.stream.peek(buf)
-    }
-
-    fn set_ttl(&self, ttl: u32) -> io::Result<()> {
-        self.stream.set_ttl(ttl)
-    }
-
-    fn ttl(&self) -> io::Result<u32> {
-        self.stream.ttl()
     }
 }

@@ -155,7 +155,7 @@ impl<'a, T: Clock, W: Write + Drop> Log<'a, T, W> {
     }
 
     /// Counts a client that couldn't be accepted.
-    pub(crate) fn count_unaccepted(&self) {
+    pub fn count_unaccepted(&self) {
         if let Ok(mut counts) = self.counts.try_borrow_mut() {
             counts.add_unaccepted();
         }
@@ -182,7 +182,7 @@ impl<'a, T: Clock, W: Write + Drop> Log<'a, T, W> {
     }
 
     /// Writes what was gathered, and each minute the counts.
-    pub(crate) fn turn(&self) {
+    pub fn turn(&self) {
         self.turn_at(self.ask());
     }
 

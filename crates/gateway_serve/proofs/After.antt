@@ -43,7 +43,7 @@ module _ {C : Type 0} (c : Ghosts C) (sure : Bool) (before old now : C) (st : St
   abbrev pub IsAfterCall : {T : Type 0} → Result T SessionError → Type 0
   IsAfterCall answer = UnlessFailed answer (c.represents now sure (step (history st past) e (mark_of answer)).state)
 
-  represents_still : {T : Type 0} (answer : Result T SessionError) → (Faults answer → ⊥) → IsAfterCall answer
+  pub represents_still : {T : Type 0} (answer : Result T SessionError) → (Faults answer → ⊥) → IsAfterCall answer
       → c.represents now sure (step (history st past) e (mark_of answer)).state
   represents_still (Ok x) ok after_is = after_is
   represents_still (Err (errors.Stop stops.NoMemory)) ok after_is = after_is

@@ -35,7 +35,7 @@ module _ {S : Type 0} (sure : Bool) (st : State) (past now : List Marked) (k : �
   place_unchanged Free ended is = (is.0, talks is.0 is.1, is.2, conns ∙ is.3)
   place_unchanged (Open l) ended is =
       moved sure ended st past k (joint_of l) (joint_of l) now is.latest is (talks (is.latest ∷ is.others) is.talks)
-      is.disconnected is.taken is.few is.given (λ e. conns ∙ is.shut e)
+      is.disconnected is.taken is.few is.given is.at (λ e. conns ∙ is.shut e)
 
 -- of one place that is set, and of the others
 pub set_all : {S : Type 0} (P : Place S → ℕ → Type 0) (places : List (Place S)) (n : ℕ) (p' : Place S)
@@ -191,6 +191,7 @@ module _ {S : Type 0} (sure : Bool) (places : List (Place S)) (n : ℕ) (ended :
         taken = refl;
         few = omega arith;
         given = refl;
+        at = refl;
         pairs = at_free.2;
         shut = λ e. absurd (cc);
         apart = sym at_free.3 ∙ opens_closed (history st past) n (mark_of answer) done;

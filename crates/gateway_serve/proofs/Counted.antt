@@ -2,6 +2,7 @@
 use Rattle.std.proofs.Common.{◌≡◌, ◌≢◌, ◌<◌, ◌≤◌, ◌+◌, ℕ, zero, suc, refl, ap, ◌∙◌, arith}
 use Rattle.std.proofs.Common.{Bool, true, false, if◌then◌else◌}
 use Rattle.std.proofs.Common.{List, [], ◌∷◌, ◌++◌, length, set, get_or}
+use Rattle.upload_rules.specs.Answers.{Counts}
 use Rattle.gateway_serve.specs.Counted.{Adds, count_closed, one_before, one_if_open, open_in}
 use Rattle.gateway_serve.specs.Joined.{IsNew, with_place}
 use Rattle.gateway_serve.specs.declared.places.Place.{Place}
@@ -119,3 +120,11 @@ pub none_counted : {S : Type 0} (opened : ℕ) (ended : List Seen) (places : Lis
     → places ≡ [] → opened ≡ length ended + open_in places
 unfolding open_in
 none_counted opened ended places none no_ended no_places = rw (no_ended, no_places) none
+
+-- no call of the session met a disk fault
+pub uncounts : (a b : ℕ) → b ≡ a → Counts (false ≡ true) a b
+uncounts a b same = record {
+  later = omega (arith, same);
+  counted = λ fails. absurd (cc);
+  nothing_else = λ less. absurd (omega (arith, same, less));
+}

@@ -3,9 +3,11 @@ mod After
 mod Carries
 mod NextTurn
 mod Counted
+mod Drainings
 mod Freed
 mod Joints
 mod Lost
+mod Parts
 mod Pauses
 mod Steps
 mod Talks

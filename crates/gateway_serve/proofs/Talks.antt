@@ -2,6 +2,7 @@
 use Rattle.std.proofs.Common.{◌≡◌, ◌+◌, ℕ, Bool, List, [], ◌∷◌, ◌++◌, refl}
 use Rattle.std.proofs.Common.{◌∙◌, ap, arith}
 use Rattle.tus_action.specs.Serves.{Appends}
+use Rattle.tus_session.specs.At.{at_in}
 use Rattle.tus_session.specs.History.{State, Event, Ended, Mark, Marked, conn_in, step}
 use Rattle.tus_session.specs.History.{history, Outcome, Done, Refused}
 use Rattle.tus_session.specs.declared.errors.SessionError.{SessionError}
@@ -14,7 +15,8 @@ module _ (sure : Bool) (st : State) (past : List Marked) (e : Event) (m : Mark) 
   -- what its call gave goes on with what was there
   pub talks_here : (before : List Conversation) (o : Outcome) → AreTalks sure st past (conn_in e) before
       → GaveAs sure (step (history st past) e m).outcome (step (history st past) e m).text o
-      → AreTalks sure st ((e, m) ∷ past) (conn_in e) (goes_on e o before)
+      → AreTalks sure st ((e, m) ∷ past) (conn_in e)
+      (goes_on e o (at_in (step (history st past) e m).state (conn_in e)) before)
   talks_here before o talks gave = rw (same_number (conn_in e)) (before, o, talks, gave, refl)
 
   pub talks_else : (k : ℕ) → (k ≡ conn_in e → ⊥) → (cs : List Conversation) → AreTalks sure st past k cs

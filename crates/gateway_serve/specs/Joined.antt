@@ -7,7 +7,7 @@ use Rattle.tus_session.specs.declared.answers.Answer.{Answer}
 use Rattle.tus_session.specs.declared.errors.SessionError.{SessionError}
 use Rattle.tus_session.specs.declared.connections.Connections.{Ghosts}
 use Rattle.gateway_serve.specs.Conversations.{Conversation, AreTalks, AreRefused, count_refused}
-use Rattle.gateway_serve.specs.Sockets.{current_of, IsQuietly, Served, Pairs}
+use Rattle.gateway_serve.specs.Sockets.{current_of, IsAt, Served, Pairs}
 use Rattle.gateway_serve.specs.declared.buffers.TheConstants.{PIECE}
 use Rattle.gateway_serve.specs.declared.sockets.Seen.{Seen}
 use Rattle.gateway_serve.specs.Bytes.{bytes_come, went_of, current}
@@ -22,17 +22,20 @@ use Rattle.gateway_serve.specs.declared.stays.At.{At}
 use Rattle.gateway_serve.specs.declared.stays.At.TheVariants.{Between, Reply}
 use Rattle.gateway_serve.specs.declared.reasons.Reason.{Reason}
 use Rattle.gateway_serve.specs.declared.reasons.Reason.TheVariants as Why
+use Rattle.gateway_serve.specs.declared.reasons.Gone.{Gone}
+use Rattle.gateway_serve.specs.declared.reasons.Gone.TheVariants as lost
 use Rattle.gateway_serve.specs.declared.places.Place.{Place}
 use Rattle.gateway_serve.specs.declared.places.Place.TheVariants.{Free, Open}
 use Rattle.gateway_serve.specs.declared.server.Server.{Server}
 
--- a socket and its connection: all bytes that came and went, those that wait for the session and for the socket, and
--- whether the session closed it
+-- a socket and its connection: all bytes that came and went, those that wait for the session and for the socket, what
+-- it is at once all is written, and whether the session closed it
 pub record Joint : Type 0 where
   pub came : List ℕ
   pub went : List ℕ
   pub input : List ℕ
   pub output : List ℕ
+  pub at : At
   pub closed : Bool
 
 abbrev pub is_last : Stage → Bool
@@ -40,17 +43,34 @@ is_last Taking = false
 is_last Giving = false
 is_last Closed = true
 
+-- WHAT IT IS AT: in a reply while bytes wait for the socket or a text is still to be given, else in the request of
+-- which something came, or between requests
+abbrev pub at_next : Stage → Option Request → At
+at_next Taking None = Between
+at_next Taking (Some request) = at_in request.part
+at_next Giving request = Reply
+at_next Closed request = Reply
+
+abbrev pub at_while : List ℕ → At → At
+at_while [] at = at
+at_while (b ∷ output) at = Reply
+
+abbrev pub at_of : {S : Type 0} → Link S → At
+at_of l = at_while l.output (at_next l.stage l.request)
+
 abbrev pub joint_of : {S : Type 0} → Link S → Joint
 joint_of l = record {
   came = bytes_come l.socket;
   went = went_of l.socket;
   input = l.input;
   output = l.output;
+  at = at_next l.stage l.request;
   closed = is_last l.stage;
 }
 
 -- THE INVARIANT. Of the connection's latest conversation, what came is what the session took and what waits for it, and
--- what went, with what waits for the socket, is what it gave. Of the conversations before, each had a socket of its own
+-- what went, with what waits for the socket, is what it gave. It is at what the session says. Of the conversations
+-- before, each had a socket of its own
 pub record Joins (sure : Bool) (j : Joint) (ended : List Seen) (st : State) (past : List Marked) (n : ℕ) : Type 0 where
   pub latest : Conversation
   pub others : List Conversation
@@ -59,6 +79,7 @@ pub record Joins (sure : Bool) (j : Joint) (ended : List Seen) (st : State) (pas
   pub taken : j.came ≡ latest.took ++ j.input
   pub few : length j.input ≤ PIECE
   pub given : j.went ++ j.output ≡ latest.gave
+  pub at : IsAt j.at latest.at
   pub pairs : Pairs Served ended others
   pub shut : j.closed ≡ true → (history st past).conns n ≡ None
   pub apart : st.conns n ≡ None
@@ -67,18 +88,6 @@ pub record Joins (sure : Bool) (j : Joint) (ended : List Seen) (st : State) (pas
 abbrev pub IsOver : Joint → Type 0
 IsOver j = (j.closed ≡ true) × (j.output ≡ [])
 
--- WHAT IT IS AT: in a reply while bytes wait for the socket or a text is still to be given, else in the request of
--- which something came, or between requests
-abbrev pub at_by : Stage → List ℕ → Option Request → At
-at_by Taking [] None = Between
-at_by Taking [] (Some request) = at_in request.part
-at_by Taking (b ∷ output) request = Reply
-at_by Giving output request = Reply
-at_by Closed output request = Reply
-
-abbrev pub at_of : {S : Type 0} → Link S → At
-at_of l = at_by l.stage l.output l.request
-
 -- WHAT A TURN DOES: so many bytes are written
 abbrev pub wrote : ℕ → Joint → Joint
 wrote n j = record {
@@ -86,6 +95,7 @@ wrote n j = record {
   went = j.went ++ take n j.output;
   input = j.input;
   output = drop n j.output;
+  at = j.at;
   closed = j.closed;
 }
 
@@ -98,7 +108,14 @@ MayWrite old new = (new ≡ old) ⊎ WritesPiece old new
 
 -- where none wait for the session, these are read, at most 4,096
 abbrev pub read : List ℕ → Joint → Joint
-read bytes j = record { came = j.came ++ bytes; went = j.went; input = bytes; output = j.output; closed = j.closed }
+read bytes j = record {
+  came = j.came ++ bytes;
+  went = j.went;
+  input = bytes;
+  output = j.output;
+  at = j.at;
+  closed = j.closed;
+}
 
 abbrev pub ReadsPiece : Joint → Joint → Type 0
 ReadsPiece old new =
@@ -150,7 +167,7 @@ PlaceWaits (Open l) = FewWait l.output
 
 -- nothing came, and nothing was given
 abbrev pub nothing_yet : Joint
-nothing_yet = record { came = []; went = []; input = []; output = []; closed = false }
+nothing_yet = record { came = []; went = []; input = []; output = []; at = Between; closed = false }
 
 abbrev pub IsNew : {S : Type 0} → Place S → Type 0
 IsNew {S} p = (l : Link S) × (p ≡ Open l) × (joint_of l ≡ nothing_yet)
@@ -164,10 +181,16 @@ with_place n reason Free ended = ended
 with_place n reason (Open l) ended = with_link n reason l ended
 
 -- a connection may be ended for this reason, which is reported to the session: it is lost, or serving is over
+abbrev pub IsLateIn : Gone → Joint → Type 0
+IsLateIn lost.Ended j = Unit {0}
+IsLateIn (lost.Failed kind) j = Unit {0}
+IsLateIn lost.Stuck j = Unit {0}
+IsLateIn (lost.Late stay) j = stay.at ≡ at_while j.output j.at
+
 abbrev pub MayEnd : {S : Type 0} → Reason → Place S → Type 0
 MayEnd Why.Closed p = ⊥
 MayEnd (Why.Lost gone) Free = Unit {0}
-MayEnd (Why.Lost gone) (Open l) = IsQuietly gone → (joint_of l).output ≡ []
+MayEnd (Why.Lost gone) (Open l) = IsLateIn gone (joint_of l)
 MayEnd Why.Over p = Unit {0}
 
 -- a place stays joined by events of its connection alone, with the sockets of that connection

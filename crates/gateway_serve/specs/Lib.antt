@@ -2,9 +2,12 @@ pub mod Acceptors
 pub mod Bytes
 pub mod Conversations
 pub mod Counted
+pub mod Drains
 pub mod Gone
 pub mod Joined
 pub mod Longest
+pub mod Parted
+pub mod Partings
 pub mod Reasons
 pub mod Requests
 pub mod Rests

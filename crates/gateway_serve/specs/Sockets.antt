@@ -1,5 +1,8 @@
 -- What is seen of sockets.
-use Rattle.std.specs.Prelude.{◌≡◌, ◌≤◌, ◌==◌, ℕ, length, false, List, [], ◌∷◌, ◌++◌, if◌then◌else◌}
+use Rattle.std.specs.Prelude.{◌≡◌, ◌≢◌, ◌⊎◌, ◌≤◌, ◌==◌, ℕ, length, false, List, [], ◌∷◌, ◌++◌, if◌then◌else◌}
+use Rattle.std.specs.Prelude.{Option, Some, None}
+use Rattle.tus_session.specs.declared.at.At as session
+use Rattle.tus_session.specs.declared.at.At.TheVariants as said
 use Rattle.gateway_serve.specs.Conversations.{Conversation}
 use Rattle.gateway_serve.specs.Waiting.{most_waiting}
 use Rattle.gateway_serve.specs.declared.buffers.TheConstants.{PIECE}
@@ -38,14 +41,35 @@ IsWholeReply Closed = Unit {0}
 IsWholeReply (Lost gone) = IsQuietly gone
 IsWholeReply Over = ⊥
 
+-- WHAT A CONNECTION IS AT, as the session says it is after its latest call, once all is written. It is in a reply while
+-- a text is still to be given, or once it is closed
+abbrev pub IsAt : At → Option session.At → Type 0
+IsAt Between at = at ≡ Some said.Between
+IsAt Head at = at ≡ Some said.Head
+IsAt Body at = at ≡ Some said.Body
+IsAt Reply at = (at ≡ Some said.Text) ⊎ (at ≡ None)
+
+-- one that was late was at that, or in a reply of which not all went
+abbrev pub IsGoneAt : Gone → List ℕ → Conversation → Type 0
+IsGoneAt Why.Ended went c = Unit {0}
+IsGoneAt (Why.Failed kind) went c = Unit {0}
+IsGoneAt Why.Stuck went c = Unit {0}
+IsGoneAt (Why.Late stay) went c = IsAt stay.at c.at ⊎ ((stay.at ≡ Reply) × (went ≢ c.gave))
+
+abbrev pub IsLateAt : Reason → List ℕ → Conversation → Type 0
+IsLateAt Closed went c = Unit {0}
+IsLateAt (Lost gone) went c = IsGoneAt gone went c
+IsLateAt Over went c = Unit {0}
+
 -- The session took all bytes that came, but for at most 4,096 at the end. The bytes that went are the first ones that
 -- it gave, all but at most 135,167 at the end, and all for the reasons of `IsWholeReply`. If the session closed the
--- connection, it wasn't reported to the session that the client is gone
+-- connection, it wasn't reported to the session that the client is gone. If it was late, it was at what it is said to
 pub record Fits (s : Seen) (c : Conversation) : Type 0 where
   pub taken : IsAllBut PIECE c.took s.came.items
   pub written : IsAllBut most_waiting s.went.items c.gave
   pub emptied : IsWholeReply s.reason → s.went.items ≡ c.gave
   pub connected : s.reason ≡ Closed → c.disconnected ≡ false
+  pub late : IsLateAt s.reason s.went.items c
 
 -- and all that it gave went, unless it was reported to the session that the client is gone
 pub record Served (s : Seen) (c : Conversation) : Type 0 where

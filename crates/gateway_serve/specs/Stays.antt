@@ -1,5 +1,5 @@
 -- How long a connection has its place.
-use Rattle.std.specs.Prelude.{◌≡◌, ◌⊎◌, ℕ, ◌<◌, ◌≤◌, ◌-◌, ◌/◌, min, true}
+use Rattle.std.specs.Prelude.{◌≡◌, ◌⊎◌, ℕ, ◌<◌, ◌≤◌, ◌-◌, ◌/◌, ◌==◌, ◌&&◌, min, Bool, true, false}
 use Rattle.std.specs.Duration.{as_nanos}
 use Rattle.std.specs.declared.time.Duration.{Duration}
 use Rattle.gateway_serve.specs.declared.stays.Stay.{Stay}
@@ -53,3 +53,13 @@ GivesWay s = GivesWayAt s.at s
 -- THE TIME OF A CONNECTION IS OVER
 abbrev pub IsOver : Stay → Type 0
 IsOver s = HasIdled s ⊎ ((s.wanted ≡ true) × GivesWay s)
+
+-- it is between requests, and something came or went in this turn
+abbrev pub is_between : At → Bool
+is_between Between = true
+is_between Head = false
+is_between Body = false
+is_between Reply = false
+
+abbrev pub has_just_moved : Stay → Bool
+has_just_moved s = is_between s.at && (as_nanos s.moved == as_nanos s.time)

@@ -5,12 +5,15 @@ use Rattle.tus_session.specs.declared.session.TheConstants.{MOST_OPEN}
 use Rattle.gateway_serve.specs.Counted.{open_in}
 use Rattle.gateway_serve.specs.Joined.{places_of, ended_of}
 use Rattle.gateway_serve.specs.Acceptors.{LetsInBy, done_of}
+use Rattle.gateway_serve.specs.Drains.{AllDrain, count_drains}
+use Rattle.gateway_serve.specs.Partings.{count_draining}
 use Rattle.gateway_serve.specs.Reasons.{AllReasoned}
 use Rattle.gateway_serve.specs.Streams.{AllHad, AllHave}
 use Rattle.gateway_serve.specs.Times.{Shows}
 use Rattle.std.specs.declared.time.Duration.{Duration}
 use Rattle.gateway_serve.specs.declared.doors.Clients.{Clients}
 use Rattle.gateway_serve.specs.declared.doors.Door.{Door}
+use Rattle.gateway_serve.specs.declared.drains.Drains.{Drains}
 use Rattle.gateway_serve.specs.declared.places.Place.{Place}
 use Rattle.gateway_serve.specs.declared.places.Place.TheVariants.{Free}
 use Rattle.gateway_serve.specs.declared.server.Server.{Server}
@@ -48,11 +51,18 @@ HasStreams remaining contents s = AllHave remaining contents (times_of s) (place
 abbrev pub IsReasoned : {S : Type 0} → Server S → Type 0
 IsReasoned s = AllReasoned (times_of s) (done_of (door_of s)) (ended_of s)
 
+-- the sockets that drain are all that were to, and each of those that drained has an end
+abbrev pub drains_of : {S : Type 0} → Server S → Drains S
+drains_of s = s.drains
+
+abbrev pub HasDrains : {S : Type 0} → Server S → Type 0
+HasDrains s = AllDrain (drains_of s) × (count_drains (drains_of s) ≡ count_draining (ended_of s))
+
 -- nobody came yet
 abbrev pub IsUnvisited : {S : Type 0} → Server S → Type 0
 IsUnvisited s =
     ((before : List Bool) → LetsInBy before before 0 (door_of s)) × (closed_of s ≡ 0) × (ended_of s ≡ [])
-    × (places_of s ≡ []) × (opened_by s ≡ 0) × (times_of s ≡ [])
+    × (places_of s ≡ []) × (opened_by s ≡ 0) × (times_of s ≡ []) × HasDrains s
 
 -- one more client can be counted
 abbrev pub HasRoom : Clients → Type 0
@@ -74,3 +84,4 @@ pub record RestStays {S : Type 0} (s s' : Server S) : Type 0 where
   pub closed : closed_of s' ≡ closed_of s
   pub times : times_of s' ≡ times_of s
   pub watch : s'.watch ≡ s.watch
+  pub drains : drains_of s' ≡ drains_of s

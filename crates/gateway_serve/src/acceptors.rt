@@ -4,7 +4,16 @@ ghost use Rattle.std.specs.Prelude.{◌≡◌, [], ◌∷◌, List, Bool, is_som
 use common::Trace;
 use std::io::{self, ErrorKind};
 use std::mem;
-use std::net::{OpenListener, OpenStream};
+use std::net::{OpenListener, OpenStream, SocketAddr};
+
+/// A client that connected.
+#[derive(Drop)]
+pub struct Arrival<S> {
+    /// Its stream.
+    pub stream: S,
+    /// Where it connected from.
+    pub address: SocketAddr,
+}
 
 /// A listener that is asked for clients, one at a time, and never waits for one. Its ghost record has each answer.
 pub trait Acceptor {
@@ -14,8 +23,8 @@ pub trait Acceptor {
     /// Whether each call of `accept` gave a client, the latest first.
     ghost answers: { Self → List Bool };
 
-    /// The stream of a client that connected. `None` where there is none, and where accepting failed.
-    fn accept(&mut self) -> Option<Self::Stream>
+    /// A client that connected. `None` where there is none, and where accepting failed.
+    fn accept(&mut self) -> Option<Arrival<Self::Stream>>
         ensures { answers self.new ≡ is_some result ∷ answers self.old };
 
     /// Whether the latest call of `accept` failed, as it does where no more files may be open: a client may be there
@@ -57,14 +66,15 @@ impl<L: OpenListener> Listening<'_, L>
 where
     L::Stream: OpenStream,
 {
-    // The stream of the next client: one call of the listener. A stream that can't be made not to wait is closed.
-    fn next(&self) -> io::Result<L::Stream> {
+    // The next client: one call of the listener. A stream that can't be made not to wait is closed. So whatever is put
+    // round a stream later needn't be asked for that.
+    fn next(&self) -> io::Result<Arrival<L::Stream>> {
         if !self.asks {
             return Err(io::Error::from(ErrorKind::WouldBlock));
         }
-        let (stream, _peer) = self.listener.accept()?;
+        let (stream, address) = self.listener.accept()?;
         stream.set_nonblocking(true)?;
-        Ok(stream)
+        Ok(Arrival { stream, address })
     }
 }
 
@@ -78,7 +88,7 @@ where
 
     ghost answers = { answers_of };
 
-    fn accept(&mut self) -> Option<L::Stream> {
+    fn accept(&mut self) -> Option<Arrival<L::Stream>> {
         let next = self.next();
         self.failed = next
             .as_ref()

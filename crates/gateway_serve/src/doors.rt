@@ -2,7 +2,7 @@
 ghost use Rattle.std.specs.Prelude.{◌≡◌, ◌<◌, ◌+◌, ◌^◌, ℕ, List, Bool, is_some, None};
 ghost use Rattle.gateway_serve.specs.Acceptors.{LetsInBy, TakesTurn, done_of, done_with, waits_in};
 
-use crate::acceptors::Acceptor;
+use crate::acceptors::{Acceptor, Arrival};
 use crate::idle::Pace;
 use crate::sockets::Untouched;
 use common::Trace;
@@ -85,7 +85,7 @@ impl<S: Drop> Door<S> {
             let client = acceptor.accept();
             self.pace.asked(client.is_some(), now);
             self.done = self.done.and(&AtDoor::Asked(client.is_some()));
-            if let Some(stream) = client {
+            if let Some(Arrival { stream, address: _ }) = client {
                 self.waiting = Some(Untouched::of(stream));
             }
         } else {

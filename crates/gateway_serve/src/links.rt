@@ -200,7 +200,7 @@ impl<S: Read + Write> Link<S> {
         }
         match self.stage {
             Stage::Closed => Ok(Left::Closed),
-            Stage::Giving => self.more(gateway, conn),
+            Stage::Giving => self.more(gateway, conn, tick.now),
             Stage::Taking => self.take(clock, gateway, conn, tick),
         }
     }
@@ -223,17 +223,26 @@ impl<S: Read + Write> Link<S> {
     }
 
     // Asks the session for the next piece of a text.
-    fn more<C: Connections>(&mut self, gateway: &mut C, conn: usize) -> Result<Left, DiskFault>
+    fn more<C: Connections>(
+        &mut self,
+        gateway: &mut C,
+        conn: usize,
+        now: Duration,
+    ) -> Result<Left, DiskFault>
         requires { HasRoom (joint_of self.old).output }
         ensures lost { IfOk result (λ left. IfLost left (λ gone. EndsBy gone (latest_of (socket_of self.new)))) }
         ensures socket { socket_of self.new ≡ socket_of self.old }
-        ensures request { self.new.request ≡ self.old.request }
+        ensures times { StaysTimed now self.old self.new }
         ensures serves { Goes C.Connections gateway.old gateway.new result self.old self.new conn }
         ensures unclosed { result ≢ Ok Left.Closed }
         ensures counts { Counts (IsErr result) (C.failures gateway.old) (C.failures gateway.new) }
     {
-        match next_after(self.output.more(gateway, conn)) {
+        let answer = self.output.more(gateway, conn);
+        match next_after(answer) {
             Ok(next) => {
+                // Behind a text that was given whole a body may come.
+                let at = gateway.at(conn);
+                self.request = request_after(self.request, at, next.taken, now);
                 self.stage = next.stage;
                 Ok(Left::Open)
             }

@@ -3,6 +3,8 @@ ghost use Rattle.std.specs.Prelude.{◌≡◌, ◌≢◌, ◌↔◌, ◌+◌, Is
 ghost use Rattle.std.specs.declared.time.Duration.{Duration};
 ghost use Rattle.upload_rules.specs.Answers.{Counts};
 ghost use Rattle.gateway_serve.specs.Counted.{one_if_open};
+ghost use Rattle.gateway_serve.specs.Drains.{KeepsDrains, one_if_drains};
+ghost use Rattle.gateway_serve.specs.Partings.{count_draining};
 ghost use Rattle.gateway_serve.specs.Acceptors.{waits_in};
 ghost use Rattle.gateway_serve.specs.declared.doors.AtDoor.{AtDoor};
 ghost use Rattle.gateway_serve.specs.Gone.{IsAmong, IsTurn};
@@ -96,6 +98,7 @@ impl<S: Read + Write + Drop> Place<S> {
         ensures closed { result ≡ Ok Turned.Closed → length ended.new.items ≡ length ended.old.items + 1 }
         ensures open { IfOk result
             (λ turned. turned ≢ Turned.Closed → length ended.new.items ≡ length ended.old.items) }
+        ensures drains { KeepsDrains drains.old drains.new ended.old.items ended.new.items }
         ensures counts { Counts (IsErr result) (C.failures gateway.old) (C.failures gateway.new) }
     {
         let Place::Open(link) = self else {
@@ -140,6 +143,7 @@ impl<S: Read + Write + Drop> Place<S> {
         ensures free { self.new ≡ Place.Free }
         ensures kept { length ended.new.items ≡ length ended.old.items + one_if_open self.old }
         ensures others { OthersStay conn ended.old.items ended.new.items }
+        ensures drains { KeepsDrains drains.old drains.new ended.old.items ended.new.items }
         ensures counts { Counts (IsErr result) (C.failures gateway.old) (C.failures gateway.new) }
     {
         if self.is_free() {
@@ -158,6 +162,7 @@ impl<S: Read + Write + Drop> Place<S> {
         ensures free { self.new ≡ Place.Free }
         ensures ended { ended.new.items ≡ with_place conn reason self.old ended.old.items }
         ensures kept { length ended.new.items ≡ length ended.old.items + one_if_open self.old }
+        ensures drains { count_draining ended.new.items ≡ one_if_drains result reason + count_draining ended.old.items }
     {
         match mem::replace(self, Place::Free) {
             Place::Open(link) => Some(link.end(conn, reason, ended)),

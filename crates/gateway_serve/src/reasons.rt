@@ -1,4 +1,7 @@
 //! Why the sockets of connections end.
+ghost use Rattle.std.specs.Prelude.{◌≡◌};
+ghost use Rattle.gateway_serve.specs.Partings.{drains_for};
+
 use crate::stays::Stay;
 use std::io::ErrorKind;
 
@@ -15,7 +18,9 @@ pub enum Reason {
 
 impl Reason {
     /// Whether the client may still send something, and what was sent to it last may be under way: its socket drains.
-    pub(crate) fn drains(&self) -> bool {
+    pub(crate) fn drains(&self) -> bool
+        ensures { result ≡ drains_for self.now }
+    {
         match self {
             Reason::Closed => true,
             Reason::Lost(Gone::Late(stay)) => stay.has_just_moved(),

@@ -7,9 +7,11 @@ ghost use Rattle.tus_session.specs.History.{State, Marked};
 ghost use Rattle.gateway_serve.specs.Counted.{Adds, count_closed, open_in};
 ghost use Rattle.gateway_serve.specs.Acceptors.{waits_in};
 ghost use Rattle.gateway_serve.specs.declared.doors.AtDoor.{AtDoor};
+ghost use Rattle.gateway_serve.specs.Drains.{KeepsDrains};
 ghost use Rattle.gateway_serve.specs.Gone.{IsAmong, IsTurn};
 ghost use Rattle.gateway_serve.specs.Joined.{AllFell, StaysJoined, AllEnded, IsFreeAt};
 ghost use Rattle.gateway_serve.specs.Longest.{BeganBy, IsLongest, pause_of, since_of};
+ghost use Rattle.gateway_serve.specs.Partings.{count_draining};
 ghost use Rattle.gateway_serve.specs.Reasons.{AllReasoned, AtMostOnce};
 ghost use Rattle.gateway_serve.specs.Served.{AllLeft};
 ghost use Rattle.gateway_serve.specs.Streams.{AllHad, AllHave, AllPreserve};
@@ -142,6 +144,7 @@ pub(crate) fn turn_each<S: Read + Write + Drop, C: Connections, T: Clock>(
         ended.old.items ended.new.items refused refused }
     ensures counts { Counts (IsErr result) (C.failures gateway.old) (C.failures gateway.new) }
     ensures kept { Adds places.old places.new ended.old.items ended.new.items }
+    ensures drains { KeepsDrains drains.old drains.new ended.old.items ended.new.items }
 
     // Serving stops once so many were closed.
     ensures closed { round.old.closed ≡ length ended.old.items → length ended.old.items ≤ round.old.connections
@@ -173,6 +176,7 @@ pub(crate) fn end_each<S: Read + Write + Drop, C: Connections>(
         → AllPreserve S.remaining S.contents times places.old places.new ended.old.items ended.new.items }
     ensures once { AtMostOnce ended.old.items ended.new.items }
     ensures kept { Adds places.old places.new ended.old.items ended.new.items }
+    ensures drains { KeepsDrains drains.old drains.new ended.old.items ended.new.items }
     ensures more { length ended.old.items ≤ length ended.new.items }
     ensures none { OnOk result (open_in places.new ≡ 0) }
     ensures before { count_closed ended.new.items ≡ count_closed ended.old.items }
@@ -195,6 +199,7 @@ pub(crate) fn free_each<S: Read + Write + Drop>(places: &mut [Place<S>], ended: 
         → AllPreserve S.remaining S.contents times places.old places.new ended.old.items ended.new.items }
     ensures once { AtMostOnce ended.old.items ended.new.items }
     ensures kept { length ended.new.items ≡ length ended.old.items + open_in places.old }
+    ensures drains { count_draining ended.new.items ≡ count_draining ended.old.items }
     ensures before { count_closed ended.new.items ≡ count_closed ended.old.items }
     ensures left { (sure : Bool) (refused : ℕ) (st : State) (past : List Marked)
         → AllFell sure places.old ended.old.items refused st past → AllLeft sure ended.new.items refused st past }

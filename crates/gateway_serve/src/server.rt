@@ -13,8 +13,8 @@ ghost use Rattle.gateway_serve.specs.Reasons.{EndsReasoned, IsLeftReasoned};
 ghost use Rattle.gateway_serve.specs.Streams.{AllHad};
 ghost use Rattle.gateway_serve.specs.Times.{HasShown};
 ghost use Rattle.gateway_serve.specs.Turns.{HasRoom, IsCounted, IsUnvisited, HasNoPlace, NoneIsFree, RestStays};
-ghost use Rattle.gateway_serve.specs.Turns.{HasStreams, IsReasoned, ShowsBy};
-ghost use Rattle.gateway_serve.specs.Turns.{closed_of, door_of, opened_by, refused_by, times_of};
+ghost use Rattle.gateway_serve.specs.Turns.{HasDrains, HasStreams, IsReasoned, ShowsBy};
+ghost use Rattle.gateway_serve.specs.Turns.{closed_of, door_of, drains_of, opened_by, refused_by, times_of};
 
 use crate::acceptors::Acceptor;
 use crate::clocks::Timer;
@@ -43,7 +43,7 @@ pub(crate) struct Server<S> {
     /// at which each turn began
     pub(crate) times: Trace<Duration>,
     /// the sockets of connections that the session closed
-    drains: Drains<S>,
+    pub(crate) drains: Drains<S>,
     closed: u64,
     /// whether anything was done in the latest turn
     busy: bool,
@@ -61,6 +61,7 @@ impl<S: Read + Write + OpenStream + Drop> Server<S> {
         ensures refused { refused_by result ≡ 0 }
         ensures times { times_of result ≡ [] }
         ensures watch { result.watch ≡ watch }
+        ensures drains { HasDrains result }
     {
         Server {
             alloc,
@@ -90,6 +91,7 @@ impl<S: Read + Write + OpenStream + Drop> Server<S> {
             → HasShown before (T.shown clock.new) (done_of (door_of self.new)) (times_of self.new) }
         ensures reasons { IsLeftReasoned (times_of self.new) (done_of (door_of self.new)) (ended_of self.new) }
         ensures streams { AllHad S.remaining S.contents (times_of self.new) (ended_of self.new) }
+        ensures drains { HasDrains self.new }
         ensures serves { LetsGo C.Connections gateway.old gateway.new result (places_of self.old)
             (ended_of self.old) (ended_of self.new) (refused_by self.old) (refused_by self.new) }
         ensures counts { Counts (IsErr result) (C.failures gateway.old) (C.failures gateway.new) }
@@ -119,6 +121,7 @@ impl<S: Read + Write + OpenStream + Drop> Server<S> {
             → HasShown before (T.shown clock.new) (done_of (door_of self.new)) (times_of self.new) }
         ensures reasons { EndsReasoned (times_of self.new) (done_of (door_of self.new)) (ended_of self.new) }
         ensures streams { HasStreams S.remaining S.contents self.new }
+        ensures drains { HasDrains self.new }
         ensures serves { AllEnded C.Connections gateway.old gateway.new result (places_of self.old) (places_of self.new)
             (ended_of self.old) (ended_of self.new) (refused_by self.old) (refused_by self.new) }
         ensures counts { Counts (IsErr result) (C.failures gateway.old) (C.failures gateway.new) }
@@ -160,6 +163,7 @@ impl<S: Read + Write + OpenStream + Drop> Server<S> {
         ensures watch { self.new.watch ≡ self.old.watch }
         ensures reasons { HasStreams S.remaining S.contents self.old → IsReasoned self.old → IsReasoned self.new }
         ensures streams { HasStreams S.remaining S.contents self.old → HasStreams S.remaining S.contents self.new }
+        ensures drains { HasDrains self.old → HasDrains self.new }
         ensures serves { StaysJoined C.Connections gateway.old gateway.new result (places_of self.old)
             (places_of self.new) (ended_of self.old) (ended_of self.new) (refused_by self.old) (refused_by self.new) }
         ensures counts { Counts (IsErr result) (C.failures gateway.old) (C.failures gateway.new) }
@@ -239,6 +243,7 @@ impl<S: Read + Write + OpenStream + Drop> Server<S> {
             → NoneIsFree (places_of self.new) × HasNoPlace self.old }
         ensures ended { ended_of self.new ≡ ended_of self.old }
         ensures closed { closed_of self.new ≡ closed_of self.old }
+        ensures drains { drains_of self.new ≡ drains_of self.old }
         ensures counted { IsCounted self.old → IsCounted self.new }
     {
         let Some((conn, socket)) = self.next_place() else {
@@ -285,6 +290,7 @@ impl<S: Read + Write + OpenStream + Drop> Server<S> {
         ensures door { door_of self.new ≡ door_of self.old }
         ensures ended { ended_of self.new ≡ ended_of self.old }
         ensures closed { closed_of self.new ≡ closed_of self.old }
+        ensures drains { drains_of self.new ≡ drains_of self.old }
         ensures watch { self.new.watch ≡ self.old.watch }
         ensures times { times_of self.new ≡ times_of self.old }
     {
@@ -303,6 +309,7 @@ impl<S: Read + Write + OpenStream + Drop> Server<S> {
         ensures door { door_of self.new ≡ door_of self.old }
         ensures ended { ended_of self.new ≡ ended_of self.old }
         ensures closed { closed_of self.new ≡ closed_of self.old }
+        ensures drains { drains_of self.new ≡ drains_of self.old }
         ensures watch { self.new.watch ≡ self.old.watch }
         ensures times { times_of self.new ≡ times_of self.old }
     {

@@ -3,6 +3,7 @@ ghost use Rattle.std.specs.Prelude.{Bool, IsErr};
 ghost use Rattle.upload_rules.specs.Answers.{Counts};
 ghost use Rattle.tus_session.specs.History.{State};
 ghost use Rattle.gateway_serve.specs.Acceptors.{HasServed};
+ghost use Rattle.gateway_serve.specs.Drains.{HasDrained};
 ghost use Rattle.gateway_serve.specs.Reasons.{IsLeftReasoned};
 ghost use Rattle.gateway_serve.specs.Served.{ServesPart, AllServed, AllLeft};
 ghost use Rattle.gateway_serve.specs.Streams.{AllHad};
@@ -11,6 +12,7 @@ ghost use Rattle.gateway_serve.specs.Times.{HasShown};
 use crate::acceptors::Acceptor;
 use crate::clocks::Timer;
 use crate::doors::{AtDoor, Clients};
+use crate::drains::Drained;
 use crate::idle::Watch;
 use crate::server::Server;
 use crate::sockets::Seen;
@@ -33,6 +35,8 @@ pub struct Outcome<C> {
     pub times: Trace<Duration>,
     /// The sockets that served them, which only clauses read.
     pub ended: Trace<Seen>,
+    /// What was done with those of them that were to drain, which only clauses read.
+    pub drained: Trace<Drained>,
     /// `DiskFault` where a call of the session was refused with it: serving stopped there.
     pub served: Result<(), DiskFault>,
 }
@@ -109,6 +113,15 @@ where
     // - serving was over: at most one for each number of a connection, and one more if the disk failed.
     ensures reasons { IsLeftReasoned result.times.items result.door.items result.ended.items }
 
+    // Each of them drained whose connection the session closed, or that gave way just after a reply, and no other. Its
+    // writing side was shut once, and since then it was read and nothing else: what came was dropped. It drained until
+    // - it was at its end, or a read failed, but not because it would have waited or was interrupted;
+    // - its writing side couldn't be shut, or nothing came for too long, it drained for too long, or it brought too
+    //   much, by the times of its turns;
+    // - room was needed, since as many drained as may or no more files may be open, or memory for it was refused;
+    // - serving was over.
+    ensures drains { HasDrained result.ended.items result.drained.items }
+
     // There is a time for each turn. Each turn began at the time that the clock showed, which was asked once before it,
     // or at that of the turn before, if it couldn't be read. At the end it was asked once more at most.
     ensures times { HasShown (T.shown clock.old) (T.shown clock.new) result.door.items result.times.items }
@@ -127,6 +140,7 @@ where
         door,
         times,
         ended,
+        drains,
         ..
     } = server;
     Outcome {
@@ -135,6 +149,7 @@ where
         door: door.done,
         times,
         ended,
+        drained: drains.end(),
         served,
     }
 }

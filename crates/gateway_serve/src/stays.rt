@@ -1,6 +1,7 @@
 //! How long a connection has its place.
 ghost use Rattle.std.specs.Prelude.{◌≡◌, ◌↔◌, IsTrue};
-ghost use Rattle.gateway_serve.specs.Stays.{HasIdled, HasPaused, HasStayed, IsSlow, GivesWay, IsOver, seconds_from};
+ghost use Rattle.gateway_serve.specs.Stays.{HasIdled, HasPaused, HasStayed, IsSlow, GivesWay, IsOver};
+ghost use Rattle.gateway_serve.specs.Stays.{has_just_moved, seconds_from};
 
 use std::time::Duration;
 
@@ -75,8 +76,10 @@ impl Stay {
     }
 
     /// Whether it is between requests and something came or went just now: more may be under way.
-    pub(crate) fn has_just_moved(&self) -> bool {
-        self.at == At::Between && self.moved == self.time
+    pub(crate) fn has_just_moved(&self) -> bool
+        ensures { result ≡ has_just_moved self.now }
+    {
+        matches!(self.at, At::Between) && self.moved.as_nanos() == self.time.as_nanos()
     }
 
     // Whether nothing came or went for too long, or the head of a request isn't whole.

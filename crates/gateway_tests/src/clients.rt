@@ -185,6 +185,7 @@ where
         door: _,
         times: _,
         ended: _,
+        drained: _,
     } = serve_on(
         &mut clock,
         alloc,

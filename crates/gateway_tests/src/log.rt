@@ -2,11 +2,12 @@
 
 use enc_index::IndexSet;
 use gateway_engine::Gateway;
-use gateway_log::{Call, Log, Logged, Progress, Stock};
+use gateway_log::{Log, LoggedStream, Stock};
+use gateway_up::Watched;
 use std::alloc::Global;
 use std::cell::Cell;
 use std::io::{self, Read, Write};
-use std::net::{Ipv4Addr, OpenListener, OpenStream, Shutdown, SocketAddr};
+use std::net::{Ipv4Addr, OpenStream, Shutdown, SocketAddr};
 use std::process::Abort;
 use std::time::{Clock, Duration};
 use tus_session::Connections;
@@ -58,19 +59,9 @@ impl OpenStream for Wire<'_> {
     }
 }
 
-/// A listener whose connections all come from port 7.
-#[derive(Drop)]
-struct Door<'a> {
-    peer: &'a Peer,
-}
-
-impl<'a> OpenListener for Door<'a> {
-    type Stream = Wire<'a>;
-
-    fn accept(&self) -> io::Result<(Wire<'a>, SocketAddr)> {
-        let wire = Wire { peer: self.peer };
-        Ok((wire, SocketAddr::from((Ipv4Addr::LOCALHOST, 7))))
-    }
+/// The address of each client.
+fn port_seven() -> SocketAddr {
+    SocketAddr::from((Ipv4Addr::LOCALHOST, 7))
 }
 
 /// A clock that is set by hand. The time of day doesn't change.
@@ -123,8 +114,8 @@ const BLANKS: [u8; 300] = [b' '; 300];
 const LONG: [u8; 8192] = [b'x'; 8192];
 
 /// What a client sends, one after the other, how many bytes of the replies its socket takes, and the lines of the log
-/// without the time at their start. A millisecond goes by before each is sent and before the connection ends. There is
-/// an upload with the number 1, which has 3 of 6 bytes.
+/// without the time at their start, and without what `STOCK` adds to the last one. A millisecond goes by before each is
+/// sent and before the connection ends. There is an upload with the number 1, which has 3 of 6 bytes.
 #[derive(Drop)]
 struct Row {
     sends: &'static [&'static [u8]],
@@ -327,16 +318,22 @@ const CUT: &[u8] =
     b"PATCH /files/1 HTTP/1.1\r\nTus-Resumable: 1.0.0\r\nUpload-Offset: 3\r\nContent-Length: 3\r\n\
     Content-Type: application/offset+octet-stream\r\n\r\nde";
 
-/// A gateway over uploads in memory, and what it gave that isn't written yet. Its calls are logged as those of a served
-/// one.
-struct Served {
-    gateway: Gateway<Table>,
+/// What is left in the spool, of eight blocks, while its only upload is that one.
+const STOCK: Stock = Stock {
+    free_blocks: 7,
+    free_slots: 511,
+    incomplete: 1,
+};
+
+/// A gateway over uploads in memory whose calls are logged, and what it gave that isn't written yet.
+struct Served<'a, T: Clock, L: Write + Drop> {
+    gateway: Watched<'a, Table, T, L>,
     out: Vec<u8>,
 }
 
-impl Served {
-    /// With one upload, of 6 bytes, of which 3 came, and a connection.
-    fn new(rt: &impl Abort, alloc: Global) -> Self {
+impl<'a, T: Clock, L: Write + Drop> Served<'a, T, L> {
+    /// With one upload, of 6 bytes, of which 3 came, and a connection, of which the log is told.
+    fn new(rt: &impl Abort, alloc: Global, log: &'a Log<'a, T, L>) -> Self {
         let store = Table::new(alloc, IndexSet::new(alloc).expect(rt, "memory for a set"));
         let opened = Gateway::new(alloc, store);
         let mut gateway = opened.ok().expect(rt, "memory");
@@ -348,27 +345,20 @@ impl Served {
         }
         gateway.ended(0).expect(rt, "memory");
         out.clear();
+        let mut gateway = Watched::new(gateway, 8, log);
         gateway.opened(0).expect(rt, "a place");
         Served { gateway, out }
     }
 
     /// Takes bytes of the client, and writes the replies as far as its socket takes them.
-    fn take<T: Clock, L: Write + Drop, W: Write>(
-        &mut self,
-        rt: &impl Abort,
-        log: &Log<T, L>,
-        bytes: &[u8],
-        stream: &mut W,
-    ) {
+    fn take<W: Write>(&mut self, rt: &impl Abort, bytes: &[u8], stream: &mut W) {
         let mut rest = bytes;
         for _ in 0..bytes.len() {
-            let begun = self.out.len();
             let Ok(answer) = self.gateway.came(0, rest, &mut self.out) else {
                 return;
             };
-            self.tell(log, rest.get(..answer.taken).unwrap_or(rest), begun);
             rest = rest.get(answer.taken..).unwrap_or(&[]);
-            self.give(log, stream, answer.more);
+            self.give(stream, answer.more);
             if rest.is_empty() {
                 return;
             }
@@ -377,18 +367,12 @@ impl Served {
     }
 
     // Writes what was given, and asks for the rest of a text.
-    fn give<T: Clock, L: Write + Drop, W: Write>(
-        &mut self,
-        log: &Log<T, L>,
-        stream: &mut W,
-        more: bool,
-    ) {
+    fn give<W: Write>(&mut self, stream: &mut W, more: bool) {
         self.write(stream);
         if !more || !self.out.is_empty() {
             return;
         }
         if self.gateway.more(0, &mut self.out).is_ok() {
-            self.tell(log, &[], 0);
             self.write(stream);
         }
     }
@@ -401,38 +385,21 @@ impl Served {
         }
     }
 
-    // Tells the log of a call that took these bytes, and gave those of the output from a place on.
-    fn tell<T: Clock, L: Write + Drop>(&self, log: &Log<T, L>, taken: &[u8], begun: usize) {
-        let at = self.gateway.at(0);
-        let given = self.out.get(begun..).unwrap_or(&[]);
-        log.called(0, Call { taken, given, at });
-    }
-
     /// The client is gone.
-    fn end<T: Clock, L: Write + Drop>(self, log: &Log<T, L>) {
+    fn end(self) {
         let Served {
             mut gateway,
             out: _,
         } = self;
-        let upload = log.upload_at(0);
-        let ended = gateway.ended(0);
-        let record = upload.and_then(|number| gateway.uploads().record(number));
-        let progress = record.map(|record| Progress {
-            accepted: record.accepted,
-            declared: record.declared,
-        });
-        if ended.is_ok() {
-            log.ended(0, progress);
-        }
-        drop(gateway.close());
+        drop(gateway.ended(0));
+        drop(gateway.into_gateway().close());
     }
 }
 
 /// Takes all that a client sends.
 fn takes_all<T: Clock, L: Write + Drop, S: Read + Write>(
     rt: &impl Abort,
-    log: &Log<T, L>,
-    served: &mut Served,
+    served: &mut Served<'_, T, L>,
     stream: &mut S,
 ) {
     for _ in 0..=LONG.len() {
@@ -440,7 +407,7 @@ fn takes_all<T: Clock, L: Write + Drop, S: Read + Write>(
         let Ok(count) = stream.read(&mut buf) else {
             return;
         };
-        served.take(rt, log, buf.get(..count).unwrap_or(&[]), stream);
+        served.take(rt, buf.get(..count).unwrap_or(&[]), stream);
     }
 }
 
@@ -453,29 +420,45 @@ fn logged(rt: &impl Abort, alloc: Global, row: &Row, size: usize) -> Vec<u8> {
         room: Cell::new(row.room),
     };
     let clock = Millis { now: Cell::new(0) };
-    let log = Log::new(
-        &clock,
-        alloc,
-        Paper {
-            alloc,
-            written: &written,
-        },
-    );
-    let door = Door { peer: &peer };
-    let listener = Logged::new(&door, &log);
-    let (mut stream, _) = listener.accept().expect(rt, "a stream");
-    let mut served = Served::new(rt, alloc);
-    log.opened(0);
+    log_row(rt, alloc, row, &clock, &peer, &written);
+    written.replace(Vec::new(alloc))
+}
+
+// Serves a client that sends what a row has, and logs that.
+fn log_row(
+    rt: &impl Abort,
+    alloc: Global,
+    row: &Row,
+    clock: &Millis,
+    peer: &Peer,
+    written: &Cell<Vec<u8>>,
+) {
+    let log = Log::new(clock, alloc, Paper { alloc, written });
+    serve_row(rt, alloc, row, clock, peer, &log);
+    log.end();
+}
+
+// Serves a client that sends what a row has, with a log.
+fn serve_row<L: Write + Drop>(
+    rt: &impl Abort,
+    alloc: Global,
+    row: &Row,
+    clock: &Millis,
+    peer: &Peer,
+    log: &Log<'_, Millis, L>,
+) {
+    log.turn();
+    let mut stream = LoggedStream::new(Wire { peer }, log, port_seven());
+    let mut served = Served::new(rt, alloc, log);
+    log.take_stock(STOCK);
     for bytes in row.sends.iter() {
         clock.advance(1);
         peer.sends.set(*bytes);
-        takes_all(rt, &log, &mut served, &mut stream);
+        takes_all(rt, &mut served, &mut stream);
     }
     clock.advance(1);
     drop(stream);
-    served.end(&log);
-    log.end();
-    written.replace(Vec::new(alloc))
+    served.end();
 }
 
 /// The lines, each with the time before it.
@@ -491,7 +474,12 @@ fn timed(rt: &impl Abort, alloc: Global, lines: &str) -> Vec<u8> {
 fn lines_of_a_log(rt: HostRuntime) {
     let alloc = rt.alloc();
     for row in ROWS.iter() {
-        let wanted = timed(&rt, alloc, row.lines);
+        let lines = format!(in alloc;
+            "{} free_blocks=7 free_slots=511 incomplete=1",
+            row.lines.trim_end()
+        )
+        .expect(&rt, "memory for lines");
+        let wanted = timed(&rt, alloc, lines.as_str());
         for size in [1, 512] {
             let written = logged(&rt, alloc, row, size);
             assert_eq!(rt; written, wanted, "{} in pieces of {size}", row.lines);
@@ -525,47 +513,52 @@ fn lines_wait_a_second_and_counts_a_minute(rt: HostRuntime) {
         room: Cell::new(9999),
     };
     let clock = Millis { now: Cell::new(0) };
-    let log = Log::new(
-        &clock,
-        alloc,
-        Paper {
-            alloc,
-            written: &written,
-        },
-    );
-    let door = Door { peer: &peer };
-    let listener = Logged::new(&door, &log);
-    let (mut stream, _) = listener.accept().expect(&rt, "a stream");
+    waits_for_lines(&rt, alloc, &clock, &peer, &written);
+    let line =
+        "1 127.0.0.1:7 PATCH /files/1 offset=3 body=3 status=none in=135 out=0 ms=55999 now=5/6\n";
+    assert_eq!(rt; taken(alloc, &written), timed(&rt, alloc, line));
+}
+
+// Logs a head and a body that is cut, and checks when their lines come, all but the last one.
+fn waits_for_lines(
+    rt: &impl Abort,
+    alloc: Global,
+    clock: &Millis,
+    peer: &Peer,
+    written: &Cell<Vec<u8>>,
+) {
+    let log = Log::new(clock, alloc, Paper { alloc, written });
+    serve_later(rt, alloc, clock, peer, written, &log);
+    log.end();
+}
+
+// Serves a client that waited for its place, sends a head and a part of a body, and goes after a minute.
+fn serve_later<L: Write + Drop>(
+    rt: &impl Abort,
+    alloc: Global,
+    clock: &Millis,
+    peer: &Peer,
+    written: &Cell<Vec<u8>>,
+    log: &Log<'_, Millis, L>,
+) {
+    log.turn();
+    let mut stream = LoggedStream::new(Wire { peer }, log, port_seven());
     clock.now.set(5000);
-    let mut served = Served::new(&rt, alloc);
-    log.opened(0);
+    let mut served = Served::new(rt, alloc, log);
     assert!(rt; log.wants_stock());
-    log.take_stock(Stock {
-        free_blocks: 7,
-        free_slots: 511,
-        incomplete: 1,
-    });
+    served.take(rt, HEAD, &mut stream);
     assert!(rt; !log.wants_stock());
-    served.take(&rt, &log, HEAD, &mut stream);
-    served.take(&rt, &log, CUT, &mut stream);
+    served.take(rt, CUT, &mut stream);
     for (now, lines) in LATER.iter() {
         clock.now.set(*now);
         let mut buf = [0; 8];
         assert!(rt; stream.read(&mut buf).is_err());
-        assert_eq!(rt;
-            taken(alloc, &written),
-            timed(&rt, alloc, lines),
-            "at {now}"
-        );
+        assert_eq!(rt; taken(alloc, written), timed(rt, alloc, lines), "at {now}");
     }
     assert!(rt; log.wants_stock());
     assert!(rt; stream.shutdown(Shutdown::Write).is_ok());
     drop(stream);
-    served.end(&log);
-    log.end();
-    let line =
-        "1 127.0.0.1:7 PATCH /files/1 offset=3 body=3 status=none in=135 out=0 ms=55999 now=5/6\n";
-    assert_eq!(rt; taken(alloc, &written), timed(&rt, alloc, line));
+    served.end();
 }
 
 /// What was written since the last call.

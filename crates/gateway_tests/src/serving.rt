@@ -102,6 +102,7 @@ fn served<R: Abort + Clock, D: Disk + Drop>(
         door: _,
         times: _,
         ended: _,
+        drained: _,
     } = serve_on(&mut clock, alloc, &mut acceptor, gateway, connections, 1000);
     (gateway.into_disk(), served.is_ok())
 }

@@ -3,3 +3,4 @@ pub mod Serving
 pub mod Reports
 pub mod Watched
 pub mod Guarded
+pub mod Logged

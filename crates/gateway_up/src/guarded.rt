@@ -3,7 +3,7 @@ ghost use Rattle.std.specs.Prelude.{◌≡◌};
 ghost use Rattle.gateway_up.specs.Guarded.{acceptor_under};
 
 use crate::reports::report_gone;
-use gateway_serve::Acceptor;
+use gateway_serve::{Acceptor, Arrival};
 use std::os::unix::fs::MetadataExt;
 use std::time::{Clock, Duration};
 use std::{fs, io};
@@ -88,7 +88,7 @@ impl<A: Acceptor> Acceptor for Guarded<'_, A> {
 
     ghost answers = { λ guarded. A.answers (acceptor_under guarded) };
 
-    fn accept(&mut self) -> Option<A::Stream> {
+    fn accept(&mut self) -> Option<Arrival<A::Stream>> {
         self.sentry.look();
         self.acceptor.accept()
     }

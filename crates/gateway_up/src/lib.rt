@@ -2,11 +2,13 @@
 #![tactic(auto)]
 
 mod guarded;
+mod logged;
 mod reports;
 mod serving;
 mod watched;
 
 pub use guarded::{Guarded, Sentry};
+pub use logged::Logged;
 pub use reports::{
     report_few, report_few_sockets, report_gone, report_open, report_served, report_up,
 };

@@ -12,12 +12,13 @@ ghost use Rattle.gateway_up.specs.Addresses.{IsLocal};
 ghost use Rattle.gateway_up.specs.Serving.{IsUnopened, ReportsFaults};
 
 use crate::guarded::{Guarded, Sentry};
+use crate::logged::Logged;
 use crate::reports::{report_few, report_few_sockets, report_open, report_served, report_up};
 use crate::watched::Watched;
 use common::Stop;
 use gateway_engine::{Connections, Gateway};
 use gateway_indexes::{Survey, open_surveyed};
-use gateway_log::{Log, Logged};
+use gateway_log::Log;
 use gateway_orders::Service;
 use gateway_outside::{Failure, Fault, Task, files_to_open, open_spool, refused_spool};
 use gateway_serve::{Acceptor, Listening, MOST_DRAINING, Outcome, Showing, serve_on};
@@ -76,6 +77,7 @@ fn serve_at<'a>(
         door: _,
         times: _,
         ended: _,
+        drained: _,
         served,
     } = serve_on(&mut clock, alloc, &mut acceptor, gateway, most, turns);
     // If standard error can't be written, the count isn't reported.
@@ -332,8 +334,8 @@ fn serve_logged(
 {
     let log = Log::new(rt, alloc, rt.stderr());
     let watched = Watched::new(gateway, blocks, &log);
-    let logged = Logged::new(listener, &log);
-    let mut guarded = Guarded::new(Listening::new(&logged), sentry);
+    let logged = Logged::new(Listening::new(listener), &log);
+    let mut guarded = Guarded::new(logged, sentry);
     let (watched, served) = serve_on_and_on(rt, alloc, &mut guarded, watched);
     log.end();
     (watched.into_gateway(), served)
@@ -359,6 +361,7 @@ where
             door: _,
             times: _,
             ended: _,
+            drained: _,
             served,
         } = serve_on(&mut clock, alloc, acceptor, gateway, u64::MAX, u64::MAX);
         gateway = next;

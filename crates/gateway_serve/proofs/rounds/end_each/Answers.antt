@@ -3,7 +3,8 @@ use Rattle.tus_session.proofs.Counting.{uncounted}
 use Rattle.gateway_serve.specs.Reasons.{none}
 use Rattle.gateway_serve.proofs.All.{among_all, all_served, free_before}
 use Rattle.gateway_serve.proofs.Carries.{among_preserve}
-use Rattle.gateway_serve.proofs.Counted.{adds_on, count_with, free_adds, none_open}
+use Rattle.gateway_serve.proofs.Counted.{adds_on, count_with, free_adds, none_open, uncounts}
+use Rattle.gateway_serve.proofs.Drainings.{drains_then}
 use Rattle.gateway_serve.proofs.Lost.{ended_once, more_ended}
 use Rattle.gateway_serve.specs.declared.reasons.Reason.TheVariants.{Over}
 use Rattle.gateway_serve.proofs.rounds.end_each.Goals as goal
@@ -32,6 +33,7 @@ loop-conn-init g c = (
   omega arith,
   refl,
   refl,
+  record { all = λ all. all; count = refl },
 )
 
 pub loop-conn-preserved : goal.loop-conn-preserved
@@ -63,7 +65,14 @@ loop-conn-preserved g c =
           (free_adds c.end.new.self _ _ _ c.end.ensures.free c.end.ensures.kept),
       count_with c.loop-conn.conn (get_or c.loop-conn.places c.loop-conn.conn c.index-places-conn.result)
           c.loop-conn.ended.items c.end.new.ended.items c.end.ensures.ended ∙ c.loop-conn.invariant.7,
+      drains_then _ _ _ _ _ _ c.loop-conn.invariant.8 c.end.ensures.drains,
     )
+
+pub returns-in-Err-clause-drains : goal.returns-in-Err-clause-drains
+returns-in-Err-clause-drains g c = drains_then _ _ _ _ _ _ c.loop-conn.invariant.8 c.end.ensures.drains
+
+pub returns-clause-drains : goal.returns-clause-drains
+returns-clause-drains g c = c.loop-conn.invariant.8
 
 pub returns-in-Err-clause-kept : goal.returns-in-Err-clause-kept
 returns-in-Err-clause-kept g c =
@@ -121,3 +130,6 @@ returns-in-Err-clause-more g c = omega (
       (get_or c.loop-conn.places c.loop-conn.conn c.index-places-conn.result) c.loop-conn.ended.items
       c.end.new.ended.items c.end.ensures.ended,
 )
+
+pub returns-clause-counts : goal.returns-clause-counts
+returns-clause-counts g c = uncounts _ _ c.loop-conn.invariant.0

@@ -2,6 +2,7 @@ use Rattle.std.proofs.Common.{◌≡◌, ◌<◌, ◌≤◌, ℕ, List, get_or, 
 use Rattle.std.specs.declared.time.Duration.{Duration}
 use Rattle.common.specs.declared.stop.DiskFault.{DiskFault}
 use Rattle.gateway_serve.specs.Counted.{Adds, count_closed}
+use Rattle.gateway_serve.specs.Drains.{KeepsDrains}
 use Rattle.gateway_serve.specs.Joined.{StaysJoined}
 use Rattle.gateway_serve.specs.Streams.{AllPreserve}
 use Rattle.gateway_serve.specs.Reasons.{EndedOnce}
@@ -21,3 +22,4 @@ invariant-loop-conn g l =
     × (length l.fn.ended.items ≤ length l.ended.items)
     × Adds l.fn.places l.places l.fn.ended.items l.ended.items
     × (count_closed l.ended.items ≡ count_closed l.fn.ended.items)
+    × KeepsDrains l.fn.drains l.drains l.fn.ended.items l.ended.items

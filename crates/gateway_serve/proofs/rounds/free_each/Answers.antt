@@ -4,6 +4,7 @@ use Rattle.gateway_serve.proofs.All.{none_left, all_left, one_more_left, free_be
 use Rattle.gateway_serve.proofs.Counted.{adds_on, count_with, free_adds, none_open}
 use Rattle.gateway_serve.specs.Reasons.{none}
 use Rattle.gateway_serve.proofs.Carries.{among_preserve}
+use Rattle.gateway_serve.proofs.Drainings.{over_drains_none}
 use Rattle.gateway_serve.proofs.Lost.{ended_once}
 use Rattle.gateway_serve.proofs.rounds.free_each.Goals as goal
 
@@ -15,6 +16,7 @@ loop-conn-init g c = (
   refl,
   refl,
   λ k less. absurd (omega (arith, less)),
+  refl,
 )
 
 pub loop-conn-preserved : goal.loop-conn-preserved
@@ -38,7 +40,11 @@ loop-conn-preserved g c =
           c.loop-conn.ended.items c.free.new.ended.items c.free.ensures.ended ∙ c.loop-conn.invariant.4,
       free_before c.loop-conn.conn c.loop-conn.places c.free.new.self inside c.free.ensures.free
           c.loop-conn.invariant.5,
+      over_drains_none c.free.result c.free.ensures.drains ∙ c.loop-conn.invariant.6,
     )
+
+pub returns-clause-drains : goal.returns-clause-drains
+returns-clause-drains g c = c.loop-conn.invariant.6
 
 pub returns-clause-kept : goal.returns-clause-kept
 returns-clause-kept g c =

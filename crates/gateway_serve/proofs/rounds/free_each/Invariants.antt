@@ -4,6 +4,7 @@ use Rattle.tus_session.specs.History.{State, Marked}
 use Rattle.gateway_serve.specs.Counted.{Adds, count_closed}
 use Rattle.gateway_serve.specs.Joined.{AllFell}
 use Rattle.gateway_serve.specs.Streams.{AllPreserve}
+use Rattle.gateway_serve.specs.Partings.{count_draining}
 use Rattle.gateway_serve.specs.Reasons.{EndedOnce}
 use Rattle.gateway_serve.specs.declared.places.Place.TheVariants.{Free}
 use Rattle.gateway_serve.proofs.All.{HalfLeft}
@@ -20,3 +21,4 @@ invariant-loop-conn g l =
     × Adds l.fn.places l.places l.fn.ended.items l.ended.items
     × (count_closed l.ended.items ≡ count_closed l.fn.ended.items)
     × ((k : ℕ) → k < l.conn → get_or l.places k Free ≡ Free)
+    × (count_draining l.ended.items ≡ count_draining l.fn.ended.items)

@@ -5,7 +5,8 @@ use Rattle.gateway_serve.specs.declared.places.Place.TheVariants.{Free}
 use Rattle.gateway_serve.specs.declared.places.Turned.{Turned}
 use Rattle.gateway_serve.proofs.All.{among_all}
 use Rattle.gateway_serve.proofs.Carries.{among_preserve}
-use Rattle.gateway_serve.proofs.Counted.{adds_on, closes, still_most}
+use Rattle.gateway_serve.proofs.Counted.{adds_on, closes, still_most, uncounts}
+use Rattle.gateway_serve.proofs.Drainings.{drains_then}
 use Rattle.gateway_serve.specs.Acceptors.{waits_in}
 use Rattle.gateway_serve.proofs.Times.{still_turn, turn_among}
 use Rattle.gateway_serve.proofs.rounds.turn_each.Goals as goal
@@ -85,7 +86,11 @@ loop-conn-preserved g c = (
       (λ e. c.in-Ok.ensures.closed (ap Ok e)) c.in-Ok.ensures.open
       (λ e less. c.add.ensures.closed e (rw c.loop-conn.invariant.5 less)) c.add.ensures.open,
   λ wanted. c.loop-conn.invariant.8 (c.add.ensures.wanted.0 wanted).0,
+  drains_then _ _ _ _ _ _ c.loop-conn.invariant.9 c.turn.ensures.drains,
 )
+
+pub returns-in-Err-clause-drains : goal.returns-in-Err-clause-drains
+returns-in-Err-clause-drains g c = drains_then _ _ _ _ _ _ c.loop-conn.invariant.9 c.turn.ensures.drains
 
 pub returns-then-round-clause-kept : goal.returns-then-round-clause-kept
 returns-then-round-clause-kept g c =
@@ -104,3 +109,21 @@ returns-in-Err-clause-stops g c = λ same most.
     c.loop-conn.round.closed (length c.loop-conn.ended.items) (length c.turn.new.ended.items)
     c.args.round.now.connections (λ e. c.if-round.false (e ∙ sym c.loop-conn.invariant.5)) now.0 now.1
     c.turn.ensures.kept
+
+pub returns-then-round-clause-counts : goal.returns-then-round-clause-counts
+returns-then-round-clause-counts g c = uncounts _ _ c.loop-conn.invariant.0
+
+pub returns-clause-counts : goal.returns-clause-counts
+returns-clause-counts g c = uncounts _ _ c.loop-conn.invariant.0
+
+pub returns-then-round-clause-closed : goal.returns-then-round-clause-closed
+returns-then-round-clause-closed g c = λ same most. (c.loop-conn.invariant.7 same most).0
+
+pub returns-clause-closed : goal.returns-clause-closed
+returns-clause-closed g c = λ same most. (c.loop-conn.invariant.7 same most).0
+
+pub returns-then-round-clause-stops : goal.returns-then-round-clause-stops
+returns-then-round-clause-stops g c = λ same most. (c.loop-conn.invariant.7 same most).1
+
+pub returns-clause-stops : goal.returns-clause-stops
+returns-clause-stops g c = λ same most. (c.loop-conn.invariant.7 same most).1

@@ -2,6 +2,7 @@ use Rattle.std.proofs.Common.{◌≡◌, ◌≤◌, ℕ, true, List, length, Res
 use Rattle.std.specs.declared.time.Duration.{Duration}
 use Rattle.common.specs.declared.stop.DiskFault.{DiskFault}
 use Rattle.gateway_serve.specs.Counted.{Adds}
+use Rattle.gateway_serve.specs.Drains.{KeepsDrains}
 use Rattle.gateway_serve.specs.Acceptors.{waits_in}
 use Rattle.gateway_serve.specs.declared.doors.AtDoor.{AtDoor}
 use Rattle.gateway_serve.specs.Gone.{IsAmong, IsTurn}
@@ -28,3 +29,4 @@ invariant-loop-conn g l =
     × (l.fn.round.closed ≡ length l.fn.ended.items → length l.fn.ended.items ≤ l.fn.round.connections
     → (l.round.closed ≡ length l.ended.items) × (length l.ended.items ≤ l.fn.round.connections))
     × (l.round.wanted ≡ true → l.fn.round.wanted ≡ true)
+    × KeepsDrains l.fn.drains l.drains l.fn.ended.items l.ended.items

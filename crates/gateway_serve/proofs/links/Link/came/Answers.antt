@@ -2,7 +2,7 @@ use Rattle.std.proofs.Common.{ℕ, List, Result, Ok, Err, refl}
 use Rattle.common.specs.declared.stop.DiskFault.{DiskFault}
 use Rattle.tus_session.specs.History.{Came, Marked}
 use Rattle.gateway_serve.specs.Joined.{Alone, Joins, joint_of}
-use Rattle.gateway_serve.proofs.After.{surely, served}
+use Rattle.gateway_serve.proofs.After.{represents_still, surely, served}
 use Rattle.gateway_serve.proofs.Talks.{alone_step}
 use Rattle.gateway_serve.proofs.Joints.{came_link, came_down}
 use Rattle.gateway_serve.proofs.Times.{request_timed}
@@ -19,6 +19,7 @@ returns-in-Ok-clause-serves g c = λ sure before st past ended went joins.
     × Joins sure (joint_of (record c.args.self.now {
       input = c.take.new.self;
       output = c.came-answer.new.self;
+      request = c.request_after-self.result;
       stage = c.in-Ok.next.stage;
     })) ended st now n)
     (λ now. Unit {0})
@@ -26,10 +27,15 @@ returns-in-Ok-clause-serves g c = λ sure before st past ended went joins.
     (λ known. c.came-answer.ensures.crash _ (surely went known)) c.came-answer.ensures.falls
     (λ ok. (
       alone_step sure st past (Came n piece) _ refl,
-      came_link sure ended st past n c.came-answer.result gives.0
+      came_link sure ended st past n c.args.self.now.request c.args.now c.came-answer.result gives.0
           (joint_of c.args.self.now) piece c.take.new.self c.came-answer.new.self c.in-Ok.next.stage c.in-Ok.next.taken
-          ok c.left.ensures
-          gives.1.answer gives.2 c.in-Ok.ensures.stage c.in-Ok.ensures.taken c.take.ensures joins,
+          c.at.result c.request_after-self.result ok c.left.ensures
+          gives.1.answer gives.2 c.in-Ok.ensures.stage c.in-Ok.ensures.taken c.take.ensures
+          (c.at.ensures sure _ (represents_still g.C.Connections sure before c.args.gateway.now
+          c.came-answer.new.gateway st past (Came n piece) went
+          (λ known ms among. g.met.C.Connections.durable c.args.gateway.now _ ms (surely went known) among)
+          c.came-answer.result ok gives.1.now_represents))
+          c.request_after-self.ensures joins,
     )) (λ fails. tt)
 
 pub returns-in-Err-clause-serves : goal.returns-in-Err-clause-serves

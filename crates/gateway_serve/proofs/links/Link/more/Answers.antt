@@ -3,43 +3,59 @@ use Rattle.common.specs.declared.stop.DiskFault.{DiskFault}
 use Rattle.tus_session.specs.History.{More, Marked}
 use Rattle.tus_session.proofs.Limiting.{quiet_limits}
 use Rattle.gateway_serve.specs.Joined.{Alone, Joins, joint_of}
-use Rattle.gateway_serve.proofs.After.{surely, served}
+use Rattle.gateway_serve.proofs.After.{represents_still, surely, served}
 use Rattle.gateway_serve.proofs.Talks.{alone_step}
 use Rattle.gateway_serve.proofs.Joints.{more_link, more_fell}
+use Rattle.gateway_serve.proofs.Times.{request_timed}
 use Rattle.gateway_serve.proofs.links.Link.more.Goals as goal
 
 pub returns-in-Ok-clause-serves : goal.returns-in-Ok-clause-serves
 returns-in-Ok-clause-serves g c = λ sure before st past ended went joins.
     let n = c.args.conn in
-    let gives = c.more.ensures.gives sure _ went.represents in
-    served g.C.Connections sure before c.args.gateway.now c.more.new.gateway st past (More n) went
+    let gives = c.more-answer.ensures.gives sure _ went.represents in
+    served g.C.Connections sure before c.args.gateway.now c.more-answer.new.gateway st past (More n) went
     (λ known ms among. g.met.C.Connections.durable c.args.gateway.now _ ms (surely went known) among)
     (λ (now : List Marked). Alone sure st n past now
-    × Joins sure (joint_of (record c.args.self.now { output = c.more.new.self; stage = c.in-Ok.next.stage })) ended st
-    now n) (λ now. Unit {0})
-    c.more.result (Ok c.in-Ok.next) c.in-Ok.ensures.fault gives.1.now_represents
-    (λ known. quiet_limits _ _ c.more.ensures.crash) c.more.ensures.falls
+    × Joins sure (joint_of (record c.args.self.now {
+      output = c.more-answer.new.self;
+      request = c.request_after-self.result;
+      stage = c.in-Ok.next.stage;
+    })) ended st now n) (λ now. Unit {0})
+    c.more-answer.result (Ok c.in-Ok.next) c.in-Ok.ensures.fault gives.1.now_represents
+    (λ known. quiet_limits _ _ c.more-answer.ensures.crash) c.more-answer.ensures.falls
     (λ ok. (
       alone_step sure st past (More n) _ refl,
-      more_link sure ended st past n c.more.result gives.0
-          (joint_of c.args.self.now) c.more.new.self c.in-Ok.next.stage ok
-          gives.1.answer gives.2 c.in-Ok.ensures.stage joins,
+      more_link sure ended st past n c.args.self.now.request c.args.now c.more-answer.result gives.0
+          (joint_of c.args.self.now) c.more-answer.new.self c.in-Ok.next.stage c.in-Ok.next.taken c.at-at.result
+          c.request_after-self.result ok gives.1.answer gives.2 c.in-Ok.ensures.stage
+          (c.at-at.ensures sure _ (represents_still g.C.Connections sure before c.args.gateway.now
+          c.more-answer.new.gateway st past (More n) went
+          (λ known ms among. g.met.C.Connections.durable c.args.gateway.now _ ms (surely went known) among)
+          c.more-answer.result ok gives.1.now_represents))
+          c.request_after-self.ensures joins,
     )) (λ fails. tt)
+
+pub returns-in-Ok-clause-times : goal.returns-in-Ok-clause-times
+returns-in-Ok-clause-times g c = λ times among timed. (
+  timed.0,
+  request_timed c.args.now times among c.args.self.now.request c.request_after-self.result _ _ c.request_after-self.ensures
+      timed.1,
+)
 
 pub returns-in-Err-clause-serves : goal.returns-in-Err-clause-serves
 returns-in-Err-clause-serves g c = λ sure before st past ended went joins.
     let n = c.args.conn in
     let reported : Result ℕ DiskFault = Err c.in-Err.fault in
-    let gives = c.more.ensures.gives sure _ went.represents in
-    served g.C.Connections sure before c.args.gateway.now c.more.new.gateway st past (More n) went
+    let gives = c.more-answer.ensures.gives sure _ went.represents in
+    served g.C.Connections sure before c.args.gateway.now c.more-answer.new.gateway st past (More n) went
     (λ known ms among. g.met.C.Connections.durable c.args.gateway.now _ ms (surely went known) among)
     (λ now. Unit {0}) (λ (now : List Marked). Alone sure st n past now
-    × Joins sure (joint_of (record c.args.self.now { output = c.more.new.self })) ended st now n)
-    c.more.result reported c.in-Err.ensures.fault gives.1.now_represents
-    (λ known. quiet_limits _ _ c.more.ensures.crash) c.more.ensures.falls
+    × Joins sure (joint_of (record c.args.self.now { output = c.more-answer.new.self })) ended st now n)
+    c.more-answer.result reported c.in-Err.ensures.fault gives.1.now_represents
+    (λ known. quiet_limits _ _ c.more-answer.ensures.crash) c.more-answer.ensures.falls
     (λ ok. tt)
     (λ fails. (
       alone_step sure st past (More n) _ refl,
-      more_fell sure ended st past n c.more.result gives.0
-          (joint_of c.args.self.now) c.more.new.self fails gives.1.answer gives.2 joins,
+      more_fell sure ended st past n c.more-answer.result gives.0
+          (joint_of c.args.self.now) c.more-answer.new.self fails gives.1.answer gives.2 joins,
     ))

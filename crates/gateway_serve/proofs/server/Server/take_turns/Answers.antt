@@ -4,6 +4,7 @@ use Rattle.gateway_serve.specs.Joined.{places_of, ended_of}
 use Rattle.tus_session.proofs.Counting.{uncounted}
 use Rattle.gateway_serve.proofs.NextTurn.{counts_on, next_turn, taken_so}
 use Rattle.gateway_serve.proofs.Counted.{count_most, counted_by, none_counted}
+use Rattle.gateway_serve.proofs.Drainings.{drains_kept}
 use Rattle.gateway_serve.proofs.Lost.{all_closed, none_more}
 use Rattle.gateway_serve.specs.Rests.{read_or}
 use Rattle.gateway_serve.specs.declared.idle.Watch.{Watch}
@@ -45,6 +46,7 @@ loop-left-preserved g c = (
     c.loop-left-test.true,
     c.loop-left.invariant.4,
   ),
+  c.in_ok-turn.ensures.drains c.loop-left.invariant.11,
 )
 
 pub returns-clause-counted : goal.returns-clause-counted
@@ -158,6 +160,7 @@ loop-left-init g c =
       none_counted _ (ended_of c.args.self.now) (places_of c.args.self.now) c.requires.4 c.requires.2 c.requires.3,
       λ before shows. shows,
       omega (arith, ap length c.requires.5),
+      c.requires.6,
     )
 
 pub returns-clause-times : goal.returns-clause-times
@@ -174,3 +177,9 @@ returns-in_err-turn-clause-times g c = λ before shows.
     (times_of c.turn.new.self) (c.loop-left.invariant.9 before shows) c.turn.ensures.times
     (done_of (door_of c.turn.new.self))
     (omega (arith, ap length c.turn.ensures.times, c.loop-left.invariant.10, lets.taken))
+
+pub returns-clause-drains : goal.returns-clause-drains
+returns-clause-drains g c = drains_kept _ _ _ _ c.end_each.ensures.drains c.loop-left.invariant.11
+
+pub returns-in_err-turn-clause-drains : goal.returns-in_err-turn-clause-drains
+returns-in_err-turn-clause-drains g c = c.turn.ensures.drains c.loop-left.invariant.11

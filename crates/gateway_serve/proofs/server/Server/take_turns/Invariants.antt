@@ -3,7 +3,7 @@ use Rattle.std.specs.declared.time.Duration.{Duration}
 use Rattle.common.specs.declared.stop.DiskFault.{DiskFault}
 use Rattle.gateway_serve.specs.Acceptors.{LetsInBy}
 use Rattle.gateway_serve.specs.Joined.{StaysJoined, places_of, ended_of}
-use Rattle.gateway_serve.specs.Turns.{HasStreams, IsCounted, IsReasoned, ShowsBy}
+use Rattle.gateway_serve.specs.Turns.{HasDrains, HasStreams, IsCounted, IsReasoned, ShowsBy}
 use Rattle.gateway_serve.specs.Turns.{closed_of, door_of, refused_by, times_of}
 use Rattle.gateway_serve.proofs.server.Server.take_turns.Given as goal
 
@@ -24,6 +24,7 @@ invariant-loop-left g l =
     × ((before : List (Option Duration)) → ShowsBy before (g.T.Timer.shown l.fn.clock) l.fn.self
     → ShowsBy before (g.T.Timer.shown l.clock) l.self)
     × (length (times_of l.self) ≡ l.fn.turns - l.left)
+    × HasDrains l.self
 
 abbrev pub decreases-loop-left : goal.decreases-loop-left
 decreases-loop-left g l = l.left

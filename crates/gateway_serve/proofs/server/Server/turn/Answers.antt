@@ -8,6 +8,7 @@ use Rattle.gateway_serve.specs.Acceptors.{done_of, waits_in}
 use Rattle.gateway_serve.specs.Turns.{door_of, refused_by, times_of}
 use Rattle.gateway_serve.proofs.Lost.{all_in_time}
 use Rattle.gateway_serve.proofs.Counted.{counted_by}
+use Rattle.gateway_serve.proofs.Drainings.{drains_kept}
 use Rattle.gateway_serve.proofs.Times.{streams_later}
 use Rattle.gateway_serve.proofs.server.Server.turn.Goals as goal
 
@@ -98,3 +99,15 @@ returns-in_err-seat-clause-reasons g c = λ has all.
     let longer = all_in_time c.args.self.now.watch.now _ (times_of c.args.self.now)
     (done_of (door_of c.args.self.now)) (done_of (door_of c.seat.new.self)) turn (ended_of c.args.self.now) all in
     rw (c.in_err-seat.ensures.times ∙ began, c.in_err-seat.ensures.ended) longer
+
+pub returns-clause-drains : goal.returns-clause-drains
+returns-clause-drains g c = λ has.
+    let kept = drains_kept _ _ _ _ c.turn_each-taken.ensures.drains
+    (rw (c.in_ok-seat.ensures.drains, c.in_ok-seat.ensures.ended)
+    (c.make_room.ensures.all has.0, c.make_room.ensures.same ∙ has.1)) in
+    (c.turn-flows.ensures.all kept.0, c.turn-flows.ensures.same ∙ kept.1)
+
+pub returns-in_err-seat-clause-drains : goal.returns-in_err-seat-clause-drains
+returns-in_err-seat-clause-drains g c = λ has.
+    rw (c.in_err-seat.ensures.drains, c.in_err-seat.ensures.ended)
+    (c.make_room.ensures.all has.0, c.make_room.ensures.same ∙ has.1)
