@@ -5,11 +5,8 @@ use crate::spools::ends;
 use crate::steps::Step::{self, Added, Deferred, Made, Open};
 use crate::talks::{Talk, fresh};
 use common::Stop;
-use gateway_export::{
-    ExportTally, FileFolder, Folder, FolderError, HeldText, MemoryPlace, MemoryTexts, export_in,
-    export_on,
-};
-use gateway_outside::{Fault, MemoryFile, Noted};
+use gateway_export::{ExportTally, FileFolder, Folder, FolderError, export_on};
+use gateway_outside::{Fault, Noted};
 use spool_disk::MemoryDisk;
 use std::alloc::Global;
 use std::fs;
@@ -261,88 +258,6 @@ fn refused_name_gives_way_to_the_number(rt: HostRuntime) {
         assert_eq!(rt; shelf.text("4.txt"), Some(b"ef".as_slice()));
         disk = after;
     }
-}
-
-/// An order to export, over a spool and a folder in memory that takes names of at most 12 bytes.
-struct Order {
-    spool: &'static str,
-    folder: &'static str,
-    all: bool,
-    outcome: Result<(), Fault>,
-    lines: &'static [u8],
-}
-
-static ORDERS: [Order; 5] = [
-    Order {
-        spool: "spool",
-        folder: "elsewhere",
-        all: false,
-        outcome: Err(Fault::Io),
-        lines: b"",
-    },
-    Order {
-        spool: "elsewhere",
-        folder: "texts",
-        all: false,
-        outcome: Err(Fault::CannotOpen),
-        lines: b"",
-    },
-    Order {
-        spool: "spool",
-        folder: "texts",
-        all: false,
-        outcome: Err(Fault::FileDiffers),
-        lines: b"incomplete 1\nexported 2 2-letter.txt\nexported 3 3.txt\ndiffers 4 4-letter.txt\nincomplete 5\n\
-        exported 2 of 5 uploads, 0 there; a file that was there isn't the text of its upload\n",
-    },
-    Order {
-        spool: "spool",
-        folder: "texts",
-        all: true,
-        outcome: Err(Fault::FileDiffers),
-        lines: b"exported 1 1.txt\nthere 2 2-letter.txt\nthere 3 3.txt\ndiffers 4 4-letter.txt\n\
-        exported 5 5-later\nexported 2 of 5 uploads, 2 there; a file that was there isn't the text of its upload\n",
-    },
-    Order {
-        spool: "spool",
-        folder: "texts",
-        all: false,
-        outcome: Err(Fault::FileDiffers),
-        lines: b"incomplete 1\nthere 2 2-letter.txt\nthere 3 3.txt\ndiffers 4 4-letter.txt\nincomplete 5\n\
-        exported 0 of 5 uploads, 2 there; a file that was there isn't the text of its upload\n",
-    },
-];
-
-#[test]
-fn command_exports_into_a_folder_in_memory(rt: HostRuntime) {
-    let alloc = rt.alloc();
-    let spool = format!(in alloc; "spool").expect(&rt, "a path");
-    let mut files = MemoryFile::new(alloc, spool, spool_with_five(&rt, alloc));
-    let name = format!(in alloc; "4-letter.txt").expect(&rt, "a name");
-    let content = b"mine".to_vec(alloc).expect(&rt, "a text");
-    let mut held = Vec::new(alloc);
-    let pushed = held.push(HeldText { name, content });
-    assert!(rt; pushed.is_ok());
-    let path = format!(in alloc; "texts").expect(&rt, "a path");
-    let mut places = MemoryPlace::new(path, MemoryTexts::new(alloc, 12, held));
-    for order in ORDERS.iter() {
-        let mut output = Noted::new(Vec::new(alloc));
-        let exported = export_in(
-            alloc,
-            &mut files,
-            &mut places,
-            &mut output,
-            order.spool,
-            order.folder,
-            order.all,
-        );
-        assert_eq!(rt; exported.map_err(|failure| failure.fault()), order.outcome);
-        assert_eq!(rt; output.into_stream().as_slice(), order.lines);
-    }
-    let folder = places.into_folder().expect(&rt, "a folder");
-    assert_eq!(rt; folder.text("2-letter.txt"), Some(b"ab".as_slice()));
-    assert_eq!(rt; folder.text("4-letter.txt"), Some(b"mine".as_slice()));
-    assert_eq!(rt; folder.text("5-later"), Some(b"".as_slice()));
 }
 
 const UNSYNCED: &str = "gateway_unsynced_test";

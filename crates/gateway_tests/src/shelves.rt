@@ -54,7 +54,7 @@ impl Shelf {
             .as_bytes()
             .to_vec(alloc)
             .expect(rt, "memory for a text");
-        shelf.add(bytes, name).expect(rt, "memory for a file");
+        add(alloc, &mut shelf.files, bytes, name).expect(rt, "memory for a file");
         shelf
     }
 
@@ -64,15 +64,6 @@ impl Shelf {
             .iter()
             .find(|file| file.0.as_str() == name)
             .map(|file| file.1.as_slice())
-    }
-
-    // Adds a file.
-    fn add(&mut self, text: Vec<u8>, name: &str) -> Result<(), AllocError> {
-        let name = format!(in self.alloc; "{name}")?;
-        match self.files.push((name, text)) {
-            Ok(()) => Ok(()),
-            Err(full) => Err(AllocError::from(full)),
-        }
     }
 
     // Counts a call that looks for a file or writes one, where it was refused.
@@ -105,6 +96,20 @@ impl Shelf {
             Some((failing, error)) if failing == call => Some(error),
             _ => None,
         }
+    }
+}
+
+// Adds a file.
+fn add(
+    alloc: Global,
+    files: &mut Vec<(String, Vec<u8>)>,
+    text: Vec<u8>,
+    name: &str,
+) -> Result<(), AllocError> {
+    let name = format!(in alloc; "{name}")?;
+    match files.push((name, text)) {
+        Ok(()) => Ok(()),
+        Err(full) => Err(AllocError::from(full)),
     }
 }
 
@@ -173,7 +178,7 @@ impl Folder for Shelf {
             }
             return Ok(false);
         }
-        match self.add(file, name) {
+        match add(self.alloc, &mut self.files, file, name) {
             Ok(()) => Ok(true),
             Err(_) => Err(FolderError::NoMemory),
         }
