@@ -5,8 +5,11 @@ use crate::spools::ends;
 use crate::steps::Step::{self, Added, Deferred, Made, Open};
 use crate::talks::{Talk, fresh};
 use common::Stop;
-use gateway_export::{ExportTally, FileFolder, Folder, FolderError, export_on};
-use gateway_outside::{Fault, Noted};
+use gateway_export::{
+    ExportTally, FileFolder, Folder, FolderError, HeldText, MemoryPlace, MemoryTexts, export_in,
+    export_on,
+};
+use gateway_outside::{Fault, MemoryFile, Noted};
 use spool_disk::MemoryDisk;
 use std::alloc::Global;
 use std::fs;
@@ -258,6 +261,109 @@ fn refused_name_gives_way_to_the_number(rt: HostRuntime) {
         assert_eq!(rt; shelf.text("4.txt"), Some(b"ef".as_slice()));
         disk = after;
     }
+}
+
+/// An order to export, over a spool and a folder in memory that takes names of at most 12 bytes.
+struct Order {
+    spool: &'static str,
+    folder: &'static str,
+    all: bool,
+    /// The status that it ends with.
+    status: u8,
+    lines: &'static [u8],
+}
+
+static ORDERS: [Order; 5] = [
+    Order {
+        spool: "spool",
+        folder: "elsewhere",
+        all: false,
+        status: 2,
+        lines: b"",
+    },
+    Order {
+        spool: "elsewhere",
+        folder: "texts",
+        all: false,
+        status: 2,
+        lines: b"",
+    },
+    Order {
+        spool: "spool",
+        folder: "texts",
+        all: false,
+        status: 4,
+        lines: b"incomplete 1\nexported 2 2-letter.txt\nexported 3 3.txt\ndiffers 4 4-letter.txt\nincomplete 5\n\
+        exported 2 of 5 uploads, 0 there; a file that was there isn't the text of its upload\n",
+    },
+    Order {
+        spool: "spool",
+        folder: "texts",
+        all: true,
+        status: 4,
+        lines: b"exported 1 1.txt\nthere 2 2-letter.txt\nthere 3 3.txt\ndiffers 4 4-letter.txt\n\
+        exported 5 5-later\nexported 2 of 5 uploads, 2 there; a file that was there isn't the text of its upload\n",
+    },
+    Order {
+        spool: "spool",
+        folder: "texts",
+        all: false,
+        status: 4,
+        lines: b"incomplete 1\nthere 2 2-letter.txt\nthere 3 3.txt\ndiffers 4 4-letter.txt\nincomplete 5\n\
+        exported 0 of 5 uploads, 2 there; a file that was there isn't the text of its upload\n",
+    },
+];
+
+/// Exports as an order asks: the status that it ends with, and what is printed.
+fn export_as(
+    alloc: Global,
+    files: &mut MemoryFile,
+    places: &mut MemoryPlace,
+    order: &Order,
+) -> (u8, Vec<u8>) {
+    let mut output = Noted::new(Vec::new(alloc));
+    let (spool, folder) = (order.spool, order.folder);
+    let status = match export_in(alloc, files, places, &mut output, spool, folder, order.all) {
+        Ok(()) => 0,
+        Err(failure) => failure.status(),
+    };
+    (status, output.into_stream())
+}
+
+/// Whether these are the bytes.
+fn is_all(bytes: &Vec<u8>, wanted: &[u8]) -> bool {
+    bytes.as_slice() == wanted
+}
+
+/// Whether the folder has this text under this name.
+fn has(folder: &MemoryTexts, name: &str, text: &[u8]) -> bool {
+    match folder.text(name) {
+        Some(found) => found == text,
+        None => false,
+    }
+}
+
+#[test]
+fn command_exports_into_a_folder_in_memory(rt: HostRuntime) {
+    let alloc = rt.alloc();
+    let spool = format!(in alloc; "spool").expect(&rt, "a path");
+    let mut files = MemoryFile::new(alloc, spool, spool_with_five(&rt, alloc));
+    let name = format!(in alloc; "4-letter.txt").expect(&rt, "a name");
+    let content = b"mine".to_vec(alloc).expect(&rt, "a text");
+    let mut held = Vec::new(alloc);
+    let pushed = held.push(HeldText { name, content });
+    assert!(rt; pushed.is_ok());
+    let path = format!(in alloc; "texts").expect(&rt, "a path");
+    let mut places = MemoryPlace::new(path, MemoryTexts::new(alloc, 12, held));
+    for order in ORDERS.iter() {
+        let (status, printed) = export_as(alloc, &mut files, &mut places, order);
+        assert_eq!(rt; status, order.status);
+        assert!(rt; is_all(&printed, order.lines));
+    }
+    let folder = places.into_folder().expect(&rt, "a folder");
+    assert!(rt; has(&folder, "2-letter.txt", b"ab"));
+    assert!(rt; has(&folder, "4-letter.txt", b"mine"));
+    assert!(rt; has(&folder, "5-later", b""));
 }
 
 const UNSYNCED: &str = "gateway_unsynced_test";

@@ -1,7 +1,8 @@
 //! Which labels a text may have, without index files: by UTF-8 and UTF-16 alone.
 
 use enc_index::IndexSet;
-use gateway_labels::{FIRST, json_of, labels_on, lines_of};
+use gateway_indexes::MemoryFolder;
+use gateway_labels::{FIRST, WantedLabels, json_of, labels_in, labels_on, lines_of};
 use gateway_outside::Noted;
 use std::process::Abort;
 
@@ -51,4 +52,30 @@ fn labels_are_printed_in_order(rt: HostRuntime) {
     let printed = json_of(alloc, &set, &labels).expect(&rt, "memory for lines");
     let first = "{\"labels\":[\"UTF-8\"],\"lost\":0,\"strangeness\":0,\"line\":\"a\u{E9}\"}\n";
     assert!(&rt; printed.starts_with(first));
+}
+
+#[test]
+fn command_prints_the_labels_of_its_input(rt: HostRuntime) {
+    let alloc = rt.alloc();
+    let path = format!(in alloc; "indexes").expect(&rt, "a path");
+    let mut folders = MemoryFolder::new(path, Vec::new(alloc));
+    let wanted = WantedLabels {
+        all: false,
+        json: false,
+    };
+    let (bytes, _, lines) = TEXTS[1];
+    let mut input = Noted::new(bytes);
+    let mut output = Noted::new(Vec::new(alloc));
+    let mut errors = Noted::new(Vec::new(alloc));
+    let ended = labels_in(
+        alloc,
+        &mut folders,
+        &mut input,
+        &mut output,
+        &mut errors,
+        wanted,
+        "indexes",
+    );
+    assert!(&rt; ended.is_ok());
+    assert_eq!(&rt; output.into_stream().as_slice(), lines.as_bytes());
 }
