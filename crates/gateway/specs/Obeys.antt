@@ -1,11 +1,16 @@
 -- WHAT EACH ORDER DOES to the files and streams outside, by what they hold before and after.
-use Rattle.std.specs.Prelude.{◌≡◌, ◌+◌, ℕ, List, Option, Result, IsErrAnd, ⊤}
+use Rattle.std.specs.Prelude.{◌≡◌, ◌+◌, ℕ, List, Option, Result, IsErrAnd}
+use Rattle.std.specs.declared.time.Duration.{Duration}
 use Rattle.common.specs.Counts.{Counts}
 use Rattle.spool_disk.specs.declared.disk.Disk as disks
+use Rattle.spool_image.specs.declared.spool.Spool.{Spool}
+use Rattle.tus_session.specs.declared.connections.Connections as connections
+use Rattle.gateway_engine.specs.Ran.{CountsEither}
+use Rattle.gateway_engine.specs.declared.gateway.Gateway.{Gateway}
 use Rattle.gateway_orders.specs.declared.orders.Order.{Order}
 use Rattle.gateway_orders.specs.declared.orders.Order.TheVariants as orders
 use Rattle.gateway_orders.specs.declared.orders.Order.TheVariants.{Delete, DeleteIncomplete, Export, Format}
-use Rattle.gateway_orders.specs.declared.orders.Order.TheVariants.{Labels, Raise, Script, Text, Upgrade}
+use Rattle.gateway_orders.specs.declared.orders.Order.TheVariants.{Labels, Raise, Script, Serve, Text, Up, Upgrade}
 use Rattle.gateway_outside.specs.Failures.{fault_in}
 use Rattle.gateway_outside.specs.SpoolFiles.{Disks}
 use Rattle.gateway_outside.specs.declared.failures.Failure.{Failure}
@@ -21,21 +26,24 @@ use Rattle.gateway_delete.specs.Deleted.{DeletesAt, FindsAt}
 use Rattle.gateway_export.specs.Command.{ExportsAt}
 use Rattle.gateway_export.specs.declared.folders.Folder as folders
 use Rattle.gateway_export.specs.declared.places.FolderSearch.{FolderSearch}
-use Rattle.gateway_run.specs.Scripts.{ScriptsAt}
+use Rattle.gateway_run.specs.Scripts.{IsIo, ScriptsAt}
 use Rattle.gateway_text.specs.Texts.{TextsAt}
 use Rattle.gateway_labels.specs.Labelled.{LabelsAt}
+use Rattle.gateway_up.specs.Serving.{ServesAt, ServesLocal}
+use Rattle.gateway_up.specs.declared.listeners.ListenCall.{ListenCall}
 
 -- `Io` is answered exactly where the output refused
 abbrev pub IoByOutput : {T : Type 0} → ℕ → ℕ → Result T Failure → Type 0
 IoByOutput refused refused' result = Counts (IsErrAnd result (λ failure. fault_in failure ≡ Io)) refused refused'
 
--- of the other orders nothing is said here yet
-module _ {D F B : Type 0} (disk : disks.Ghosts D) (folder : folders.Ghosts F B) (holds holds' : Disks D → Type 0)
-    (shut shut' : List Unopened) (have : Folders → Type 0) (asked asked' : List FolderCall)
-    (stand stand' : Disks F → Type 0) (searches searches' : List FolderSearch) (left left' : Option (List ℕ))
-    (unread unread' : ℕ) (before after : Option (List ℕ)) (refused refused' : ℕ)
-    (script written written' : Option (List ℕ)) (Unasked Unexported Untouched : Type 0)
-    (result : Result (Unit {0}) Failure) where
+module _ {D F B M G S : Type 0} (disk : disks.Ghosts D) (folder : folders.Ghosts F B) (memory : disks.Ghosts M)
+    (c : connections.Ghosts (Gateway (Spool D disk) G)) (remaining contents : S → Option (List ℕ))
+    (holds holds' : Disks D → Type 0) (shut shut' : List Unopened) (have : Folders → Type 0)
+    (asked asked' : List FolderCall) (stand stand' : Disks F → Type 0) (searches searches' : List FolderSearch)
+    (listens listens' : List ListenCall) (shown shown' : List (Option Duration)) (left left' : Option (List ℕ))
+    (unread unread' : ℕ) (before after : Option (List ℕ)) (refused refused' : ℕ) (script : Option (List ℕ))
+    (unscripted unscripted' : ℕ) (written written' : Option (List ℕ)) (unwritten unwritten' : ℕ)
+    (Unasked Unexported Untouched Unserved : Type 0) (result : Result (Unit {0}) Failure) where
   abbrev pub Obeys : Order → Type 0
   Obeys (Format spool blocks indexes overwrite standard first) =
       FormatsAt disk holds holds' have asked asked' spool.now before after result blocks overwrite standard first
@@ -60,8 +68,14 @@ module _ {D F B : Type 0} (disk : disks.Ghosts D) (folder : folders.Ghosts F B) 
       LabelsAt have asked asked' indexes.now left left' before after (unread + refused) (unread' + refused') Untouched
       result all json
   Obeys (Script spool) =
-      ScriptsAt disk holds holds' shut shut' spool.now result script written written' Untouched Unasked
+      ScriptsAt disk holds holds' shut shut' spool.now result script written written' Untouched memory Unasked
+      × CountsEither (IsIo result) unscripted unscripted' unwritten unwritten'
+  Obeys (Serve service) =
+      ServesLocal disk c remaining contents listens listens' shown shown' refused refused' service.port
+      service.connections service.turns Unserved holds holds' shut shut' service.spool.now result
+  Obeys (Up spool listen quiet log) =
+      ServesAt disk c remaining contents listens listens' shown shown' refused refused' listen 18446744073709551615
+      18446744073709551615 Unserved holds holds' shut shut' spool.now result
   Obeys (Export spool path all) =
       ExportsAt disk folder holds holds' shut shut' spool.now before after refused refused' result all stand stand'
       searches searches' path.now Unexported
-  Obeys order = ⊤

@@ -9,7 +9,7 @@ mod spools;
 
 pub use faults::RunFault;
 pub use gateway::Gateway;
-pub use gateway_script::{CallFault, Counted, CountedRead, CountedWrite, Refused, ScriptFault};
+pub use gateway_script::{CallFault, CountedRead, CountedWrite, Refused, ScriptFault};
 pub use laws::runs_join;
 pub use scripts::run_over;
 pub use spools::{run, run_opened};

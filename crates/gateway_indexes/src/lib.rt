@@ -18,5 +18,5 @@ pub use index_files::{IndexFile, IndexFiles, read_indexes, read_wanted, standard
 pub use memory::{HeldFile, MemoryFolder};
 pub use reports::{report_free, report_others, report_read};
 pub use spool_indexes::{Doubtful, InSpool, doubtful_of, found_in, report_indexes};
-pub use surveying::{Survey, Used, open_surveyed, used_of};
+pub use surveying::{Survey, Used, open_surveyed, survey_of, used_of};
 pub use tables::{Kept, Table, entries_of};

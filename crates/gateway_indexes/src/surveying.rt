@@ -89,8 +89,8 @@ pub fn open_surveyed<D: Disk>(alloc: Global, disk: D) -> Result<(Spool<D>, Surve
     Ok((spool, survey))
 }
 
-// How much of a spool is in use.
-fn survey_of<D: Disk>(spool: &Spool<D>) -> Survey
+/// How much of a spool is in use.
+pub fn survey_of<D: Disk>(spool: &Spool<D>) -> Survey
     ensures blocks { result.blocks ≡ block_count_of spool.now }
     ensures version { (v : View) → SpoolHasView spool.now v → result.version ≡ version_number v.version }
 {

@@ -1,6 +1,5 @@
 pub mod Faults
 pub mod Failures
-pub mod Streams
 pub mod Listing
 pub mod Changing
 pub mod Leaving

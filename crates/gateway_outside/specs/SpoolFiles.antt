@@ -1,17 +1,8 @@
 -- Files that spools are in, by their paths, and what a call leaves in one.
-use Rattle.std.specs.Prelude.{◌≡◌, List, [], ◌∷◌, Option, Some, ℕ, bytes_eq, true, false, if◌then◌else◌}
-use Rattle.std.specs.declared.io.ErrorKind.{ErrorKind}
+use Rattle.std.specs.Prelude.{◌≡◌, List, Option, Some, ℕ, bytes_eq, if◌then◌else◌}
 use Rattle.spool_disk.specs.Disk.{IsImage, Preserves}
-use Rattle.spool_disk.specs.File.{calls_in, failed_in, length_of}
-use Rattle.spool_disk.specs.Positioned.{made, opened}
 use Rattle.spool_disk.specs.Views.{Lasts}
 use Rattle.spool_disk.specs.declared.disk.Disk.{Ghosts}
-use Rattle.spool_disk.specs.declared.file.PositionedDisk.{PositionedDisk}
-use Rattle.spool_disk.specs.declared.positioned.FileCall.TheVariants.{Len}
-use Rattle.spool_disk.specs.declared.system_file.SystemFile.{SystemFile}
-use Rattle.gateway_outside.specs.Failures.{fault_in}
-use Rattle.gateway_outside.specs.Faults.{opening_fault}
-use Rattle.gateway_outside.specs.declared.failures.Failure.{Failure}
 
 -- the disk in the file of each path, where there is one and it isn't open
 abbrev pub Disks : Type 0 → Type 0
@@ -32,20 +23,6 @@ pub record Leaves {D : Type 0} (holds : Disks D → Type 0) (disks : Disks D) (p
 pub record LeavesOthers {D : Type 0} (holds : Disks D → Type 0) (disks : Disks D) (path : List ℕ) : Type 0 where
   pub there : Option D
   pub held : holds (with_disk disks path there)
-
--- why a file isn't opened: by the system's error
-abbrev pub IsNotOpened : Failure → Type 0
-IsNotOpened failure = (kind : ErrorKind) × (fault_in failure ≡ opening_fault kind)
-
--- a file that was only opened: of it nothing was asked but its length, and no call failed
-abbrev pub IsJustOpened : PositionedDisk SystemFile → Type 0
-IsJustOpened disk =
-    (failed_in disk ≡ 0) × (calls_in disk ≡ made (Len (length_of disk)) [] true ∷ opened false)
-
--- this was answered, since the file wasn't opened, and its disk is as it was
-pub record NotOpened {D : Type 0} (d : D) (failure : Failure) (d' : D) : Type 0 where
-  pub same : d' ≡ d
-  pub why : IsNotOpened failure
 
 -- a disk that was only read: a read gives what it gave, and a crash leaves what it might have left
 pub record OnlyRead {D : Type 0} (disk : Ghosts D) (d d' : D) : Type 0 where

@@ -8,7 +8,6 @@ ghost use Rattle.gateway_outside.specs.Failures.{status_with, fault_in};
 use crate::advice::{Advice, Task};
 use crate::faults::Fault;
 use common::Stop;
-use spool_disk::FileDisk;
 use std::alloc::AllocError;
 use std::io::Write;
 use std::{fmt, io};
@@ -77,14 +76,7 @@ impl<'a> Failure<'a> {
         }
     }
 
-    /// Work on the spool at this path failed. If it was for the disk, the disk has the reason.
-    pub fn on_spool(fault: Fault, path: &'a str, disk: &FileDisk) -> Self
-        ensures { fault_in result ≡ fault }
-    {
-        Failure::on_disk(fault, path, disk.error())
-    }
-
-    /// As `on_spool`, with the disk's error.
+    /// Work on the spool at this path failed. If it was for the disk, this error is the reason.
     pub fn on_disk(fault: Fault, path: &'a str, error: Option<io::Error>) -> Self
         ensures { fault_in result ≡ fault }
     {
@@ -168,12 +160,5 @@ impl<'a> From<AllocError> for Failure<'a> {
 
     fn from(error: AllocError) -> Self {
         Failure::from(Fault::from(error))
-    }
-}
-
-// Every error that comes bare is one of standard output or standard error.
-impl<'a> From<io::Error> for Failure<'a> {
-    fn from(error: io::Error) -> Self {
-        Failure::new(Fault::from(error), Task::Print, error)
     }
 }

@@ -3,10 +3,10 @@ ghost use Rattle.std.specs.Prelude.{◌≡◌, Some, option_map};
 ghost use Rattle.gateway_outside.specs.Faults.{failure_line, lengthening_fault, numbered_refusal_of, opening_fault};
 ghost use Rattle.gateway_outside.specs.Faults.{exit_status_of, reading_fault, row};
 
-use crate::streams::Refused;
 use common::Stop;
 use enc_index::ReadError;
 use enc_stream::TranscodeError;
+use gateway_streams::Refused;
 use spool_disk::DiskFault;
 use spool_image::{FormatError, OpenFault, RaiseError, UpgradeError};
 use std::alloc::AllocError;

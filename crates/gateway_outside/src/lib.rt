@@ -11,17 +11,14 @@ mod memory;
 mod openings;
 mod spool_files;
 mod standard;
-mod streams;
 
 pub use advice::{Advice, Task, TextAdvice};
 pub use failures::{Failure, ended};
 pub use faults::Fault;
 pub use finding::{find_folder, look_into};
+pub use gateway_streams::{Input, Noted, Output, Refused};
 pub use laws::shown_in_order;
 pub use memory::MemoryFile;
 pub use openings::Unopened;
-pub use spool_files::{
-    SpoolFiles, SystemFiles, open_in, open_spool, refused_by, refused_in, refused_spool,
-};
+pub use spool_files::{SpoolFiles, SystemFiles, open_in, refused_by, refused_in};
 pub use standard::{Closed, files_to_open};
-pub use streams::{Input, Noted, Output, Refused};

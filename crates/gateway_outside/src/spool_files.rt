@@ -5,7 +5,7 @@ ghost use Rattle.std.specs.declared.io.ErrorKind.{ErrorKind};
 ghost use Rattle.gateway_outside.specs.declared.faults.Fault.{Fault};
 ghost use Rattle.gateway_outside.specs.Failures.{fault_in};
 ghost use Rattle.gateway_outside.specs.Openings.{FailedToOpen, failed_opening};
-ghost use Rattle.gateway_outside.specs.SpoolFiles.{Disks, IsJustOpened, IsNotOpened, Leaves, LeavesOthers, OnlyRead};
+ghost use Rattle.gateway_outside.specs.SpoolFiles.{Disks, Leaves, LeavesOthers, OnlyRead};
 ghost use Rattle.gateway_outside.specs.SpoolFiles.{with_disk};
 
 use crate::advice::{Advice, Task};
@@ -126,23 +126,11 @@ impl SpoolFiles for SystemFiles<'_> {
     }
 }
 
-/// The spool in the file at this path, of which only the length was asked.
-pub fn open_spool<'a>(rt: &HostRuntime, path: &'a str) -> Result<FileDisk, Failure<'a>>
-    ensures opened { IfOk result IsJustOpened }
-    ensures refused { IfErr result IsNotOpened }
-{
-    match FileDisk::try_open(rt, path) {
-        Ok(disk) => Ok(disk),
-        Err(error) => Err(Failure::on_opening(Task::OpenSpool(path), path, error)),
-    }
-}
-
 /// The spool in the file at this path.
 pub fn open_in<'a, F: SpoolFiles>(files: &mut F, path: &'a str) -> Result<F::File, Failure<'a>>
     ensures opened { (disks : Disks F.File) → F.holds files.old disks
         → IfOk result (λ disk. (disks path.now ≡ Some disk) × F.holds files.new (with_disk disks path.now None)) }
     ensures failed { (disks : Disks F.File) → F.holds files.old disks → OnErr result (F.holds files.new disks) }
-    ensures refused { IfErr result IsNotOpened }
 
     // A failure is that of the one call, and never told as a stream's.
     ensures noted { IfErr result (FailedToOpen (F.unopened files.old) (F.unopened files.new) path.now) }
@@ -190,15 +178,6 @@ pub fn refused_by<'a, F: SpoolFiles>(
         return Failure::on_streams(fault, None, output);
     }
     refused_in(files, fault, path, disk)
-}
-
-/// Work on the spool at this path was refused, with an advice where the file can't be read as one.
-pub fn refused_spool<'a>(fault: Fault, path: &'a str, disk: FileDisk) -> Failure<'a>
-    ensures { fault_in result ≡ fault }
-{
-    let mut disk = disk;
-    let cut_short = is_cut_short(fault, &mut disk);
-    refusal(fault, path, cut_short, disk.error())
 }
 
 // Whether a file that is no spool begins as one, as far as it can be read.

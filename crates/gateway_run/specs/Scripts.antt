@@ -1,10 +1,12 @@
 -- What a run of a script over the spool in a file comes to.
 use Rattle.std.specs.Prelude.{◌≡◌, ◌⊎◌, ℕ, true, false, List, Option, Some, Result, Ok, Err, IsErrAnd, OnErr, bytes_eq}
 use Rattle.std.specs.Prelude.{codes}
+use Rattle.common.specs.declared.stop.Stop.TheVariants.{NoMemory}
+use Rattle.enc_model.specs.Indexes.{no_indexes}
 use Rattle.spool_disk.specs.Disk.{Counts}
 use Rattle.spool_disk.specs.declared.disk.Disk.{Ghosts}
-use Rattle.upload_rules.specs.Store.{Store}
-use Rattle.spool_image.specs.LeftOnly.{IsSpool}
+use Rattle.upload_rules.specs.Store.{Store, no_uploads}
+use Rattle.spool_image.specs.LeftOnly.{AllShow, IsSpool}
 use Rattle.spool_image.specs.Opening.{OpensExactly, ReadsSame, Unwritten, open_refusal_of}
 use Rattle.tus_session.specs.History.{beginning}
 use Rattle.gateway_script.specs.Script.{IsScript}
@@ -58,6 +60,26 @@ pub record RanIn {T D : Type 0} (disk : Ghosts D) (d : D) (result : Result T Fai
   pub answers : AnswersRun run result
   pub reads : OnlyRead disk (disk_back run) d'
 
+-- A SCRIPT RAN OVER A FRESH SPOOL, without uploads and without index files
+pub record RanFresh {T D : Type 0} (disk : Ghosts D) (result : Result T Failure)
+    (input before after : Option (List ℕ)) (none : Type 0) : Type 0 where
+  pub d : D
+  pub fresh : AllShow disk d 64 (no_uploads no_indexes)
+  pub run : Result D (D × RunFault)
+  pub runs : Runs disk d run input before after none
+  pub answers : AnswersRun run result
+
+-- or there was no memory for one, and `none` holds
+abbrev pub RunsFresh : {T D : Type 0} → Ghosts D → Result T Failure → Option (List ℕ) → Option (List ℕ)
+    → Option (List ℕ) → Type 0 → Type 0
+RunsFresh disk result input before after none =
+    (IsErrAnd result (λ failure. fault_in failure ≡ faults.Stop NoMemory) × none)
+    ⊎ RanFresh disk result input before after none
+
+-- it ended for a stream
+abbrev pub IsIo : {T : Type 0} → Result T Failure → Type 0
+IsIo result = IsErrAnd result (λ failure. fault_in failure ≡ faults.Io)
+
 -- WHAT THE COMMAND PROMISES of the file at a path: a script ran over its spool, or the one call that was to open it
 -- failed, and `none` holds. The other files stay
 module _ {T D : Type 0} (disk : Ghosts D) (holds holds' : Disks D → Type 0) (shut shut' : List Unopened)
@@ -68,5 +90,6 @@ module _ {T D : Type 0} (disk : Ghosts D) (holds holds' : Disks D → Type 0) (s
       ⊎ RanIn disk d result input before after none d')
 
   -- or over a fresh spool in memory for `-`: then no file is asked for
-  abbrev pub ScriptsAt : Type 0 → Type 0
-  ScriptsAt unasked = (bytes_eq path (codes "-") ≡ false → RunsAt) × (bytes_eq path (codes "-") ≡ true → unasked)
+  abbrev pub ScriptsAt : {M : Type 0} → Ghosts M → Type 0 → Type 0
+  ScriptsAt memory unasked = (bytes_eq path (codes "-") ≡ false → RunsAt)
+      × (bytes_eq path (codes "-") ≡ true → unasked × RunsFresh memory result input before after none)

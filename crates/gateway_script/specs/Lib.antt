@@ -6,4 +6,3 @@ pub mod Lines
 pub mod Shown
 pub mod Runs
 pub mod Outputs
-pub mod Counted

@@ -6,9 +6,9 @@ ghost use Rattle.gateway_script.specs.Script.{Run, call};
 ghost use Rattle.gateway_script.specs.Runs.{view, IsRunAt, Went, Refuses, Called, WritesGiven};
 
 use crate::faults::CallFault;
-use crate::streams::CountedWrite;
 use crate::writing::{report, report_refusal, write_out};
 use common::Stop;
+use gateway_streams::CountedWrite;
 use std::alloc::Global;
 use tus_session::{Answer, Connections, SessionError};
 

@@ -2,8 +2,8 @@
 ghost use Rattle.std.specs.Prelude.{◌≡◌};
 ghost use Rattle.gateway_script.specs.Faults.{script_fault};
 
-use crate::streams::Refused;
 use common::Stop;
+use gateway_streams::Refused;
 use std::alloc::AllocError;
 
 /// Why a call of a script's line isn't done.

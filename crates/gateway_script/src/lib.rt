@@ -8,10 +8,9 @@ mod lines;
 mod orders;
 mod runs;
 mod scripts;
-mod streams;
 mod writing;
 
 pub use faults::{CallFault, ScriptFault};
+pub use gateway_streams::{CountedRead, CountedWrite, Refused};
 pub use runs::run_script;
 pub use scripts::read_script;
-pub use streams::{Counted, CountedRead, CountedWrite, Refused};

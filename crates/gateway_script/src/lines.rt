@@ -8,7 +8,7 @@ ghost use Rattle.gateway_script.specs.Runs.{view, IsRunAt, Went, Flowed, GivenOn
 
 use crate::calls::{came, more};
 use crate::faults::CallFault;
-use crate::streams::CountedWrite;
+use gateway_streams::CountedWrite;
 use std::alloc::Global;
 use tus_session::{Answer, Connections};
 

@@ -15,7 +15,7 @@ use crate::digits::HexDigits;
 use crate::faults::{CallFault, ScriptFault};
 use crate::lines::give;
 use crate::orders::{Order, read_order};
-use crate::streams::CountedWrite;
+use gateway_streams::CountedWrite;
 use memchr::memchr;
 use std::alloc::Global;
 use tus_session::{Connections, MOST_OPEN, SessionError};

@@ -7,7 +7,7 @@ ghost use Rattle.gateway_script.specs.Inputs.{TakesMost};
 ghost use Rattle.gateway_script.specs.Script.{IsScript};
 
 use crate::faults::ScriptFault;
-use crate::streams::CountedRead;
+use gateway_streams::CountedRead;
 use std::alloc::Global;
 
 /// How many bytes are asked for at most: by then a longer script is known to be too long.

@@ -6,7 +6,7 @@ ghost use Rattle.gateway_script.specs.Script.{written_bytes, written_close};
 ghost use Rattle.gateway_script.specs.Outputs.{IsWriteFault, AppendsPart, count_line, refusal_bytes};
 
 use crate::faults::CallFault;
-use crate::streams::{CountedWrite, Refused};
+use gateway_streams::{CountedWrite, Refused};
 use std::alloc::{AllocError, Global};
 use tus_session::SessionError;
 

@@ -8,7 +8,7 @@ use gateway_export::{SystemPlaces, export_in};
 use gateway_format::{NewSpool, format_at, raise_in, upgrade_in};
 use gateway_indexes::SystemFolders;
 use gateway_list::{json_in, list_in, list_on};
-use gateway_outside::{Failure, Noted, SystemFiles, open_spool};
+use gateway_outside::{Failure, Noted, SystemFiles, open_in};
 use spool_disk::{Disk, FileDisk};
 use std::alloc::Global;
 use std::fs;
@@ -118,7 +118,7 @@ fn spool_is_made_used_listed_and_upgraded(rt: HostRuntime) {
     assert_eq!(rt; printed.as_slice(), MADE);
     assert!(rt; told.starts_with(TOLD));
     let talk = Talk::new(&rt, alloc, STEPS);
-    let disk = open_spool(&rt, SPOOL).expect(&rt, "a new spool");
+    let disk = open_in(&mut SystemFiles::new(&rt), SPOOL).expect(&rt, "a new spool");
     let (disk, fault, written) = ran(alloc, &talk, disk);
     assert_eq!(rt; fault, None);
     assert_eq!(rt; written, talk.wanted);
@@ -126,7 +126,7 @@ fn spool_is_made_used_listed_and_upgraded(rt: HostRuntime) {
     make_old(&rt, &mut disk);
     drop(lists(&rt, alloc, disk));
     upgraded(&rt, alloc, SPOOL).expect(&rt, "an old spool");
-    let disk = open_spool(&rt, SPOOL).expect(&rt, "an upgraded spool");
+    let disk = open_in(&mut SystemFiles::new(&rt), SPOOL).expect(&rt, "an upgraded spool");
     drop(lists(&rt, alloc, disk));
     let again = upgraded(&rt, alloc, SPOOL);
     let last_line =
@@ -254,7 +254,7 @@ fn exported<'a>(
 #[test]
 fn failure_says_what_the_system_said(rt: HostRuntime) {
     let alloc = rt.alloc();
-    let lost = open_spool(&rt, "no_such_folder/spool").map(drop);
+    let lost = open_in(&mut SystemFiles::new(&rt), "no_such_folder/spool").map(drop);
     let message = "refused: 39 CannotOpen\n\
     cannot open the spool no_such_folder/spool: No such file or directory (os error 2)";
     fails(&rt, alloc, lost, 2, message);
@@ -277,7 +277,7 @@ fn failure_says_what_the_system_said(rt: HostRuntime) {
     let message = "refused: 38 InUse\n\
     gateway_used_test is in use: stop the gateway that serves it (`fuser gateway_used_test` prints its process)";
     for ended in [
-        open_spool(&rt, "gateway_used_test").map(drop),
+        open_in(&mut SystemFiles::new(&rt), "gateway_used_test").map(drop),
         list_in(
             alloc,
             &mut SystemFiles::new(&rt),
@@ -388,7 +388,7 @@ fn next_number_is_raised(rt: HostRuntime) {
         );
         fails(&rt, alloc, refused, 2, NOT_THAT_LARGE);
         assert_eq!(rt; lines.into_stream().as_slice(), line.as_bytes());
-        let disk = open_spool(&rt, RAISED_SPOOL).expect(&rt, "a spool");
+        let disk = open_in(&mut SystemFiles::new(&rt), RAISED_SPOOL).expect(&rt, "a spool");
         let gateway = opened(&rt, alloc, disk);
         assert_eq!(rt; gateway.uploads().next_number(), *next);
         drop(gateway.into_disk());

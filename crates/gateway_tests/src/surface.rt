@@ -2,7 +2,7 @@
 
 use common::Stop;
 use enc_index::ReadError;
-use gateway_outside::{Failure, Fault, Noted, ended};
+use gateway_outside::{Failure, Fault, Input, Noted, Output, ended};
 use std::alloc::Global;
 use std::io::{self, ErrorKind, Read, Write};
 use std::process::Abort;
@@ -52,7 +52,7 @@ fn failures_are_told(rt: HostRuntime) {
         fails(&rt, alloc, Failure::from(fault), status, message);
     }
     let mut input = Noted::new(Lost);
-    assert!(rt; input.read(&mut [0]).is_err());
+    assert!(rt; input.read_piece(&mut [0]).is_err());
     let failure = Failure::on_streams(Fault::Io, input.error(), None);
     fails(
         &rt,
@@ -62,7 +62,7 @@ fn failures_are_told(rt: HostRuntime) {
         "refused: 33 Io\ncannot read standard input: it is lost\n",
     );
     let mut output = Noted::new(Lost);
-    assert!(rt; output.write_all(b"a").is_err());
+    assert!(rt; output.put(b"a").is_err());
     assert_eq!(rt;
         output.error().map(|error| error.kind()),
         Some(ErrorKind::WriteZero)

@@ -1,4 +1,7 @@
 pub mod Addresses
+pub mod Listeners
+pub mod Stops
+pub mod Sessions
 pub mod Serving
 pub mod Reports
 pub mod Watched

@@ -3,6 +3,7 @@ ghost use Rattle.std.specs.Prelude.{◌≡◌};
 ghost use Rattle.gateway_up.specs.Guarded.{acceptor_under};
 
 use crate::reports::report_gone;
+use gateway_outside::Noted;
 use gateway_serve::{Acceptor, Arrival};
 use std::os::unix::fs::MetadataExt;
 use std::time::{Clock, Duration};
@@ -52,7 +53,7 @@ impl<'a> Sentry<'a> {
         self.looked = now;
         if file_at(self.rt, self.path).ok() != self.file {
             // If standard error can't be written, the warning is lost.
-            drop(report_gone(&mut self.rt.stderr(), self.path));
+            drop(report_gone(&mut Noted::new(self.rt.stderr()), self.path));
         }
     }
 }

@@ -1,76 +1,192 @@
-//! Serving a spool in a file over sockets.
-ghost use Rattle.std.specs.Prelude.{◌≡◌, [], ◌∷◌, IfErr, IfOk, IsErr, IsErrAnd, IsOk};
+//! Serving a spool at a port of this machine, with an end.
+ghost use Rattle.std.specs.Prelude.{◌≡◌, [], ◌∷◌, IfErr, IfOk, true, false};
 ghost use Rattle.std.specs.Net.Addr.{ipv4_octets};
 ghost use Rattle.std.specs.Net.Socket.{v4_ip, v4_port};
-ghost use Rattle.spool_disk.specs.File.{failed_in};
-ghost use Rattle.upload_rules.specs.Answers.{Counts};
-ghost use Rattle.gateway_engine.specs.Gateways.{disk_in};
 ghost use Rattle.gateway_outside.specs.Failures.{fault_in};
-ghost use Rattle.gateway_outside.specs.Faults.{exit_status_of};
-ghost use Rattle.gateway_outside.specs.SpoolFiles.{IsJustOpened};
+ghost use Rattle.gateway_outside.specs.declared.faults.Fault.{Fault};
 ghost use Rattle.gateway_up.specs.Addresses.{IsLocal};
-ghost use Rattle.gateway_up.specs.Serving.{IsUnopened, ReportsFaults};
+ghost use Rattle.gateway_up.specs.Listeners.{Listens};
+ghost use Rattle.gateway_up.specs.Serving.{IsUnheard, Serves, ServesAt, ServesDisk, ServesLocal, Unheard};
+ghost use Rattle.gateway_up.specs.Sessions.{Session};
 
-use crate::guarded::{Guarded, Sentry};
-use crate::logged::Logged;
-use crate::reports::{report_few, report_few_sockets, report_open, report_served, report_up};
-use crate::watched::Watched;
-use common::Stop;
+use crate::listeners::{Bound, Listeners};
+use crate::reports::report_served;
+use crate::stops::{Stopped, stopped_in};
 use gateway_engine::{Connections, Gateway};
-use gateway_indexes::{Survey, open_surveyed};
-use gateway_log::Log;
 use gateway_orders::Service;
-use gateway_outside::{Failure, Fault, Task, files_to_open, open_spool, refused_spool};
-use gateway_serve::{Acceptor, Listening, MOST_DRAINING, Outcome, Showing, serve_on};
-use spool_disk::{DiskFault, FileDisk};
-use spool_image::{OpenFault, Spool};
+use gateway_outside::{Failure, Fault, Output, SpoolFiles, Task, open_in};
+use gateway_serve::{Acceptor, Listening, Outcome, Timer, serve_on};
+use spool_disk::{Disk, DiskFault};
+use spool_image::Spool;
 use std::alloc::Global;
-use std::io::{self, IsTerminal, Read, Write};
-use std::net::{Ipv4Addr, OpenListener, OpenStream, SocketAddr, SocketAddrV4, TcpListener};
-use tus_session::MOST_OPEN;
+use std::io::{self, Read, Write};
+use std::net::{Ipv4Addr, OpenStream, SocketAddr, SocketAddrV4};
 
-/// What serving a spool came to. The disk is handed back.
-#[derive(Drop)]
-pub struct Served<'a> {
-    /// The spool's file.
-    pub disk: FileDisk,
-    /// How serving ended.
-    pub ended: Result<(), Failure<'a>>,
+// Where, how many connections, and how many turns: so long serving goes on.
+#[derive(Clone, Copy, Drop)]
+struct Term {
+    address: SocketAddr,
+    connections: u64,
+    turns: u64,
 }
 
-/// Serves the spool in a file at a port of 127.0.0.1, which is printed. At the end the number of connections is printed
-/// on standard error. It is refused where the spool isn't opened, and nowhere else.
-pub fn serve_file<'a>(
-    rt: &HostRuntime,
+/// Serves the spool in the file at a path, at a port of 127.0.0.1, which is printed. At the end the number of
+/// connections is printed to `errors`; if that refuses, the number is lost.
+pub fn serve_in<'a, T: Timer, F: SpoolFiles, L: Listeners, W: Output, E: Output>(
     alloc: Global,
+    clock: &mut T,
+    files: &mut F,
+    listeners: &mut L,
+    output: &mut W,
+    errors: &mut E,
     service: Service<'a>,
-) -> Result<Served<'a>, Failure<'a>>
-    ensures device { IfOk result ReportsFaults }
-    ensures unopened { IfErr result IsUnopened }
+) -> Result<(), Failure<'a>>
+    // Where the file can be opened and its spool opens, a listener was asked for at this port of 127.0.0.1, and clients
+    // were served with what `gateway_serve::serve_on` promises. Where the one call that was to open the file failed,
+    // nothing else was asked. The other files stay.
+    ensures serves { ServesLocal F.File.Disk ⟦<Gateway<Spool<F::File>> as Connections>⟧ L.Stream.remaining
+        L.Stream.contents (L.asked listeners.old) (L.asked listeners.new) (T.shown clock.old) (T.shown clock.new)
+        (W.refusals output.old) (W.refusals output.new) service.entry.port service.entry.connections
+        service.entry.turns
+        ((clock.new ≡ clock.old) × (listeners.new ≡ listeners.old) × (output.new ≡ output.old)
+        × (errors.new ≡ errors.old)) (F.holds files.old) (F.holds files.new) (F.unopened files.old)
+        (F.unopened files.new) service.entry.spool.now result }
 {
-    match open_gateway(rt, alloc, service.spool) {
-        Ok(gateway) => Ok(serve_at(rt, alloc, service, gateway)),
-        Err(failure) => Err(failure),
+    let term = Term {
+        address: local(service.port),
+        connections: service.connections,
+        turns: service.turns,
+    };
+    serve_term(
+        alloc,
+        clock,
+        files,
+        listeners,
+        output,
+        errors,
+        service.spool,
+        term,
+    )
+}
+
+// Serves the spool in the file at a path so long.
+fn serve_term<'a, T: Timer, F: SpoolFiles, L: Listeners, W: Output, E: Output>(
+    alloc: Global,
+    clock: &mut T,
+    files: &mut F,
+    listeners: &mut L,
+    output: &mut W,
+    errors: &mut E,
+    spool: &'a str,
+    term: Term,
+) -> Result<(), Failure<'a>>
+    ensures { ServesAt F.File.Disk ⟦<Gateway<Spool<F::File>> as Connections>⟧ L.Stream.remaining L.Stream.contents
+        (L.asked listeners.old) (L.asked listeners.new) (T.shown clock.old) (T.shown clock.new) (W.refusals output.old)
+        (W.refusals output.new) term.address term.connections term.turns
+        ((clock.new ≡ clock.old) × (listeners.new ≡ listeners.old) × (output.new ≡ output.old)
+        × (errors.new ≡ errors.old)) (F.holds files.old) (F.holds files.new) (F.unopened files.old)
+        (F.unopened files.new) spool.now result }
+{
+    let disk = match open_in(files, spool) {
+        Ok(disk) => disk,
+        Err(failure) => return Err(failure),
+    };
+    match serve_disk(alloc, clock, listeners, output, errors, disk, term) {
+        Ok(disk) => {
+            files.close(spool, disk);
+            Ok(())
+        }
+        Err((disk, stopped)) => Err(stopped_in(files, stopped, spool, disk)),
     }
 }
 
-// As `serve_file`, with a gateway over its spool.
-fn serve_at<'a>(
-    rt: &HostRuntime,
+// Serves the spool on a disk, which is handed back.
+fn serve_disk<'a, T: Timer, D: Disk, L: Listeners, W: Output, E: Output>(
     alloc: Global,
-    service: Service<'a>,
-    gateway: Gateway<Spool<FileDisk>>,
-) -> Served<'a>
-    requires { failed_in (disk_in gateway) ≡ 0 }
-    ensures { ReportsFaults result }
+    clock: &mut T,
+    listeners: &mut L,
+    output: &mut W,
+    errors: &mut E,
+    disk: D,
+    term: Term,
+) -> Result<D, (D, Stopped<'a>)>
+    ensures { ServesDisk D.Disk ⟦<Gateway<Spool<D>> as Connections>⟧ L.Stream.remaining L.Stream.contents
+        (L.asked listeners.old) (L.asked listeners.new) (T.shown clock.old) (T.shown clock.new) (W.refusals output.old)
+        (W.refusals output.new) term.address term.connections term.turns
+        ((clock.new ≡ clock.old) × (listeners.new ≡ listeners.old) × (output.new ≡ output.old)
+        × (errors.new ≡ errors.old)) disk result }
 {
-    let bound = match listen(rt, service.port) {
+    match Gateway::open(alloc, disk) {
+        Ok(gateway) => serve_gateway(alloc, clock, listeners, output, errors, gateway, term),
+        Err((disk, fault)) => Err((disk, Stopped::Spool(Fault::from(fault)))),
+    }
+}
+
+// Serves a gateway over a spool. Its disk is handed back.
+fn serve_gateway<'a, T: Timer, D: Disk, L: Listeners, W: Output, E: Output>(
+    alloc: Global,
+    clock: &mut T,
+    listeners: &mut L,
+    output: &mut W,
+    errors: &mut E,
+    gateway: Gateway<Spool<D>>,
+    term: Term,
+) -> Result<D, (D, Stopped<'a>)>
+    ensures { Serves D.Disk ⟦<Gateway<Spool<D>> as Connections>⟧ L.Stream.remaining L.Stream.contents
+        (L.asked listeners.old) (L.asked listeners.new) (T.shown clock.old) (T.shown clock.new) (W.refusals output.old)
+        (W.refusals output.new) term.address term.connections term.turns gateway result }
+{
+    let bound = match listen(listeners, output, term.address) {
         Ok(bound) => bound,
-        Err(failure) => return unserved(gateway, failure),
+        Err(failure) => return Err((gateway.into_disk(), Stopped::Outside(failure))),
     };
-    let mut clock = Showing::new(rt);
     let mut acceptor = Listening::new(&bound.listener);
-    let (most, turns) = (service.connections, service.turns);
+    let Ran {
+        gateway,
+        opened,
+        served,
+    } = serve_all(
+        alloc,
+        clock,
+        &mut acceptor,
+        gateway,
+        term.connections,
+        term.turns,
+    );
+    // If `errors` refuses, the number isn't reported.
+    drop(report_served(errors, opened));
+    let disk = gateway.into_disk();
+    match served {
+        Ok(()) => Ok(disk),
+        Err(fault) => Err((disk, Stopped::Spool(Fault::from(fault)))),
+    }
+}
+
+/// What serving connections came to.
+pub(crate) struct Ran<C> {
+    /// The connections, which are handed back.
+    pub gateway: C,
+    /// How many clients got one.
+    pub opened: u64,
+    /// How it ended.
+    pub served: Result<(), DiskFault>,
+}
+
+/// Serves clients of a listener that was asked nothing so far, for so many connections and turns at most.
+pub(crate) fn serve_all<A: Acceptor, C: Connections, T: Timer>(
+    alloc: Global,
+    clock: &mut T,
+    acceptor: &mut A,
+    gateway: C,
+    connections: u64,
+    turns: u64,
+) -> Ran<C>
+where
+    A::Stream: Read + Write + OpenStream + Drop,
+    requires { A.answers acceptor.old ≡ [] }
+    ensures { Session C.Connections A.Stream.remaining A.Stream.contents gateway result.gateway result.served
+        (T.shown clock.old) (T.shown clock.new) turns connections }
+{
     let Outcome {
         gateway,
         clients,
@@ -79,295 +195,66 @@ fn serve_at<'a>(
         ended: _,
         drained: _,
         served,
-    } = serve_on(&mut clock, alloc, &mut acceptor, gateway, most, turns);
-    // If standard error can't be written, the count isn't reported.
-    drop(report_served(&mut rt.stderr(), clients.opened));
-    outcome(served, service.spool, gateway.into_disk())
-}
-
-// A gateway over the spool in a file. No call of the file failed.
-fn open_gateway<'a>(
-    rt: &HostRuntime,
-    alloc: Global,
-    spool: &'a str,
-) -> Result<Gateway<Spool<FileDisk>>, Failure<'a>>
-    ensures opened { IfOk result (λ gateway. failed_in (disk_in gateway) ≡ 0) }
-    ensures refused { IfErr result IsUnopened }
-{
-    match open_spool(rt, spool) {
-        Ok(disk) => gateway_over(alloc, spool, disk),
-        Err(failure) => Err(failure),
+    } = serve_on(clock, alloc, acceptor, gateway, connections, turns);
+    Ran {
+        gateway,
+        opened: clients.opened,
+        served,
     }
 }
 
-// As `open_gateway`, of a file that was just opened.
-fn gateway_over<'a>(
-    alloc: Global,
-    spool: &'a str,
-    disk: FileDisk,
-) -> Result<Gateway<Spool<FileDisk>>, Failure<'a>>
-    requires { IsJustOpened disk }
-    ensures opened { IfOk result (λ gateway. failed_in (disk_in gateway) ≡ 0) }
-    ensures refused { IfErr result IsUnopened }
-{
-    match Gateway::open(alloc, disk) {
-        Ok(gateway) => Ok(gateway),
-        Err((disk, fault)) => Err(unopened(fault, spool, disk)),
-    }
-}
-
-// The refusal of a file whose spool doesn't open.
-fn unopened<'a>(fault: OpenFault, spool: &'a str, disk: FileDisk) -> Failure<'a>
-    ensures { IsUnopened result }
-{
-    refused_spool(Fault::from(fault), spool, disk)
-}
-
-// Serving didn't begin, for this reason.
-fn unserved<'a>(gateway: Gateway<Spool<FileDisk>>, failure: Failure<'a>) -> Served<'a>
-    ensures disk { failed_in result.disk ≡ failed_in (disk_in gateway) }
-{
-    Served {
-        disk: gateway.into_disk(),
-        ended: Err(failure),
-    }
-}
-
-// The result of serving: a disk fault gives exit status 3.
-fn outcome<'a>(served: Result<(), DiskFault>, spool: &'a str, disk: FileDisk) -> Served<'a>
-    ensures disk { result.disk ≡ disk }
-    ensures done { IsOk served → IsOk result.ended }
-    ensures device { IsErr served → IsErrAnd result.ended (λ failure. exit_status_of (fault_in failure) ≡ 3) }
-{
-    let ended = match served {
-        Ok(()) => Ok(()),
-        Err(fault) => Err(Failure::on_spool(Fault::from(fault), spool, &disk)),
-    };
-    Served { disk, ended }
-}
-
-/// A listener, what it was asked to listen at, and its actual address: for port 0 the system chooses a port.
-#[derive(Drop)]
-struct Bound {
-    listener: TcpListener,
-    asked: SocketAddr,
+// Listens at an address, and prints where.
+fn listen<'a, L: Listeners, W: Output>(
+    listeners: &mut L,
+    output: &mut W,
     address: SocketAddr,
+) -> Result<Bound<L::Listener>, Failure<'a>>
+    ensures heard { IfOk result (λ bound. Listens (L.asked listeners.old) (L.asked listeners.new) address true) }
+    ensures failed { IfErr result (Unheard (L.asked listeners.old) (L.asked listeners.new) address
+        (W.refusals output.old) (W.refusals output.new)) }
+{
+    let bound = match listen_at(listeners, address) {
+        Ok(bound) => bound,
+        Err(failure) => return Err(failure),
+    };
+    match writeln!(output, "listening {}", bound.address) {
+        Ok(()) => Ok(bound),
+        Err(_refused) => Err(unprinted(output.error())),
+    }
 }
 
-// Listens at a port of 127.0.0.1, and prints it.
-fn listen<'a>(rt: &HostRuntime, port: u16) -> Result<Bound, Failure<'a>>
-    ensures { IfOk result (λ bound. IsLocal bound.asked port) }
+/// A listener at this address.
+pub(crate) fn listen_at<'a, L: Listeners>(
+    listeners: &mut L,
+    address: SocketAddr,
+) -> Result<Bound<L::Listener>, Failure<'a>>
+    ensures heard { IfOk result (λ bound. Listens (L.asked listeners.old) (L.asked listeners.new) address true) }
+    ensures unheard { IfErr result (λ failure. Listens (L.asked listeners.old) (L.asked listeners.new) address false
+        × IsUnheard (fault_in failure)) }
 {
-    let bound = listen_at(rt, SocketAddr::V4(address_of(port)))?;
-    println!(rt; "listening {}", bound.address)?;
-    Ok(bound)
-}
-
-// A listener at this address.
-fn listen_at<'a>(rt: &HostRuntime, address: SocketAddr) -> Result<Bound, Failure<'a>>
-    ensures { IfOk result (λ bound. bound.asked ≡ address) }
-{
-    match bind(rt, address) {
+    match listeners.listen(address) {
         Ok(bound) => Ok(bound),
         Err(error) => Err(Failure::new(Fault::from(error), Task::Listen(address), error)),
     }
 }
 
-// Asks the system for a listener whose calls don't wait: that it listens at the address that it was asked for, and
-// nowhere else, is trusted.
-fn bind(rt: &HostRuntime, asked: SocketAddr) -> io::Result<Bound>
-    ensures { IfOk result (λ bound. bound.asked ≡ asked) }
+/// What is to be said where the program listens wasn't printed, for this reason.
+pub(crate) fn unprinted<'a>(error: Option<io::Error>) -> Failure<'a>
+    ensures { fault_in result ≡ Fault.Io }
 {
-    let listener = TcpListener::bind(rt, asked)?;
-    // One that waits would serve nobody.
-    listener.set_nonblocking(true)?;
-    let address = listener.local_addr()?;
-    Ok(Bound {
-        listener,
-        asked,
-        address,
-    })
+    Failure::on_streams(Fault::Io, None, error)
 }
 
-// The address to listen at: a port of 127.0.0.1, and never another address.
+// A port of 127.0.0.1, and never another address.
+fn local(port: u16) -> SocketAddr
+    ensures { IsLocal result port }
+{
+    SocketAddr::V4(address_of(port))
+}
+
 fn address_of(port: u16) -> SocketAddrV4
     ensures address { ipv4_octets (v4_ip result) ≡ 127 ∷ 0 ∷ 0 ∷ 1 ∷ [] }
     ensures port { v4_port result ≡ port }
 {
     SocketAddrV4::new(Ipv4Addr::LOCALHOST, port)
-}
-
-/// What a server prints while it serves.
-#[derive(Clone, Copy, Drop)]
-pub struct Reporting {
-    /// Only errors.
-    pub quiet: bool,
-    /// Requests and replies, on standard error.
-    pub log: bool,
-}
-
-impl Reporting {
-    // Whether there is a log. At a terminal it needn't be asked for.
-    fn has_log(self, rt: &HostRuntime) -> bool {
-        self.log || !self.quiet && rt.stderr().is_terminal()
-    }
-}
-
-/// Serves the spool in a file until the program is ended or there is a disk fault. Prints the spool and the address,
-/// unless it is quiet, and a warning on standard error if other machines may reach the address. It is refused where the
-/// spool isn't opened, and nowhere else.
-pub fn serve_up<'a>(
-    rt: &HostRuntime,
-    alloc: Global,
-    spool: &'a str,
-    listen: SocketAddr,
-    reporting: Reporting,
-) -> Result<Served<'a>, Failure<'a>>
-    ensures device { IfOk result ReportsFaults }
-    ensures unopened { IfErr result IsUnopened }
-{
-    let (gateway, survey) = match open_with_survey(rt, alloc, spool) {
-        Ok(opened) => opened,
-        Err(failure) => return Err(failure),
-    };
-    let reported = if reporting.quiet {
-        None
-    } else {
-        Some((spool, survey))
-    };
-    let bound = match listen_openly(rt, alloc, listen, reported) {
-        Ok(bound) => bound,
-        Err(failure) => return Ok(unserved(gateway, failure)),
-    };
-    warn_of_few(rt, alloc);
-    let sentry = Sentry::new(rt, spool);
-    let (gateway, served) = if reporting.has_log(rt) {
-        serve_logged(rt, alloc, &bound.listener, sentry, gateway, survey.blocks)
-    } else {
-        let mut guarded = Guarded::new(Listening::new(&bound.listener), sentry);
-        serve_on_and_on(rt, alloc, &mut guarded, gateway)
-    };
-    Ok(outcome(served, spool, gateway.into_disk()))
-}
-
-// So many sockets may be open at once: those of connections, one that waits, and those that drain.
-const MOST_SOCKETS: usize = MOST_OPEN + 1 + MOST_DRAINING;
-
-// Warns if fewer files may be opened than there may be connections, or sockets.
-fn warn_of_few(rt: &HostRuntime, alloc: Global) {
-    let files = files_to_open(rt, alloc, MOST_SOCKETS);
-    // If standard error can't be written, the warning is lost.
-    if files < MOST_OPEN {
-        drop(report_few(&mut rt.stderr(), files));
-    } else if files < MOST_SOCKETS {
-        drop(report_few_sockets(&mut rt.stderr(), files));
-    }
-}
-
-// As `open_gateway`, and how much of the spool is in use.
-fn open_with_survey<'a>(
-    rt: &HostRuntime,
-    alloc: Global,
-    spool: &'a str,
-) -> Result<(Gateway<Spool<FileDisk>>, Survey), Failure<'a>>
-    ensures opened { IfOk result (λ opened. failed_in (disk_in opened.0) ≡ 0) }
-    ensures refused { IfErr result IsUnopened }
-{
-    match open_spool(rt, spool) {
-        Ok(disk) => surveyed(alloc, spool, disk),
-        Err(failure) => Err(failure),
-    }
-}
-
-// As `open_with_survey`, of a file that was just opened.
-fn surveyed<'a>(
-    alloc: Global,
-    spool: &'a str,
-    disk: FileDisk,
-) -> Result<(Gateway<Spool<FileDisk>>, Survey), Failure<'a>>
-    requires { IsJustOpened disk }
-    ensures opened { IfOk result (λ opened. failed_in (disk_in opened.0) ≡ 0) }
-    ensures refused { IfErr result IsUnopened }
-{
-    let (disk, fault) = match open_surveyed(alloc, disk) {
-        Ok((uploads, survey)) => match Gateway::new(alloc, uploads) {
-            Ok(gateway) => return Ok((gateway, survey)),
-            Err((uploads, _)) => (uploads.into_disk(), OpenFault::Stop(Stop::NoMemory)),
-        },
-        Err(refused) => refused,
-    };
-    Err(unopened(fault, spool, disk))
-}
-
-// Listens at an address. Prints the spool and the address, if `reported` is given, and warns if others may reach it.
-fn listen_openly<'a>(
-    rt: &HostRuntime,
-    alloc: Global,
-    listen: SocketAddr,
-    reported: Option<(&'a str, Survey)>,
-) -> Result<Bound, Failure<'a>>
-    ensures { IfOk result (λ bound. bound.asked ≡ listen) }
-{
-    let bound = listen_at(rt, listen)?;
-    let place = bound.address.to_string(alloc)?;
-    if !bound.address.ip().to_canonical().is_loopback() {
-        // If standard error can't be written, the warning is lost.
-        drop(report_open(&mut rt.stderr(), place.as_str()));
-    }
-    if let Some((spool, survey)) = reported {
-        report_up(&mut io::writer(rt), spool, &survey, place.as_str())?;
-    }
-    Ok(bound)
-}
-
-// Serves as `serve_on_and_on` does, with a log on standard error. The spool has so many text blocks.
-fn serve_logged(
-    rt: &HostRuntime,
-    alloc: Global,
-    listener: &TcpListener,
-    sentry: Sentry<'_>,
-    gateway: Gateway<Spool<FileDisk>>,
-    blocks: u64,
-) -> (Gateway<Spool<FileDisk>>, Result<(), DiskFault>)
-    ensures counts { Counts (IsErr result.1) (failed_in (disk_in gateway))
-        (failed_in (disk_in result.0)) }
-{
-    let log = Log::new(rt, alloc, rt.stderr());
-    let watched = Watched::new(gateway, blocks, &log);
-    let logged = Logged::new(Listening::new(listener), &log);
-    let mut guarded = Guarded::new(logged, sentry);
-    let (watched, served) = serve_on_and_on(rt, alloc, &mut guarded, watched);
-    log.end();
-    (watched.into_gateway(), served)
-}
-
-// Serves until there is a disk fault; when serving ends by itself, it begins again. The gateway is returned.
-fn serve_on_and_on<A: Acceptor, C: Connections>(
-    rt: &HostRuntime,
-    alloc: Global,
-    acceptor: &mut A,
-    gateway: C,
-) -> (C, Result<(), DiskFault>)
-where
-    A::Stream: Read + Write + OpenStream + Drop,
-    ensures counts { Counts (IsErr result.1) (C.failures gateway) (C.failures result.0) }
-{
-    let mut gateway = gateway;
-    let mut clock = Showing::new(rt);
-    for _ in 0..u64::MAX {
-        let Outcome {
-            gateway: next,
-            clients: _,
-            door: _,
-            times: _,
-            ended: _,
-            drained: _,
-            served,
-        } = serve_on(&mut clock, alloc, acceptor, gateway, u64::MAX, u64::MAX);
-        gateway = next;
-        if served.is_err() {
-            return (gateway, served);
-        }
-    }
-    (gateway, Ok(()))
 }

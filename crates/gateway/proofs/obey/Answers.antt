@@ -32,7 +32,13 @@ pub returns-in-Labels : goal.returns-in-Labels
 returns-in-Labels g c = rw c.in-Labels.is c.labels_in.ensures.labels
 
 pub returns-in-Script : goal.returns-in-Script
-returns-in-Script g c = rw c.in-Script.is c.script_in.ensures.script
+returns-in-Script g c = rw c.in-Script.is (c.script_in.ensures.script, c.script_in.ensures.io)
+
+pub returns-in-Serve : goal.returns-in-Serve
+returns-in-Serve g c = rw c.in-Serve.is c.serve_in.ensures.serves
+
+pub returns-in-Up : goal.returns-in-Up
+returns-in-Up g c = rw c.in-Up.is c.up_in.ensures.serves
 
 pub returns-in-Export : goal.returns-in-Export
 returns-in-Export g c = rw c.in-Export.is c.export_in.ensures.exports

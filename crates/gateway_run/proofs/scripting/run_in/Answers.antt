@@ -2,6 +2,7 @@ use Rattle.std.proofs.Common.{◌≡◌, ◌∙◌, ◌⊎◌, None, Ok, Err, in
 use Rattle.gateway_outside.specs.Held.{leaves_again, leaves_as, leaves_put, leaves_same, unread}
 use Rattle.gateway_outside.specs.Openings.{StaysShut}
 use Rattle.gateway_run.specs.Scripts.{RanIn}
+use Rattle.gateway_run.proofs.Told.{either_none, refused_told}
 use Rattle.gateway_run.proofs.scripting.run_in.Goals as goal
 
 pub returns-in-Err : goal.returns-in-Err
@@ -10,6 +11,7 @@ returns-in-Err g c = record {
       leaves_same (g.F.SpoolFiles.holds c.open_in.new.files) disks c.args.path.now d _ is
       (c.in-Err.ensures.failed disks held)
       (inl (record { same = refl; why = c.in-Err.ensures.noted }, (refl, refl)));
+  io = either_none _ _ _ c.in-Err.ensures.never_io;
 }
 
 pub returns-in-Ok-run : goal.returns-in-Ok-run
@@ -40,6 +42,7 @@ returns-in-Ok-run g c = record {
         answers = tt {0};
         reads = unread disk c.in-Ok-run.disk;
       })));
+  io = c.in-Ok-run.ensures.io;
 }
 
 pub returns-in-Err-run : goal.returns-in-Err-run
@@ -74,4 +77,6 @@ returns-in-Err-run g c = record {
         answers = c.refused_in.ensures.fault ∙ c.fault_of.ensures;
         reads = reads;
       })));
+  io = refused_told c.in-Err-run.disk c.in-Err-run.fault c.refused_in.result _ _ _ _
+      (c.refused_in.ensures.fault ∙ c.fault_of.ensures) c.in-Err-run.ensures.io;
 }

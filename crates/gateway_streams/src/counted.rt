@@ -1,16 +1,16 @@
-//! Readers and writers that count what they refused.
+//! Readers and writers that count what they refused, a piece at a time.
 ghost use Rattle.std.specs.Prelude.{◌≡◌, ◌≤◌, ◌<◌, ℕ, List, length, take, Option, IsErr, IfOk, OnErr};
 ghost use Rattle.std.specs.Io.{ReadsAtMost, WritesAtMost};
 ghost use Rattle.std.specs.Io.KnownBytes.{Consumes, Keeps, IsAtEnd, WriteAppends};
-ghost use Rattle.upload_rules.specs.Answers.{Counts};
+ghost use Rattle.common.specs.Counts.{Counts};
 
-use std::io::{ErrorKind, Read, Write};
+use std::io::{self, ErrorKind, Read, Write};
 
-/// The reader or the writer refused.
+/// Input or output was refused.
 #[derive(Clone, Copy, Debug, PartialEq, Eq, Drop)]
 pub struct Refused;
 
-/// A reader that counts its refusals. Every `Read` is one, but nothing is known of its count; `Counted` counts them.
+/// A reader that counts its refusals. Every `Read` is one, but nothing is known of its count; `Noted` counts them.
 pub trait CountedRead {
     /// The bytes that it has left, where they are known.
     ghost remaining: { Self → Option (List ℕ) };
@@ -28,7 +28,7 @@ pub trait CountedRead {
         ensures counts { Counts (IsErr result) (refusals self.old) (refusals self.new) };
 }
 
-/// A writer that counts its refusals. Every `Write` is one, but nothing is known of its count; `Counted` counts them.
+/// A writer that counts its refusals. Every `Write` is one, but nothing is known of its count; `Noted` counts them.
 pub trait CountedWrite {
     /// The bytes that it holds, where they are known.
     ghost contents: { Self → Option (List ℕ) };
@@ -45,9 +45,10 @@ pub trait CountedWrite {
 }
 
 // One read, tried again where it is interrupted.
-fn read_on<R: Read>(reader: &mut R, piece: &mut [u8]) -> Result<usize, Refused>
+pub(crate) fn read_on<R: Read>(reader: &mut R, piece: &mut [u8]) -> io::Result<usize>
     ensures bound { ReadsAtMost result piece.new }
     ensures within { IfOk result (λ count. count ≤ length piece.old) }
+    ensures same { length piece.new ≡ length piece.old }
     ensures ok { IfOk result (λ count. Consumes (R.remaining reader.old) (R.remaining reader.new)
         (take count piece.new)) }
     ensures end { IfOk result (λ count. count ≡ 0 → 0 < length piece.old → IsAtEnd (R.remaining reader.new)) }
@@ -58,23 +59,23 @@ fn read_on<R: Read>(reader: &mut R, piece: &mut [u8]) -> Result<usize, Refused>
             Ok(count) => return Ok(count),
             Err(error) => {
                 if error.kind() != ErrorKind::Interrupted {
-                    return Err(Refused);
+                    return Err(error);
                 }
             }
         }
     }
-    Err(Refused)
+    Err(io::Error::from(ErrorKind::Interrupted))
 }
 
 // One write. One that takes nothing of a piece with bytes is a refusal.
-fn write_on<W: Write>(writer: &mut W, piece: &[u8]) -> Result<usize, Refused>
+pub(crate) fn write_on<W: Write>(writer: &mut W, piece: &[u8]) -> io::Result<usize>
     ensures bound { WritesAtMost result piece.now }
     ensures bytes { WriteAppends (W.contents writer.old) (W.contents writer.new) result piece.now }
     ensures some { IfOk result (λ count. 0 < length piece.now → 0 < count) }
 {
     match writer.write(piece) {
-        Ok(count) if count > 0 || piece.is_empty() => Ok(count),
-        _ => Err(Refused),
+        Ok(0) if !piece.is_empty() => Err(io::Error::from(ErrorKind::WriteZero)),
+        outcome => outcome,
     }
 }
 
@@ -84,7 +85,10 @@ impl<R: Read> CountedRead for R {
     ghost refusals = { λ _. 18446744073709551615 };
 
     fn read_piece(&mut self, piece: &mut [u8]) -> Result<usize, Refused> {
-        read_on(self, piece)
+        match read_on(self, piece) {
+            Ok(count) => Ok(count),
+            Err(_) => Err(Refused),
+        }
     }
 }
 
@@ -94,66 +98,9 @@ impl<W: Write> CountedWrite for W {
     ghost refusals = { λ _. 18446744073709551615 };
 
     fn write_piece(&mut self, piece: &[u8]) -> Result<usize, Refused> {
-        write_on(self, piece)
-    }
-}
-
-/// A reader or a writer, and how many of its calls were refused.
-#[derive(Drop)]
-pub struct Counted<S> {
-    stream: S,
-    refusals: u64,
-}
-
-impl<S> Counted<S> {
-    ghost use Rattle.gateway_script.specs.Counted.{counted_stream, refusals_of};
-
-    /// No call was refused so far.
-    pub fn new(stream: S) -> Self
-        ensures stream { counted_stream result ≡ stream }
-        ensures none { refusals_of result ≡ 0 }
-    {
-        Counted {
-            stream,
-            refusals: 0,
+        match write_on(self, piece) {
+            Ok(count) => Ok(count),
+            Err(_) => Err(Refused),
         }
-    }
-
-    // Counts a call that was refused.
-    fn note(&mut self, outcome: Result<usize, Refused>)
-        ensures stream { counted_stream self.new ≡ counted_stream self.old }
-        ensures counts { Counts (IsErr outcome) (refusals_of self.old) (refusals_of self.new) }
-    {
-        if outcome.is_err() {
-            self.refusals = self.refusals.saturating_add(1);
-        }
-    }
-}
-
-impl<R: Read> CountedRead for Counted<R> {
-    ghost use Rattle.gateway_script.specs.Counted.{counted_stream, refusals_of};
-
-    ghost remaining = { λ c. R.remaining (counted_stream c) };
-
-    ghost refusals = { λ c. refusals_of c };
-
-    fn read_piece(&mut self, piece: &mut [u8]) -> Result<usize, Refused> {
-        let outcome = read_on(&mut self.stream, piece);
-        self.note(outcome);
-        outcome
-    }
-}
-
-impl<W: Write> CountedWrite for Counted<W> {
-    ghost use Rattle.gateway_script.specs.Counted.{counted_stream, refusals_of};
-
-    ghost contents = { λ c. W.contents (counted_stream c) };
-
-    ghost refusals = { λ c. refusals_of c };
-
-    fn write_piece(&mut self, piece: &[u8]) -> Result<usize, Refused> {
-        let outcome = write_on(&mut self.stream, piece);
-        self.note(outcome);
-        outcome
     }
 }

@@ -1,7 +1,7 @@
--- Readers and writers that store something of what their calls gave.
+-- A reader or a writer that stores why it failed, and how often.
 use Rattle.std.specs.Prelude.{ℕ, ◌-◌, ◌^◌, Option}
 use Rattle.std.specs.declared.io.Error.{Error}
-use Rattle.gateway_outside.specs.declared.streams.Noted.{Noted}
+use Rattle.gateway_streams.specs.declared.noted.Noted.{Noted}
 
 -- the stream under one that stores why its latest call failed, and that reason
 abbrev pub noted_stream : {S : Type 0} → Noted S → S

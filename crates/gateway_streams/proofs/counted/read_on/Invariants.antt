@@ -1,6 +1,6 @@
 use Rattle.std.proofs.Common.{◌≡◌, length}
 use Rattle.std.specs.Io.KnownBytes.{Keeps}
-use Rattle.gateway_outside.proofs.streams.read_on.Given as goal
+use Rattle.gateway_streams.proofs.counted.read_on.Given as goal
 
 abbrev pub invariant-loop : goal.invariant-loop
 invariant-loop g l = (length l.piece ≡ length l.fn.piece) × Keeps (g.R.Read.remaining l.fn.reader)

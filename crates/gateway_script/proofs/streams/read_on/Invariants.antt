@@ -1,7 +1,0 @@
-use Rattle.std.proofs.Common.{◌≡◌, length}
-use Rattle.std.specs.Io.KnownBytes.{Keeps}
-use Rattle.gateway_script.proofs.streams.read_on.Given as goal
-
-abbrev pub invariant-loop : goal.invariant-loop
-invariant-loop g l = (length l.piece ≡ length l.fn.piece) × Keeps (g.R.Read.remaining l.fn.reader)
-    (g.R.Read.remaining l.reader)
