@@ -15,8 +15,8 @@ pub returns-in-Ok-up_disk : goal.returns-in-Ok-up_disk
 returns-in-Ok-up_disk g c = record {
   serves = λ disks d held is.
       let opened = c.in-Ok.ensures.opened disks held in
-      ended_at g.F.File.Disk _ _ _ _ _ _ _ _ _ _ _ _ _ (g.F.SpoolFiles.holds c.close.new.self) [] [] c.args.upkeep.spool.now
-      disks c.in-Ok.disk d c.in-Ok-up_disk.disk opened.0 is (c.close.ensures.closed _ opened.1)
+      ended_at g.F.File.Disk _ _ _ _ _ _ _ _ _ _ _ _ _ (g.F.SpoolFiles.holds c.close.new.self) [] []
+      c.args.upkeep.spool.now disks c.in-Ok.disk d c.in-Ok-up_disk.disk opened.0 is (c.close.ensures.closed _ opened.1)
       c.in-Ok-up_disk.ensures;
 }
 
@@ -25,7 +25,8 @@ returns-in-Err-up_disk g c = record {
   serves = λ disks d held is.
       let opened = c.in-Ok.ensures.opened disks held in
       stopped_at g.F.File.Disk _ _ _ _ _ _ _ _ _ _ _ _ _ (g.F.SpoolFiles.holds c.stopped_in.new.files)
-      (g.F.SpoolFiles.unopened c.args.files.now) (g.F.SpoolFiles.unopened c.stopped_in.new.files) c.args.upkeep.spool.now disks
-      c.in-Ok.disk d c.in-Err-up_disk.disk c.in-Err-up_disk.stopped c.stopped_in.result opened.0 is
-      (c.stopped_in.ensures.left _ opened.1) c.in-Err-up_disk.ensures c.stopped_in.ensures.fault;
+      (g.F.SpoolFiles.unopened c.args.files.now) (g.F.SpoolFiles.unopened c.stopped_in.new.files)
+      c.args.upkeep.spool.now disks c.in-Ok.disk d c.in-Err-up_disk.disk c.in-Err-up_disk.stopped
+      c.stopped_in.result opened.0 is (c.stopped_in.ensures.left _ opened.1) c.in-Err-up_disk.ensures
+      c.stopped_in.ensures.fault;
 }
